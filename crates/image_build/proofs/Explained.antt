@@ -24,6 +24,7 @@ use Rattle.image_form.specs.Numbers.{row_numbers, verdict_numbers}
 use Rattle.image_form.specs.Rules.{IsImage}
 use Rattle.image_form.specs.Spelling.{size}
 use Rattle.image_form.specs.RulesOfFunctions.{code_start}
+use Rattle.memory_map.specs.Maps as maps
 use Rattle.image_form.specs.RulesOfRows.{IsEvidence, IsVerdict, IsWriter}
 use Rattle.image_form.specs.declared.tables.Change.{Change}
 use Rattle.image_form.specs.declared.verdicts.Verdict.{Verdict}
@@ -37,6 +38,9 @@ use Rattle.image_build.specs.Evidence.{IsEvidentIn, WasRemoved, WasWritten}
 use Rattle.image_build.specs.Explained.{ExplainsAll, IsExplained, IsExplainedBy}
 use Rattle.image_build.specs.Made.{IsMadeOf}
 use Rattle.image_build.proofs.Told.{first_same, rest_same}
+use Rattle.image_build.proofs.RecordNumbers.{plain_same}
+use Rattle.image_form.proofs.Counts.{few_records}
+use Rattle.image_form_sections.specs.declared.section.Section.TheVariants.{Flow}
 
 -- steps and assignments are what the tables of an image have of them
 steps_back : (all : List FlowStep) → map step_of (map flow_pair all) ≡ all
@@ -51,9 +55,9 @@ assignments_back (a ∷ all) = ap (λ l. a ∷ l) (assignments_back all)
 owner_at : (m : Form) (index : ℕ) → owner_of m (address_of index) ≡ slice_index m.owners index
 owner_at m index =
     let even : address_of index % 4 ≡ 0 = omega arith in
-    let test : (address_of index % 4 == 0 && nat_le 65536 (address_of index)) ≡ true = and_from (address_of index % 4 == 0) (nat_le 65536 (address_of index)) (eq-eqb (address_of index % 4) 0 even) (le-leb 65536 (address_of index) (omega arith)) in
-    let number : (address_of index - 65536) / 4 ≡ index = omega arith in
-    ap (λ b. if b then slice_index m.owners ((address_of index - 65536) / 4) else 0) test ∙ ap (slice_index m.owners) number
+    let test : (address_of index % 4 == 0 && nat_le maps.code_start (address_of index)) ≡ true = and_from (address_of index % 4 == 0) (nat_le maps.code_start (address_of index)) (eq-eqb (address_of index % 4) 0 even) (le-leb maps.code_start (address_of index) (omega arith)) in
+    let number : (address_of index - maps.code_start) / 4 ≡ index = omega arith in
+    ap (λ b. if b then slice_index m.owners ((address_of index - maps.code_start) / 4) else 0) test ∙ ap (slice_index m.owners) number
 
 -- the change of a number in a log is that of the table
 change_at : (log : List Logged) (changes : List Change) (number : ℕ) (logged : Logged) → changes ≡ map change_record log → IsNumbered log number logged → numbered changes number ≡ Some (change_record logged)
@@ -64,8 +68,7 @@ change_at log changes (suc k) logged are is =
 
 -- an image has few steps of flow
 few_steps : (m : Form) → size m < 2 ^ 32 → length m.flow < 2 ^ 32
-unfolding size
-few_steps m whole = omega (arith, whole)
+few_steps m whole = few_records m whole Flow
 
 -- ---- By a unit of which the image is made
 
@@ -184,9 +187,9 @@ module _ (p : ProgramTree) (h : HomedForm) (m : Form) (made : IsMadeOf p h m) (i
   explains_all r among =
       let at = among_at m.rows r among in
       let k : ℕ = at.0 in
-      let q = from_map row_numbers made.rows.rows k (row_numbers r) (ap (λ l. slice_get l k) (sym made.rows.same) ∙ map_at row_numbers m.rows k r at.1) in
+      let q = from_map (row_numbers m.version.level) made.rows.rows k (row_numbers m.version.level r) (ap (λ l. slice_get l k) (sym made.rows.same) ∙ map_at (row_numbers m.version.level) m.rows k r at.1) in
       let row : VisibleRow = q.0 in
-      let numbers : row.place ∷ row.variable ∷ verdict_numbers row.verdict ≡ r.place ∷ r.variable ∷ verdict_numbers r.verdict = q.2 in
+      let numbers : row.place ∷ row.variable ∷ verdict_numbers row.verdict ≡ r.place ∷ r.variable ∷ verdict_numbers r.verdict = plain_same m.version.level row r q.2 in
       let place : row.place ≡ r.place = first_same row.place r.place (row.variable ∷ verdict_numbers row.verdict) (r.variable ∷ verdict_numbers r.verdict) numbers in
       let rest : row.variable ∷ verdict_numbers row.verdict ≡ r.variable ∷ verdict_numbers r.verdict = rest_same row.place r.place (row.variable ∷ verdict_numbers row.verdict) (r.variable ∷ verdict_numbers r.verdict) numbers in
       let var : row.variable ≡ r.variable = first_same row.variable r.variable (verdict_numbers row.verdict) (verdict_numbers r.verdict) rest in

@@ -13,6 +13,7 @@ pub mod ImageEvidenceRows
 pub mod Explained
 mod Words
 pub mod Elements
+pub mod RecordNumbers
 pub mod MadeAgain
 pub mod Owners
 pub mod Tables

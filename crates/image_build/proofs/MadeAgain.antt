@@ -7,7 +7,7 @@ use Rattle.rv_emit_tables.specs.Emitted.{EmittedForm}
 use Rattle.image_form_drafts.specs.Same.{SaysTheSame}
 use Rattle.image_form.specs.Decoding as decoding
 use Rattle.image_form.specs.Form.{Form}
-use Rattle.image_form.specs.Numbers.{storage_number, storage_value, variable_numbers}
+use Rattle.image_form.specs.Numbers.{row_numbers, storage_number, storage_value, variable_numbers}
 use Rattle.image_form.specs.Rules.{IsImage}
 use Rattle.image_form.specs.Spelling.{size}
 use Rattle.image_form.specs.declared.variables.Storage.{Storage}
@@ -20,6 +20,10 @@ use Rattle.image_build_tables.specs.Places.{address}
 use Rattle.image_build_tables.specs.Rows.{AreNodesOf, AreRowsOf, telling_of}
 use Rattle.image_build_tables.proofs.Kept.{storages_length}
 use Rattle.image_build.specs.Made.{IsMadeOf}
+use Rattle.image_form_sections.specs.declared.version.Version.{Version}
+use Rattle.image_build.proofs.RecordNumbers.{spans_same}
+use Rattle.image_form.proofs.Counts.{few_records}
+use Rattle.image_form_sections.specs.declared.section.Section.TheVariants.{Nodes}
 
 storage_back : (s : Storage) → decoding.storage_of (storage_number s) (storage_value s) ≡ s
 storage_back (Static address) = refl
@@ -45,8 +49,7 @@ kept_each h e n all are = are ∙ ap (storages_of h e) (sym (storages_length h e
 
 -- an image has few nodes
 few_nodes : (m : Form) → size m < 2 ^ 32 → length m.nodes < 2 ^ 32
-unfolding size
-few_nodes m whole = omega (arith, whole)
+few_nodes m whole = few_records m whole Nodes
 
 -- What tables are made of, that is an image made of that says the same.
 pub made_again : (p : ProgramTree) (h : HomedForm) (tables image : Form) → IsImage image → SaysTheSame tables image → (length tables.nodes < 2 ^ 32 → IsMadeOf p h tables) → IsMadeOf p h image
@@ -57,11 +60,12 @@ made_again p h tables image is same made_if =
     record {
       emitted = made.emitted;
       emits = made.emits;
+      version = same.version ∙ made.version;
       mode = same.mode ∙ made.mode;
       code = same.code ∙ made.code;
       owners = same.owners ∙ made.owners;
       initial = same.initial ∙ made.initial;
-      spans = ap (map span) same.functions ∙ made.spans;
+      spans = spans_same tables.version.level image.functions tables.functions same.functions ∙ made.spans;
       storages = storages_same image.variables tables.variables same.variables ∙ made.storages ∙ ap (storages_of h made.emitted) (sym as_many);
       places = made.places;
       places_are = made.places_are;
@@ -76,7 +80,7 @@ made_again p h tables image is same made_if =
         rows = rows.rows;
         say = subst (λ nodes. AreRowsOf (telling_of h made.places made.emitted) nodes rows.told rows.rows) (sym same.nodes) rows.say;
         needed = subst (λ nodes. AreNodesOf (telling_of h made.places made.emitted) nodes rows.told) (sym same.nodes) rows.needed;
-        same = same.rows ∙ rows.same;
+        same = subst (λ (v : Version). map (row_numbers v.level) image.rows ≡ map (row_numbers v.level) rows.rows) (sym same.version) (same.rows ∙ rows.same);
       };
       evident = made.evident;
     }

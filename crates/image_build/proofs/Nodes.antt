@@ -72,8 +72,10 @@ module _ (p : ProgramTree) (m : Form) (functions : map name_length m.functions â
   abbrev code : FunctionCode
   code = code_of h a c.here.function
 
-  frame_here : IsFrame code stands.addresses (reg s 2) c.here
-  frame_here = frame_there h a e stands.addresses (memory_of s.bytes s.stack) (reg s 2) c.here c.waiting 0 c.here stands.stack refl
+  frame_here : IsFrame s.map code stands.addresses (reg s 2) c.here
+  frame_here =
+      let there_is = frame_there h a e stands.addresses (memory_of s.map s.bytes s.stack) (reg s 2) c.here c.waiting 0 c.here stands.stack refl in
+      subst (Î» r. IsFrame r code stands.addresses (reg s 2) c.here) (sym stands.map) there_is
 
   -- ---- Names
 

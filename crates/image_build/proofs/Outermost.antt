@@ -20,4 +20,4 @@ owned_by_none p t (y ∷ more) i j x none placed low high =
 
 -- The word before the one to which main returns is no place's.
 pub outermost : (h : HomedForm) (e : EmittedForm) (code : IsCode h e) → slice_index e.owners 2 ≡ 0
-outermost h e code = owned_by_none (program_of e code.short) (targets_in e code.arrangement h.unit.main) (with_stub h.unit.main (no_code 0 [])).pieces 0 5 2 (refl, (refl, (refl, (refl, (refl, tt))))) code.stub (omega arith) (omega arith)
+outermost h e code = owned_by_none (program_of e code.short) (targets_in e code.arrangement h.unit.main) (with_stub e.map h.unit.main (no_code 0 [])).pieces 0 5 2 (refl, (refl, (refl, (refl, (refl, tt))))) code.stub (omega arith) (omega arith)

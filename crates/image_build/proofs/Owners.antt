@@ -13,7 +13,7 @@ use Rattle.image_form.specs.Form.{Form}
 use Rattle.image_form.specs.Numbers.{no_function, variable_numbers}
 use Rattle.image_form.specs.Rules.{IsImage}
 use Rattle.image_form.specs.RulesOfVariables.{IsKept, IsKeptInFunction, IsVariable}
-use Rattle.image_form.specs.Spelling.{size}
+use Rattle.image_form.proofs.Counts.{less_functions}
 use Rattle.image_form.specs.declared.variables.Storage.{Storage}
 use Rattle.image_form.specs.declared.variables.Storage.TheVariants.{Static, Frame, Register, Slot}
 use Rattle.image_form.specs.declared.variables.Variable.{Variable}
@@ -109,15 +109,10 @@ owners_told p few =
     told_both (map (λ (v : StaticTree). None) p.statics) (map (λ (l : LiteralTree). None) p.literals ++ owned_from 0 p.functions) (none_told p.statics)
     (told_both (map (λ (l : LiteralTree). None) p.literals) (owned_from 0 p.functions) (none_told p.literals) (owned_told p.functions 0 (omega (arith, few))))
 
--- an image has so few functions
-few_functions : (m : Form) → size m < 2 ^ 32 → length m.functions < 4294967295
-unfolding size
-few_functions m whole = omega (arith, whole)
-
 -- Variables of an image that have the numbers of tables whose variables belong to a program's functions belong to them too.
 pub owners_same : (p : ProgramTree) (tables image : Form) → IsImage image → length image.functions ≡ length p.functions → map variable_numbers image.variables ≡ map variable_numbers tables.variables
     → map owner tables.variables ≡ owners_of p → map owner image.variables ≡ owners_of p
 owners_same p tables image is count numbers are =
-    let few = few_functions image is.sizes.whole in
+    let few = less_functions image is.sizes.whole in
     let told = subst (AllByRecursion IsTold) (sym are) (owners_told p (omega (arith, few, count))) in
     sym (owners_by image few image.variables is.variables.each) ∙ ap (map owner_by) numbers ∙ told_by tables.variables told ∙ are

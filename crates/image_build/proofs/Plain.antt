@@ -29,6 +29,7 @@ use Rattle.rv_emit.specs.Emits.{Emits}
 use Rattle.image_form.specs.Form.{Form}
 use Rattle.image_form.specs.Rules.{IsImage}
 use Rattle.image_form.specs.Numbers.{row_numbers, verdict_numbers}
+use Rattle.memory_map.specs.Maps.{most_words}
 use Rattle.image_form_drafts.specs.Same.{SaysTheSame}
 use Rattle.image_form.specs.declared.verdicts.VisibleRow.{VisibleRow}
 use Rattle.image_form.specs.declared.verdicts.Verdict.{Verdict}
@@ -37,7 +38,7 @@ use Rattle.image_form_drafts.specs.Fitting.{AreFit}
 use Rattle.currency.specs.declared.verdict.Verdict as told-verdict
 use Rattle.image_build_tables.specs.Rows.{AreRowsOf, AreShown, IsVerdictOf, telling_of}
 use Rattle.image_build_tables.specs.Tables as image
-use Rattle.image_build_tables.specs.Tables.{assigned_pair, change_record, flow_pair}
+use Rattle.image_build_tables.specs.Tables.{assigned_pair, change_record, flow_pair, plain_version}
 use Rattle.image_truth_units.specs.Tables.{AreTablesOf, entry_place, visible_from}
 use Rattle.image_truth_units.proofs.Counted.{assigned_few, steps_few}
 use Rattle.image_truth_units.proofs.Fits.{AreFew}
@@ -50,7 +51,7 @@ use Rattle.image_truth_units.proofs.Every.{every_variable}
 use Rattle.std.proofs.lemmas.List.{length-map}
 use Rattle.std.proofs.Math.ListN.{length-append}
 use Rattle.c_flow.specs.Tables.{Fits32}
-use Rattle.image_build_tables.specs.Spans.{code_span, span}
+use Rattle.image_build_tables.specs.Spans.{code_span, saved, span}
 use Rattle.image_build_tables.specs.Storages.{storages_of}
 use Rattle.image_build_tables.specs.Variables.{automatic_shape, declared_names, entry, length_of_name, literal_shape, name_length, owner, owners_of, pass_names, shape, shapes_of, static_shape, storage}
 use Rattle.image_build_tables.specs.Places.{address, addresses_of}
@@ -58,6 +59,8 @@ use Rattle.image_build.proofs.Tables as tables
 use Rattle.image_build.proofs.Tables.{rows_few}
 use Rattle.image_build.specs.ProgramImageShown.{AreShownAt, IsPlainUnit, ShowsAll}
 use Rattle.image_build.specs.Tables.{HasShapeOf}
+use Rattle.image_form_sections.specs.declared.version.Level.{Level}
+use Rattle.image_build.proofs.RecordNumbers.{plain_same}
 
 -- ---- No change in slots
 
@@ -115,17 +118,19 @@ shapes_counted p =
     omega (arith, first, second, statics, literals, automatics)
 
 -- Tables whose sections say what a program, a unit with homes and its code say are made of these.
-pub tables_are : (p : ProgramTree) (h : HomedForm) (e : EmittedForm) (rows : List PlaceRow) (m : Form) → m.code ≡ e.code → m.initial ≡ e.initial → m.owners ≡ e.owners → map name_length m.functions ≡ map length_of_name p.functions → map span m.functions ≡ map code_span e.functions
-    → map entry m.functions ≡ map entry_place h.unit.graphs → map shape m.variables ≡ shapes_of p → map owner m.variables ≡ owners_of p → map storage m.variables ≡ storages_of h e (length m.variables) → m.names ≡ declared_names p ++ pass_names h.unit.log
-    → map row_view rows ≡ rows_of_program p → map image.spot m.places ≡ map image.spot_of_row rows → map address m.places ≡ addresses_of e.functions e.stops rows → m.changes ≡ map change_record h.unit.log → m.flow ≡ map flow_pair h.unit.steps → m.assigned ≡ map assigned_pair h.unit.assignments
+pub tables_are : (p : ProgramTree) (h : HomedForm) (e : EmittedForm) (rows : List PlaceRow) (m : Form) → m.version ≡ plain_version e.map → m.code ≡ e.code → m.initial ≡ e.initial → m.owners ≡ e.owners → map name_length m.functions ≡ map length_of_name p.functions → map span m.functions ≡ map code_span e.functions
+    → map entry m.functions ≡ map entry_place h.unit.graphs → map saved m.functions ≡ map (λ f. 0) p.functions → map shape m.variables ≡ shapes_of p → map owner m.variables ≡ owners_of p → map storage m.variables ≡ storages_of h e (length m.variables) → m.names ≡ declared_names p ++ pass_names h.unit.log
+    → map row_view rows ≡ rows_of_program p → map image.spot m.places ≡ map image.spot_of_row rows → map address m.places ≡ addresses_of e.functions e.stops rows → m.changes ≡ map change_record h.unit.log → m.flow ≡ map flow_pair h.unit.steps → m.assigned ≡ map assigned_pair h.unit.assignments → m.calls ≡ [] → m.members ≡ []
     → AreTablesOf p h e rows m
-tables_are p h e rows m code initial owners functions spans entries variables belonging storages names rows_are places addresses changes flow assigned = record {
+tables_are p h e rows m version code initial owners functions spans entries none_saved variables belonging storages names rows_are places addresses changes flow assigned calls members = record {
+  version = version;
   code = code;
   initial = initial;
   owners = owners;
   functions = functions;
   spans = spans;
   entries = entries;
+  saved = none_saved;
   variables = variables;
   belonging = belonging;
   storages = storages ∙ ap (storages_of h e) (sym (length-map m.variables shape) ∙ ap length variables ∙ shapes_counted p);
@@ -136,6 +141,8 @@ tables_are p h e rows m code initial owners functions spans entries variables be
   changes = changes;
   flow = flow;
   assigned = assigned;
+  calls = calls;
+  members = members;
 }
 
 -- what their rows tell of is what is visible at the program's places
@@ -144,7 +151,7 @@ visible_of p rows all m fits are seen told = told ∙ tables.seen all rows (rows
 
 -- Tables of a unit that is as it was built, in slots, are an image: they keep every rule.
 module _ (p : ProgramTree) (h : HomedForm) (e : EmittedForm) (rows : List PlaceRow) (m : Form) (formed : IsWellFormed p) (names : HasNames p) (spots : HasSpots p) (few : length rows + 1 < 4294967296) (valid : IsValid h.unit) (homes : HaveHomes h) (shape : HasShapeOf p h.unit) (plain : IsPlainUnit p h)
-    (emits : Emits h e) (coded : IsEmittedOf h e) (short : length e.code ≤ 262144) (tables : AreTablesOf p h e rows m) (fit : AreFit m) (told : List PlaceVerdict) (seen : map sight told ≡ sights_from 1 rows) (shown : AreShown told) (bare : m.nodes ≡ [])
+    (emits : Emits h e) (coded : IsEmittedOf h e) (short : length e.code ≤ most_words e.map) (tables : AreTablesOf p h e rows m) (fit : AreFit m) (told : List PlaceVerdict) (seen : map sight told ≡ sights_from 1 rows) (shown : AreShown told) (bare : m.nodes ≡ [])
     (say : length m.nodes < 2 ^ 32 → AreRowsOf (telling_of h rows e) m.nodes told m.rows) (visible : map image.sight m.rows ≡ visible_from 1 (rows_of_program p)) where
   said : AreRowsOf (telling_of h rows e) m.nodes told m.rows
   said = say (let none = ap length bare in omega (arith, none))
@@ -200,11 +207,11 @@ first_same e = cc
 rest_same : {xs ys : List ℕ} {more others : List (List ℕ)} → xs ∷ more ≡ ys ∷ others → more ≡ others
 rest_same e = cc
 
-home_again : (xs ys : List VisibleRow) → map row_numbers xs ≡ map row_numbers ys → AllByRecursion (λ (r : VisibleRow). r.verdict ≡ verdict.Home) ys → AllByRecursion (λ (r : VisibleRow). r.verdict ≡ verdict.Home) xs
-home_again [] ys e all = tt
-home_again (x ∷ xs) [] e all = cc
-home_again (x ∷ xs) (y ∷ ys) e all = (home_by x.verdict (numbers_behind (first_same e) ∙ ap verdict_numbers all.0), home_again xs ys (rest_same e) all.1)
+home_again : (level : Level) (xs ys : List VisibleRow) → map (row_numbers level) xs ≡ map (row_numbers level) ys → AllByRecursion (λ (r : VisibleRow). r.verdict ≡ verdict.Home) ys → AllByRecursion (λ (r : VisibleRow). r.verdict ≡ verdict.Home) xs
+home_again level [] ys e all = tt
+home_again level (x ∷ xs) [] e all = cc
+home_again level (x ∷ xs) (y ∷ ys) e all = (home_by x.verdict (numbers_behind (plain_same level x y (first_same e)) ∙ ap verdict_numbers all.0), home_again level xs ys (rest_same e) all.1)
 
 -- What shows every variable does so when it was written and read back.
 pub shows_again : (tables image : Form) → SaysTheSame tables image → ShowsAll tables → ShowsAll image
-shows_again tables image same shows = record { shown = home_again image.rows tables.rows same.rows shows.shown; unchanged = same.changes ∙ shows.unchanged }
+shows_again tables image same shows = record { shown = home_again tables.version.level image.rows tables.rows same.rows shows.shown; unchanged = same.changes ∙ shows.unchanged }

@@ -9,6 +9,8 @@ use Rattle.c_tree.specs.Programs.{ProgramTree, StaticTree, AutomaticTree, Litera
 use Rattle.c_meaning_values.specs.Memory as source-memory
 use Rattle.c_meaning_values.specs.declared.value.Phase.TheVariants.{Live}
 use Rattle.c_meaning_values.specs.Memory.{contents}
+use Rattle.memory_map.specs.Maps.{most_words}
+use Rattle.rv_emit_storage.specs.UnitMaps.{map_of_unit}
 use Rattle.image_form.specs.Form.{Form}
 use Rattle.image_form.specs.Rules.{IsImage}
 use Rattle.image_form.specs.declared.variables.Storage.TheVariants as kept
@@ -58,7 +60,7 @@ module _ (p : ProgramTree) (m : Form) (functions : map name_length m.functions �
     (literal_law : (n : ℕ) (l : LiteralTree) → slice_get p.literals n ≡ Some l → (1 ≤ length l.bytes) × (length l.bytes ≤ 4294967295))
     (h : HomedForm) (valid : IsValid h.unit) (homed : HaveHomes h) (a : Arrangement) (e : EmittedForm) (storages : map storage m.variables ≡ storages_of h e (length m.variables)) (spans : map span m.functions ≡ map code_span e.functions) (words : m.owners ≡ e.owners) (outermost : slice_index e.owners 2 ≡ 0)
     (unit : HasVariablesIn p h.unit) (has : HasPlacesOf h.unit m) (tells : Tells h a e)
-    (c : Configuration) (s : State) (short : length s.code ≤ 262144) (stands : StandsAt h e a c s) (running : IsRunning (over_homes h) c)
+    (c : Configuration) (s : State) (regions : e.map ≡ map_of_unit h.unit) (short : length s.code ≤ most_words s.map) (stands : StandsAt h e a c s) (running : IsRunning (over_homes h) c)
     (memory : source-memory.Memory) (same : SameMemory p memory c.memory) (typed : AreTyped memory) (differ : OwnersDiffer memory) (declared : (n : ℕ) (o : source-memory.Object) → slice_get memory n ≡ Some o → IsDeclared p o.owner o) where
   -- What is recovered of a scalar is the text of what its variable holds, where its nodes come to the word of what the unit shows of the scalar.
   pub recovered_text : (x j change node : ℕ) (v : AutomaticTree) (scalar : Scalar) (g : Graph) (sc : UnitScalar) (frame : unit-run.Frame) (w : unit-value.Value) → slice_get p.automatics x ≡ Some v → v.of ≡ type.Scalar scalar → slice_get g.scalars j ≡ Some sc → sc.variable ≡ automatic_number p x
@@ -68,10 +70,10 @@ module _ (p : ProgramTree) (m : Form) (functions : map name_length m.functions �
       let shadow = seen.shadow j sc at number in
       let value : shadow.other ≡ w = known_is shadow.other w (sym shadow.known ∙ shown) in
       let alike = subst (SameValue p memory c.memory shadow.value) value shadow.same in
-      let areas = object_area p h valid homed a e m unit.statics (keeps_objects p m functions variables owners more names rules h a e storages unit tells (tables p m functions variables owners more names rules static_law automatic_law literal_law h valid homed a e storages spans words outermost unit has tells c s short stands running memory same typed differ declared) literal_law)
-      words outermost c s short stands running (keeps_places h a e tells m spans has) memory same typed declared in
+      let areas = object_area p h valid homed a e m unit.statics (keeps_objects p m functions variables owners more names rules h a e storages unit tells (tables p m functions variables owners more names rules static_law automatic_law literal_law h valid homed a e storages spans words outermost unit has tells c s regions short stands running memory same typed differ declared) literal_law)
+      words outermost c s regions short stands running (keeps_places h a e tells m spans has) memory same typed declared in
       let kept = value_means p m (standings (code_of h a) (reg s 2) (c.here ∷ c.waiting)) memory c.memory stands.addresses areas shadow.value w (recipe_value m s recipe_levels node) alike means in
-      scalar_text p m functions variables owners more names rules static_law automatic_law literal_law h valid homed a e storages spans words outermost unit has tells c s short stands running memory same typed differ declared
+      scalar_text p m functions variables owners more names rules static_law automatic_law literal_law h valid homed a e storages spans words outermost unit has tells c s regions short stands running memory same typed differ declared
       x seen.number v scalar seen.object shadow.value (Recovered change node) declared_is of seen.is seen.owner seen.lives shadow.holds kept
     where
       known_is : (y z : unit-value.Value) → Some (Known y) ≡ Some (Known z) → y ≡ z
@@ -83,7 +85,7 @@ module _ (p : ProgramTree) (m : Form) (functions : map name_length m.functions �
       let at_home = by_scalar (slice_get scalar.graph.scalars scalar.index) refl scalar.of in
       let held_there = same k o is live (subst (IsInMemory p) (sym owner_is) (v, declared_is, inside)) in
       let its = object_at_depth h a c running held_there.number (automatic_number p x) depth held_there.object held_there.is held_there.same.lives (held_there.same.owner ∙ ap (owner_of p) owner_is) in
-      let there = (keeps_objects p m functions variables owners more names rules h a e storages unit tells (tables p m functions variables owners more names rules static_law automatic_law literal_law h valid homed a e storages spans words outermost unit has tells c s short stands running memory same typed differ declared) literal_law).objects its.activation.function its.number its.object its.is in
+      let there = (keeps_objects p m functions variables owners more names rules h a e storages unit tells (tables p m functions variables owners more names rules static_law automatic_law literal_law h valid homed a e storages spans words outermost unit has tells c s regions short stands running memory same typed differ declared) literal_law).objects its.activation.function its.number its.object its.is in
       let one : there.variable ≡ at_home.0 = same_Some there.variable at_home.0 (sym there.is ∙ ap (slice_get m.variables) its.var ∙ at_home.1) in
       no_frame (object_at (code_of h a its.activation.function).storage its.number) at_home.2 at_home.3 (sym there.there ∙ ap (λ (y : Variable). y.storage) one ∙ at_home.4)
     where

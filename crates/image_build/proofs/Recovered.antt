@@ -9,6 +9,7 @@ use Rattle.c_meaning_values.specs.Memory as source-memory
 use Rattle.c_meaning_values.specs.Memory.{contents}
 use Rattle.c_meaning_steps.specs.declared.event.Frame as source-frame
 use Rattle.c_meaning_steps.specs.States.{Shown}
+use Rattle.memory_map.specs.Maps.{most_words}
 use Rattle.image_form.specs.Form.{Form}
 use Rattle.image_form.specs.Rules.{IsImage}
 use Rattle.image_form.specs.declared.verdicts.Verdict.TheVariants.{Recovered}
@@ -61,7 +62,7 @@ module _ (p : ProgramTree) (m : Form) (functions : map name_length m.functions �
     -- the verdicts that rows say: where one gives a recipe, that is for a scalar, and holds on all paths, and its nodes come to the word of its value over homes
     (telling : Telling) (all : List PlaceVerdict) (gives : (i change node : ℕ) (r : VisibleRow) → slice_get m.rows i ≡ Some r → r.verdict ≡ Recovered change node → GivesRecipe telling m.nodes all r.place r.variable node)
     (recovered : AreRecovered h all) (of_scalars : AreOfScalars h all) (come : ComeToRecipes h e code.arrangement m telling) where
-  short : length s.code ≤ 262144
+  short : length s.code ≤ most_words s.map
   short = stopping.short p m functions variables owners more names rules static_law automatic_law literal_law h valid homed e code storages spans words outermost unit has tells stops_are place deep activations visible memory s t
 
   same : source.SameMemory p memory t.lower.memory
@@ -96,7 +97,7 @@ module _ (p : ProgramTree) (m : Form) (functions : map name_length m.functions �
       by_memory true inside =
           let seen = seen_lower k x is in
           let scalar = subst (IsScalarOf h) (given.variable_is ∙ variable) (of_scalars given.verdict given.recipe given.change given.among given.is) in
-          absurd (recipes.no_scalar p m functions variables owners more names rules static_law automatic_law literal_law h valid homed code.arrangement e storages spans words outermost unit has tells t.lower s short t.stands t.running memory same t.typed t.differ t.stop.declared x seen.number (length t.lower.waiting + 1) v seen.object declared inside seen.is seen.owner seen.lives scalar)
+          absurd (recipes.no_scalar p m functions variables owners more names rules static_law automatic_law literal_law h valid homed code.arrangement e storages spans words outermost unit has tells t.lower s code.map short t.stands t.running memory same t.typed t.differ t.stop.declared x seen.number (length t.lower.waiting + 1) v seen.object declared inside seen.is seen.owner seen.lives scalar)
       by_memory false outside =
           let seen = seen_lower k x is in
           let of = scalar_there k x v is declared outside in
@@ -109,7 +110,7 @@ module _ (p : ProgramTree) (m : Form) (functions : map name_length m.functions �
           let named = subst (λ n. IsNodeIn m.nodes (naming_at telling n) (recipe_view given.recipe) node) where_is given.node_is in
           let means = come t.upper.here t.lower s t.stands t.running t.same.here.0 t.shown of.index node (recipe_view given.recipe) within on_all named in
           let shadow = home-stops.recipe_shown h t.upper.here t.lower.here t.shown of.index (recipe_view given.recipe) within on_all in
-          recipes.recovered_text p m functions variables owners more names rules static_law automatic_law literal_law h valid homed code.arrangement e storages spans words outermost unit has tells t.lower s short t.stands t.running memory same t.typed t.differ t.stop.declared
+          recipes.recovered_text p m functions variables owners more names rules static_law automatic_law literal_law h valid homed code.arrangement e storages spans words outermost unit has tells t.lower s code.map short t.stands t.running memory same t.typed t.differ t.stop.declared
           x of.index change node v of.scalar_type t.upper.here.graph of.scalar (frame t.upper.here) (shown_value h t.upper.here.function t.lower.here.names (recipe_view given.recipe)) declared of.of_is of.is of.variable_is seen shadow means
 
   -- What a recovered row shows is the text of what the variable holds.

@@ -15,6 +15,7 @@ use Rattle.image_form.specs.declared.verdicts.VisibleRow.{VisibleRow}
 use Rattle.image_build_tables.specs.Rows.{Telling, IsNodeIn, IsVerdictOf, IsRowOf, AreRowsOf, naming_at}
 use Rattle.image_truth_units.proofs.Tables.{map_at, from_map}
 use Rattle.image_build.proofs.Told.{first_same, rest_same, said_by}
+use Rattle.image_build.proofs.RecordNumbers.{plain_same}
 
 -- a verdict with the numbers of a recovered one is that
 recovered_by_numbers : (v : Verdict) (change node : ℕ) → verdict_numbers v ≡ verdict_numbers (Recovered change node) → v ≡ Recovered change node
@@ -56,12 +57,12 @@ module _ (t : Telling) (nodes : List Node) where
   recipe_of w all place variable change node v among at of (told.Nonresident c start writer) is say e = absurd (let f = sym say ∙ e in cc)
 
 -- Where a row says that a value is recovered, a verdict gives the recipe.
-pub gives_recipe : (t : Telling) (m : Form) (all : List PlaceVerdict) (rows : List VisibleRow) → AreRowsOf t m.nodes all rows → map row_numbers m.rows ≡ map row_numbers rows
+pub gives_recipe : (t : Telling) (m : Form) (all : List PlaceVerdict) (rows : List VisibleRow) → AreRowsOf t m.nodes all rows → map (row_numbers m.version.level) m.rows ≡ map (row_numbers m.version.level) rows
     → (k change node : ℕ) (r : VisibleRow) → slice_get m.rows k ≡ Some r → r.verdict ≡ Recovered change node → GivesRecipe t m.nodes all r.place r.variable node
 gives_recipe t m all rows say same k change node r is recovered =
-    let q = from_map row_numbers rows k (row_numbers r) (ap (λ l. slice_get l k) (sym same) ∙ map_at row_numbers m.rows k r is) in
+    let q = from_map (row_numbers m.version.level) rows k (row_numbers m.version.level r) (ap (λ l. slice_get l k) (sym same) ∙ map_at (row_numbers m.version.level) m.rows k r is) in
     let row : VisibleRow = q.0 in
-    let numbers : row.place ∷ row.variable ∷ verdict_numbers row.verdict ≡ r.place ∷ r.variable ∷ verdict_numbers r.verdict = q.2 in
+    let numbers : row.place ∷ row.variable ∷ verdict_numbers row.verdict ≡ r.place ∷ r.variable ∷ verdict_numbers r.verdict = plain_same m.version.level row r q.2 in
     let place : row.place ≡ r.place = first_same row.place r.place (row.variable ∷ verdict_numbers row.verdict) (r.variable ∷ verdict_numbers r.verdict) numbers in
     let rest : row.variable ∷ verdict_numbers row.verdict ≡ r.variable ∷ verdict_numbers r.verdict = rest_same row.place r.place (row.variable ∷ verdict_numbers row.verdict) (r.variable ∷ verdict_numbers r.verdict) numbers in
     let var : row.variable ≡ r.variable = first_same row.variable r.variable (verdict_numbers row.verdict) (verdict_numbers r.verdict) rest in

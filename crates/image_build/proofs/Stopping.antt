@@ -10,6 +10,7 @@ use Rattle.c_meaning_values.specs.Memory as source-memory
 use Rattle.c_meaning_values.specs.Memory.{contents}
 use Rattle.c_meaning_steps.specs.declared.event.Frame as source-frame
 use Rattle.c_meaning_steps.specs.States.{Shown}
+use Rattle.memory_map.specs.Maps.{most_words}
 use Rattle.image_form.specs.Form.{Form}
 use Rattle.image_form.specs.Rules.{IsImage}
 use Rattle.image_build_tables.specs.Spans.{span, code_span}
@@ -101,8 +102,8 @@ module _ (p : ProgramTree) (m : Form) (functions : map name_length m.functions �
     (h : HomedForm) (valid : IsValid h.unit) (homed : HaveHomes h) (e : EmittedForm) (code : IsCode h e) (storages : map storage m.variables ≡ storages_of h e (length m.variables)) (spans : map span m.functions ≡ map code_span e.functions) (words : m.owners ≡ e.owners) (outermost : slice_index e.owners 2 ≡ 0)
     (unit : HasVariablesIn p h.unit) (has : HasPlacesOf h.unit m) (tells : Tells h code.arrangement e) (stops_are : (address : ℕ) → is_stop (image.stop_addresses m) address ≡ is_stop (laid.stop_addresses e) address)
     (place deep : ℕ) (activations : List source-frame.Frame) (visible : List Shown) (memory : source-memory.Memory) (s : State) (t : MeetAt p h e code.arrangement place deep activations visible memory s) where
-  pub short : length s.code ≤ 262144
-  short = subst (λ c. length c ≤ 262144) (sym t.code) code.short
+  pub short : length s.code ≤ most_words s.map
+  short = subst (λ r. length s.code ≤ most_words r) (sym t.stands.map) (subst (λ c. length c ≤ most_words e.map) (sym t.code) code.short)
 
   pub same : SameMemory p memory t.lower.memory
   same = subst (SameMemory p memory) (sym t.same.memory) t.holds
@@ -113,7 +114,7 @@ module _ (p : ProgramTree) (m : Form) (functions : map name_length m.functions �
 
   holds_here : HoldsMemory p m memory (standing_of (reg s 2) t.lower.here) waiting s
   holds_here =
-      texts.holds p m functions variables owners more names rules static_law automatic_law literal_law h valid homed code.arrangement e storages spans words outermost unit has tells t.lower s short t.stands t.running memory same t.typed t.differ t.stop.declared
+      texts.holds p m functions variables owners more names rules static_law automatic_law literal_law h valid homed code.arrangement e storages spans words outermost unit has tells t.lower s code.map short t.stands t.running memory same t.typed t.differ t.stop.declared
 
   -- all stand at the place
   pub upper_place : t.upper.here.place ≡ place
@@ -178,7 +179,7 @@ module _ (p : ProgramTree) (m : Form) (functions : map name_length m.functions �
   statics_are n v is =
       let o = t.stop.statics n v is in
       subst (λ k. IsObjectText p memory v.of (contents (Static n) memory) (held_text m s k n)) here_place
-      (texts.static_text p m functions variables owners more names rules static_law automatic_law literal_law h valid homed code.arrangement e storages spans words outermost unit has tells t.lower s short t.stands t.running memory same t.typed t.differ t.stop.declared
+      (texts.static_text p m functions variables owners more names rules static_law automatic_law literal_law h valid homed code.arrangement e storages spans words outermost unit has tells t.lower s code.map short t.stands t.running memory same t.typed t.differ t.stop.declared
       n o.number v o.object is o.is o.owned o.phase)
 
   -- The machine stands at the program's stop, where what rows show is so.

@@ -31,6 +31,8 @@ use Rattle.image_build_tables.specs.Variables.{Shape, declared_names, entry, len
 use Rattle.image_build.specs.Tables.{HasShapeOf, HasTablesOf, entry_place, spot_of, visible_from}
 use Rattle.image_build.proofs.Elements.{same_images}
 use Rattle.image_build.proofs.Owners.{owners_same}
+use Rattle.image_form_sections.specs.declared.version.Level.{Level}
+use Rattle.image_build.proofs.RecordNumbers.{entries_same, name_lengths_same, views_same}
 
 -- where places stand, as their rows say
 pub spots : (rows : List PlaceRow) → map spot_of_row rows ≡ map spot_of (map row_view rows)
@@ -74,14 +76,13 @@ seen all rows few e = sights_told all ∙ ap (map sight_as) e ∙ seen_from 1 ro
 sight_by : List ℕ → Sight
 sight_by numbers = record { place = get_or numbers 0 0; variable = get_or numbers 1 0 }
 
-sights_by : (rows : List VisibleRow) → map sight_by (map row_numbers rows) ≡ map sight rows
+sight_back : (level : Level) (r : VisibleRow) → sight_by (row_numbers level r) ≡ sight r
 unfolding sight_by
-sights_by [] = refl
-sights_by (r ∷ rows) = let rest = sights_by rows in (λ i. sight r ∷ rest i)
+sight_back level r = refl
 
 -- rows of the same numbers tell of the same
-pub sights_same : (xs ys : List VisibleRow) → map row_numbers xs ≡ map row_numbers ys → map sight xs ≡ map sight ys
-sights_same xs ys e = sym (sights_by xs) ∙ ap (map sight_by) e ∙ sights_by ys
+pub sights_same : (level : Level) (xs ys : List VisibleRow) → map (row_numbers level) xs ≡ map (row_numbers level) ys → map sight xs ≡ map sight ys
+sights_same level xs ys e = views_same (row_numbers level) sight_by sight (sight_back level) xs ys e
 
 element_back : (e : ElementType) → element_of (element_number e) ≡ e
 element_back U8 = refl
@@ -136,13 +137,13 @@ as_many p m same = sym (length-map m.functions name_length) ∙ ap length same �
 -- what says the same as such tables has them
 pub tables_again : (p : ProgramTree) (tables image : Form) → IsImage image → SaysTheSame tables image → HasTablesOf p tables → HasTablesOf p image
 tables_again p tables image is same are = record {
-  functions = ap (map name_length) same.functions ∙ are.functions;
-  entries = ap (map entry) same.functions ∙ are.entries;
+  functions = name_lengths_same tables.version.level image.functions tables.functions same.functions ∙ are.functions;
+  entries = entries_same tables.version.level image.functions tables.functions same.functions ∙ are.entries;
   variables = shapes_same image.variables tables.variables same.variables ∙ are.variables;
-  owners = owners_same p tables image is (as_many p image (ap (map name_length) same.functions ∙ are.functions)) same.variables are.owners;
+  owners = owners_same p tables image is (as_many p image (name_lengths_same tables.version.level image.functions tables.functions same.functions ∙ are.functions)) same.variables are.owners;
   names = (are.names.0, same.names ∙ are.names.1);
   places = ap (map spot) same.places ∙ are.places;
   flow = λ s. subst (λ l. Contains l s ↔ Contains (map flow_pair (steps_of_program p)) s) (sym same.flow) (are.flow s);
   assigned = λ a. subst (λ l. Contains l a ↔ Contains (map assigned_pair (assignments_of_program p)) a) (sym same.assigned) (are.assigned a);
-  visible = sights_same image.rows tables.rows same.rows ∙ are.visible;
+  visible = sights_same tables.version.level image.rows tables.rows same.rows ∙ are.visible;
 }

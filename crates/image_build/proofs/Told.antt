@@ -18,6 +18,7 @@ use Rattle.image_form.specs.declared.verdicts.Verdict.TheVariants.{Home, Recover
 use Rattle.image_form.specs.declared.verdicts.VisibleRow.{VisibleRow}
 use Rattle.image_build_tables.specs.Rows.{Telling, IsVerdictOf, IsRowOf, AreRowsOf}
 use Rattle.image_truth_units.proofs.Tables.{map_at, from_map}
+use Rattle.image_build.proofs.RecordNumbers.{plain_same}
 
 -- lists that are the same begin with the same
 pub first_same : (a b : ℕ) (xs ys : List ℕ) → a ∷ xs ≡ b ∷ ys → a ≡ b
@@ -50,12 +51,12 @@ module _ (t : Telling) (nodes : List Node) where
   said_by (w ∷ all) (q ∷ rows) (suc k) r say is = let found = said_by all rows k r say.1 is in (found.0, behind found.1, found.2)
 
 -- Where a row says that a home shows a variable, that is so on all paths.
-pub home_holds : (h : HomedForm) (t : Telling) (m : Form) (all : List PlaceVerdict) (rows : List VisibleRow) → AreRowsOf t m.nodes all rows → map row_numbers m.rows ≡ map row_numbers rows → AreHome h all
+pub home_holds : (h : HomedForm) (t : Telling) (m : Form) (all : List PlaceVerdict) (rows : List VisibleRow) → AreRowsOf t m.nodes all rows → map (row_numbers m.version.level) m.rows ≡ map (row_numbers m.version.level) rows → AreHome h all
     → (k : ℕ) (r : VisibleRow) → slice_get m.rows k ≡ Some r → r.verdict ≡ Home → (f x : ℕ) (g : Graph) → slice_get h.unit.graphs f ≡ Some g → IsVariable g x r.variable → HoldsOnAllPaths (home_of h f) g r.place x (Of (Name x))
 home_holds h t m all rows say same home k r is at_home f x g graph variable =
-    let q = from_map row_numbers rows k (row_numbers r) (ap (λ l. slice_get l k) (sym same) ∙ map_at row_numbers m.rows k r is) in
+    let q = from_map (row_numbers m.version.level) rows k (row_numbers m.version.level r) (ap (λ l. slice_get l k) (sym same) ∙ map_at (row_numbers m.version.level) m.rows k r is) in
     let row : VisibleRow = q.0 in
-    let numbers : row.place ∷ row.variable ∷ verdict_numbers row.verdict ≡ r.place ∷ r.variable ∷ verdict_numbers r.verdict = q.2 in
+    let numbers : row.place ∷ row.variable ∷ verdict_numbers row.verdict ≡ r.place ∷ r.variable ∷ verdict_numbers r.verdict = plain_same m.version.level row r q.2 in
     let place : row.place ≡ r.place = first_same row.place r.place (row.variable ∷ verdict_numbers row.verdict) (r.variable ∷ verdict_numbers r.verdict) numbers in
     let rest : row.variable ∷ verdict_numbers row.verdict ≡ r.variable ∷ verdict_numbers r.verdict = rest_same row.place r.place (row.variable ∷ verdict_numbers row.verdict) (r.variable ∷ verdict_numbers r.verdict) numbers in
     let var : row.variable ≡ r.variable = first_same row.variable r.variable (verdict_numbers row.verdict) (verdict_numbers r.verdict) rest in

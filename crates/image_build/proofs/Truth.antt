@@ -71,6 +71,7 @@ use Rattle.image_build.proofs.RecoveredRows.{gives_recipe}
 use Rattle.image_build.proofs.StopAddresses as stop-addresses
 use Rattle.image_build.proofs.Timed.{timed}
 use Rattle.image_build.proofs.Whole as whole
+use Rattle.image_form_sections.specs.declared.version.Version.{Version}
 
 -- A variable that is visible at a place of a graph of the program's unit, and is not kept in memory, is one of its scalars.
 scalars_of : (p : ProgramTree) → IsWellFormed p → (u : UnitForm) → IsUnitOf p u → AreScalars p u
@@ -149,7 +150,7 @@ module _ (mode : Mode) (p : ProgramTree) (h : HomedForm) (m : Form) (formed : Is
   -- The image runs true to the program.
   pub runs_true : RunsTrue p m
   runs_true =
-      whole.runs_true p first h m made.emitted made.emits.code.arrangement functions statics does (leads_over_homes h homed.valid homed.homes homed.apart) (made.emits.in_time in_time) made.code made.initial stops_are (source_events p formed)
+      whole.runs_true p first h m made.emitted made.emits.code.arrangement functions statics does (leads_over_homes h homed.valid homed.homes homed.apart) (made.emits.in_time in_time) (ap (λ (v : Version). v.map) made.version) made.code made.initial stops_are (source_events p formed)
       (λ place deep activations shown memory s t.
       stopping.stopped p m tables.functions tables.variables tables.owners tables.names.0 tables.names.1 rules (static_law p formed names) (automatic_law p formed names) (literal_law p formed names) h homed.valid homed.homes made.emitted made.emits.code made.storages made.spans made.owners (outermost h made.emitted made.emits.code) unit has made.emits.told stops_are place deep activations shown memory s t
       (visibles.visible_are p m tables.functions tables.variables tables.owners tables.names.0 tables.names.1 rules (static_law p formed names) (automatic_law p formed names) (literal_law p formed names) h homed.valid homed.homes made.emitted made.emits.code made.storages made.spans made.owners (outermost h made.emitted made.emits.code) unit has made.emits.told stops_are place deep activations shown memory s t rows_seen

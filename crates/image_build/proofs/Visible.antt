@@ -19,6 +19,7 @@ use Rattle.c_meaning_values.specs.Memory as source-memory
 use Rattle.c_meaning_values.specs.Memory.{contents}
 use Rattle.c_meaning_steps.specs.declared.event.Frame as source-frame
 use Rattle.c_meaning_steps.specs.States.{Shown}
+use Rattle.memory_map.specs.Maps.{most_words}
 use Rattle.image_form.specs.Form.{Form}
 use Rattle.image_form.specs.Rules.{IsImage}
 use Rattle.image_form.specs.declared.verdicts.Verdict.{Verdict}
@@ -103,7 +104,7 @@ module _ (p : ProgramTree) (m : Form) (functions : map name_length m.functions �
     -- what is recovered is the text of what the variable holds
     (recovered_shown : (k i x change node : ℕ) (v : AutomaticTree) (r : VisibleRow) → slice_get (places.visible p.automatics t.stop.at.scope) k ≡ Some x → slice_get p.automatics x ≡ Some v → slice_get m.rows i ≡ Some r → r.place ≡ place → r.variable ≡ automatic_number p x → r.verdict ≡ Recovered change node
     → IsShown p m s memory v.of (contents (OfVariable x deep) memory) place (automatic_number p x) (Recovered change node)) where
-  short : length s.code ≤ 262144
+  short : length s.code ≤ most_words s.map
   short = stopping.short p m functions variables owners more names rules static_law automatic_law literal_law h valid homed e code storages spans words outermost unit has tells stops_are place deep activations visible memory s t
 
   same : source.SameMemory p memory t.lower.memory
@@ -159,7 +160,7 @@ module _ (p : ProgramTree) (m : Form) (functions : map name_length m.functions �
       by_memory : (b : Bool) → v.in_memory ≡ b → IsShown p m s memory v.of (contents (OfVariable x (length t.lower.waiting + 1)) memory) t.lower.here.place (automatic_number p x) Home
       by_memory true inside =
           let seen = seen_lower k x is in
-          texts.object_text p m functions variables owners more names rules static_law automatic_law literal_law h valid homed code.arrangement e storages spans words outermost unit has tells t.lower s short t.stands t.running memory same t.typed t.differ t.stop.declared x seen.number v seen.object Home declared inside seen.is seen.owner seen.lives refl
+          texts.object_text p m functions variables owners more names rules static_law automatic_law literal_law h valid homed code.arrangement e storages spans words outermost unit has tells t.lower s code.map short t.stands t.running memory same t.typed t.differ t.stop.declared x seen.number v seen.object Home declared inside seen.is seen.owner seen.lives refl
       by_memory false outside =
           let seen = seen_lower k x is in
           let of = scalar_there k x v is declared outside in
@@ -167,7 +168,7 @@ module _ (p : ProgramTree) (m : Form) (functions : map name_length m.functions �
           let holds = home_holds i r at verdict t.upper.here.function of.index t.upper.here.graph graph (ap (option_map (λ (z : Scalar). z.variable)) of.is ∙ ap (λ n. Some n) (of.variable_is ∙ sym variable)) in
           let on_all = subst (λ n. HoldsOnAllPaths (home_of h t.upper.here.function) t.upper.here.graph n of.index (Of (Name of.index))) (here ∙ sym upper_place) holds in
           let shadow = home-stops.home_shown h t.upper.here t.lower.here t.shown of.index (slice_get_within t.upper.here.graph.scalars of.index of.scalar of.is) on_all in
-          scalars.home_text p m functions variables owners more names rules static_law automatic_law literal_law h valid homed code.arrangement e storages spans words outermost unit has tells t.lower s short t.stands t.running memory same t.typed t.differ t.stop.declared x of.index v of.scalar_type t.upper.here.graph of.scalar (frame t.upper.here) declared of.of_is (ap (slice_get h.unit.graphs) function ∙ graph) of.is of.variable_is seen
+          scalars.home_text p m functions variables owners more names rules static_law automatic_law literal_law h valid homed code.arrangement e storages spans words outermost unit has tells t.lower s code.map short t.stands t.running memory same t.typed t.differ t.stop.declared x of.index v of.scalar_type t.upper.here.graph of.scalar (frame t.upper.here) declared of.of_is (ap (slice_get h.unit.graphs) function ∙ graph) of.is of.variable_is seen
           (shadow ∙ ap (λ f. Some (Known (t.lower.here.names (home_number (home_of h f of.index))))) (sym function))
 
   -- What a row shows.

@@ -72,7 +72,7 @@ module _ (p : ProgramTree) (first : UnitForm) (h : HomedForm) (m : Form) (e : Em
     (functions : Pairs SameFunction first.graphs h.unit.graphs) (statics : h.unit.statics ≡ first.statics)
     (does : (input : List ℕ) → AreBytes input → (turns : ℕ) → Reached (Both (built.SameEvent p first) passed.SameEvent) (events_of p input turns) (unit_run h.unit input)) (leads : LeadsOverHomes h) (in_time : FollowsInTime h e a)
     -- the image has the code
-    (code_is : m.code ≡ e.code) (initial_is : m.initial ≡ e.initial) (stops_are : (address : ℕ) → is_stop (image.stop_addresses m) address ≡ is_stop (stop_addresses e) address)
+    (map_is : m.version.map ≡ e.map) (code_is : m.code ≡ e.code) (initial_is : m.initial ≡ e.initial) (stops_are : (address : ℕ) → is_stop (image.stop_addresses m) address ≡ is_stop (stop_addresses e) address)
     -- what is so of each event of the program
     (source_events : (input : List ℕ) → AreBytes input → (turns : ℕ) → AllByRecursion (IsEventOf p) (events_of p input turns))
     -- where all meet at a stop, the machine stands at the program's stop
@@ -142,8 +142,9 @@ module _ (p : ProgramTree) (first : UnitForm) (h : HomedForm) (m : Form) (e : Em
   -- the run of the image is that of the code
   image_is : (input : List ℕ) (limit : ℕ) → image.image_run m input limit ≡ emitted_run e input limit
   image_is input limit =
-      ap (λ c. run (image.stop_addresses m) limit (started c m.initial input)) code_is ∙ ap (λ i. run (image.stop_addresses m) limit (started e.code i input)) initial_is
-      ∙ run_same (image.stop_addresses m) (stop_addresses e) stops_are limit (started e.code e.initial input)
+      ap (λ r. run (image.stop_addresses m) limit (started r m.code m.initial input)) map_is
+      ∙ ap (λ c. run (image.stop_addresses m) limit (started e.map c m.initial input)) code_is ∙ ap (λ i. run (image.stop_addresses m) limit (started e.map e.code i input)) initial_is
+      ∙ run_same (image.stop_addresses m) (stop_addresses e) stops_are limit (started e.map e.code e.initial input)
 
   -- it follows the program's events
   follows : (input : List ℕ) → AllByRecursion (λ b. b < 256) input → (turns : ℕ) → Follows (SameEvent p m) (1025 * length e.code) (1025 * length e.code) (events_of p input turns) (emitted_run e input)
@@ -155,7 +156,7 @@ module _ (p : ProgramTree) (first : UnitForm) (h : HomedForm) (m : Form) (e : Em
       let above : Leads First (events_of p input turns) (map event_of (seen_run h.unit input n)) =
       subst (Leads First (events_of p input turns)) (sym (seen_run_events h.unit input n ∙ reached.is)) front in
       follows_by MetThere (SameEvent p m) met (1025 * length e.code) (1025 * length e.code) (events_of p input turns) (emitted_run e input)
-      (follows_kept Met (HasCode e.code) (1025 * length e.code) (1025 * length e.code) (events_of p input turns) (emitted_run e input) (λ k. run_has (stop_addresses e) e.code k (started e.code e.initial input) refl)
+      (follows_kept Met (HasCode e.code) (1025 * length e.code) (1025 * length e.code) (events_of p input turns) (emitted_run e input) (λ k. run_has (stop_addresses e) e.code k (started e.map e.code e.initial input) refl)
       (joined event_of (IsEventOf p) (IsSeenRunning (over_homes h)) First (homed.SameSeen h) (emitted.SameSeen h e a)
       (1025 * length e.code) (1025 * length e.code) (events_of p input turns) (seen_run h.unit input n) (seen_run (over_homes h) input n) (emitted_run e input)
       (source_events input (are_bytes input bytes) turns) (all_running (over_homes h) input n) above (leads input n) (in_time input bytes n)))
@@ -164,7 +165,7 @@ module _ (p : ProgramTree) (first : UnitForm) (h : HomedForm) (m : Form) (e : Em
   pub runs_true : RunsTrue p m
   runs_true input bytes = record {
     agree = λ turns limit. subst (Agree (SameEvent p m) (events_of p input turns)) (sym (image_is input limit))
-        (follows_agree (SameEvent p m) (1025 * length e.code) (1025 * length e.code) (events_of p input turns) (emitted_run e input) (follows input bytes turns) (run_grows (stop_addresses e) (started e.code e.initial input)) limit);
+        (follows_agree (SameEvent p m) (1025 * length e.code) (1025 * length e.code) (events_of p input turns) (emitted_run e input) (follows input bytes turns) (run_grows (stop_addresses e) (started e.map e.code e.initial input)) limit);
     reach = λ turns i limit within enough. subst (λ l. i ≤ length l) (sym (image_is input limit))
         (follows_reach (SameEvent p m) (1025 * length e.code) (events_of p input turns) (emitted_run e input) (follows input bytes turns) i limit within (subst (λ c. i * (1025 * length c) ≤ limit) code_is enough));
   }

@@ -24,7 +24,7 @@ use Rattle.image_build_tables.specs.Storages.{storages_of}
 use Rattle.image_build_tables.specs.Variables.{declared_names, pass_names, storage}
 use Rattle.image_build_tables.specs.Places.{address, addresses_of}
 use Rattle.image_build_tables.specs.Rows.{AreNodesOf, AreRowsOf, telling_of}
-use Rattle.image_build_tables.specs.Tables.{assigned_pair, change_record, flow_pair}
+use Rattle.image_build_tables.specs.Tables.{assigned_pair, change_record, flow_pair, plain_version}
 use Rattle.image_build.specs.Evidence.{AreEvidentIn}
 
 -- Verdicts are borne out by a unit with homes: where one says that a home shows a variable, or gives a recipe for it, that is so on all paths. A recipe is given only where the home does not show
@@ -53,7 +53,7 @@ pub record HasRowsOf (h : HomedForm) (e : EmittedForm) (places : List PlaceRow) 
   pub rows : List VisibleRow
   pub say : AreRowsOf (telling_of h places e) m.nodes told rows
   pub needed : AreNodesOf (telling_of h places e) m.nodes told
-  pub same : map row_numbers m.rows ≡ map row_numbers rows
+  pub same : map (row_numbers m.version.level) m.rows ≡ map (row_numbers m.version.level) rows
 
 -- A UNIT HAS HOMES OF A MODE: it is valid, each of its names has a home by the rule of the mode, and names that interfere have homes apart.
 pub record IsHomed (mode : Mode) (h : HomedForm) : Type 0 where
@@ -64,12 +64,13 @@ pub record IsHomed (mode : Mode) (h : HomedForm) : Type 0 where
   pub registers : mode ≡ Registers → HaveRegisters h
   pub apart : HaveHomesApart h
 
--- AN IMAGE IS MADE OF A UNIT WITH HOMES, of a program. Its words with their owners, and its initial bytes, are the code of the unit, which does what the unit does over its homes; each function lies where its code does, with its
+-- AN IMAGE IS MADE OF A UNIT WITH HOMES, of a program. Its words with their owners, its initial bytes, and where its memory lies, are the code of the unit, which does what the unit does over its homes; each function lies where its code does, with its
 -- frame; each variable is kept where the code has it; each place has the address of its stop, and an entry that of its function; the changes, the flow and the assignments are the unit's, and the names those of the program
 -- and of the passes of the changes; the rows say what is borne out by the unit; and what a row says to hide a variable is evident in the words of the code.
 pub record IsMadeOf (p : ProgramTree) (h : HomedForm) (m : Form) : Type 0 where
   pub emitted : EmittedForm
   pub emits : Emits h emitted
+  pub version : m.version ≡ plain_version emitted.map
   pub mode : m.mode ≡ h.mode
   pub code : m.code ≡ emitted.code
   pub owners : m.owners ≡ emitted.owners

@@ -28,7 +28,7 @@ verdict_kept t nodes all place (told.Nonresident change start w) v begin is = is
 
 -- the row that an image has of what is told
 abbrev pub row_of : PlaceVerdict → Verdict → VisibleRow
-row_of w v = record { place = w.place.0; variable = w.var.0; verdict = v }
+row_of w v = record { place = w.place.0; variable = w.var.0; verdict = v; quiet = None }
 
 -- the sights of rows, and of those ahead, are those of all
 pub sights_step : (ahead : List PlaceVerdict) (w : PlaceVerdict) (v : Verdict) (rows pushed : List VisibleRow) (all : List PlaceVerdict) → w ∷ behind_first ahead ≡ ahead → pushed ≡ rows ++ (row_of w v ∷ [])
@@ -47,7 +47,7 @@ pub rows_step : (t : Telling) (nodes grown : List Node) (ahead : List PlaceVerdi
     → pushed ≡ rows ++ (row_of w v ∷ []) → Begin nodes grown → (length grown < 2 ^ 32 → IsVerdictOf t grown w.place.0 w.verdict v) → TellAll t nodes rows ahead all → TellAll t grown pushed (behind_first ahead) all
 rows_step t nodes grown ahead w v rows pushed all whole push begin is told later longer few more are =
     let fewer = begin_fewer grown later longer in
-    let one : IsRowOf t later w (row_of w v) = record { place = refl; variable = refl; verdict = verdict_kept t grown later w.place.0 w.verdict v longer (is (omega (arith, few, fewer))) } in
+    let one : IsRowOf t later w (row_of w v) = record { place = refl; variable = refl; verdict = verdict_kept t grown later w.place.0 w.verdict v longer (is (omega (arith, few, fewer))); quiet = refl } in
     let both : AreRowsOf t later (w ∷ behind_first ahead) (row_of w v ∷ more) = (one, are) in
     let here = told later (begin_twice nodes grown later begin longer) few (row_of w v ∷ more) (subst (λ ws. AreRowsOf t later ws (row_of w v ∷ more)) whole both) in
     subst (λ l. AreRowsOf t later all l) (sym (ap (λ l. l ++ more) push ∙ append_assoc rows (row_of w v ∷ []) more)) here

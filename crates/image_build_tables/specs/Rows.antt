@@ -80,11 +80,12 @@ IsVerdictOf t nodes place (told.Recovered r change) v = (k : ℕ) × (v ≡ verd
 IsVerdictOf t nodes place (told.Noncurrent change start w) v = v ≡ verdict.Noncurrent change start.0 (address_of_some t.graphs t.codes w)
 IsVerdictOf t nodes place (told.Nonresident change start w) v = v ≡ verdict.Nonresident change start.0 (address_of_writer t.graphs t.codes w)
 
--- A ROW SAYS WHAT IS TOLD: of the same variable at the same place.
+-- A ROW SAYS WHAT IS TOLD: of the same variable at the same place. It tells of no quiet path.
 pub record IsRowOf (t : Telling) (nodes : List Node) (told : told-row.PlaceVerdict) (r : VisibleRow) : Type 0 where
   pub place : r.place ≡ told.place.0
   pub variable : r.variable ≡ told.var.0
   pub verdict : IsVerdictOf t nodes told.place.0 told.verdict r.verdict
+  pub quiet : r.quiet ≡ None
 
 -- rows say what is told, one by one
 abbrev pub AreRowsOf : Telling → List Node → List told-row.PlaceVerdict → List VisibleRow → Type 0

@@ -13,6 +13,10 @@ pub record Span : Type 0 where
 abbrev pub span : Function → Span
 span f = record { first = f.first; end = f.end; frame = f.frame }
 
+-- the mask of the registers that an image says that a function saves
+abbrev pub saved : Function → ℕ
+saved f = f.saved
+
 -- where it lies
 abbrev pub code_span : FunctionCode → Span
 code_span c = record { first = c.first; end = c.end; frame = c.frame }

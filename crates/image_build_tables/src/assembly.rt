@@ -3,13 +3,13 @@
 ghost use Rattle.std.specs.Prelude.{◌≡◌, ◌+◌, ◌++◌, ◌<◌, ◌^◌, [], IfOk, length, map};
 ghost use Rattle.rv_emit_tables.specs.Emitted.{emitted_view};
 ghost use Rattle.graph_homes.specs.Homed.{homed_view};
-ghost use Rattle.image_build_tables.specs.Spans.{code_span, span};
+ghost use Rattle.image_build_tables.specs.Spans.{code_span, saved, span};
 ghost use Rattle.image_build_tables.specs.Storages.{storages_of};
 ghost use Rattle.image_build_tables.specs.Places.{address, addresses_of};
 ghost use Rattle.image_build_tables.specs.Rows.{AreNodesOf, AreRowsOf, AreShown, telling_of};
 ghost use Rattle.c_tree.specs.Programs.{program_view};
 ghost use Rattle.image_build_tables.specs.Variables.{declared_names, entry, length_of_name, name_length, owned_from, owner, owners_of, pass_names, shape, shapes_of, storage};
-ghost use Rattle.image_build_tables.specs.Tables.{assigned_pair, change_record, flow_pair, sight, sight_of_verdict, spot, spot_of_row};
+ghost use Rattle.image_build_tables.specs.Tables.{assigned_pair, change_record, flow_pair, plain_version, sight, sight_of_verdict, spot, spot_of_row};
 
 use crate::pairs::{assigned_of, changes_of, flow_of};
 use crate::places_table::places_of;
@@ -18,7 +18,7 @@ use crate::{functions_of, names_of, storages_of, variable_count, variables_of};
 use c_tree::Program;
 use currency::PlaceVerdict;
 use graph_homes::HomedUnit;
-use image_form::Image;
+use image_form::{Image, Level, Version};
 use places::{FlowTable, PlaceTable};
 use rv_emit_tables::Emitted;
 use std::alloc::{AllocError, Global};
@@ -43,12 +43,14 @@ pub fn image_of(alloc: Global, parts: &Parts<'_>, emitted: Emitted) -> Result<Im
     requires owned { length (owned_from 0 (program_view parts.now.program.now).functions) ≡ length parts.now.program.now.automatics.items }
     requires variables { length parts.now.program.now.statics.items + length parts.now.program.now.literals.items + length parts.now.program.now.automatics.items < 2 ^ 32 }
     requires places { length parts.now.places.now.rows.items + 1 < 2 ^ 32 }
+    ensures version { IfOk result (λ m. m.version ≡ plain_version emitted.map) }
     ensures mode { IfOk result (λ m. m.mode ≡ parts.now.homed.now.mode) }
     ensures code { IfOk result (λ m. m.code.items ≡ emitted.code.items) }
     ensures initial { IfOk result (λ m. m.initial.items ≡ emitted.initial.items) }
     ensures owners { IfOk result (λ m. m.owners.items ≡ emitted.owners.items) }
     ensures functions { IfOk result (λ m. map name_length m.functions.items ≡ map length_of_name (program_view parts.now.program.now).functions) }
     ensures spans { IfOk result (λ m. map span m.functions.items ≡ map code_span (emitted_view emitted).functions) }
+    ensures saved { IfOk result (λ m. map saved m.functions.items ≡ map (λ f. 0) (program_view parts.now.program.now).functions) }
     ensures variables { IfOk result (λ m. map shape m.variables.items ≡ shapes_of (program_view parts.now.program.now)) }
     ensures storages { IfOk result (λ m. map storage m.variables.items ≡ storages_of (homed_view parts.now.homed.now) (emitted_view emitted) (length parts.now.program.now.statics.items + length parts.now.program.now.literals.items + length parts.now.program.now.automatics.items)) }
     ensures belonging { IfOk result (λ m. map owner m.variables.items ≡ owners_of (program_view parts.now.program.now)) }
@@ -62,6 +64,8 @@ pub fn image_of(alloc: Global, parts: &Parts<'_>, emitted: Emitted) -> Result<Im
     ensures nodes { IfOk result (λ m. length m.nodes.items < 2 ^ 32 → AreNodesOf (telling_of (homed_view parts.now.homed.now) parts.now.places.now.rows.items (emitted_view emitted)) m.nodes.items parts.now.verdicts.now) }
     ensures bare { AreShown parts.now.verdicts.now → IfOk result (λ m. m.nodes.items ≡ []) }
     ensures rows { IfOk result (λ m. length m.nodes.items < 2 ^ 32 → AreRowsOf (telling_of (homed_view parts.now.homed.now) parts.now.places.now.rows.items (emitted_view emitted)) m.nodes.items parts.now.verdicts.now m.rows.items) }
+    ensures calls { IfOk result (λ m. m.calls.items ≡ []) }
+    ensures members { IfOk result (λ m. m.members.items ≡ []) }
     ensures visible { IfOk result (λ m. map sight m.rows.items ≡ map sight_of_verdict parts.now.verdicts.now) }
 {
     let unit = &parts.homed.unit;
@@ -88,6 +92,10 @@ pub fn image_of(alloc: Global, parts: &Parts<'_>, emitted: Emitted) -> Result<Im
     };
     let (rows, nodes) = rows_of(alloc, parts.verdicts, telling)?;
     Ok(Image {
+        version: Version {
+            map: emitted.map,
+            level: Level::Plain,
+        },
         mode: parts.homed.mode,
         functions,
         places,
@@ -96,6 +104,8 @@ pub fn image_of(alloc: Global, parts: &Parts<'_>, emitted: Emitted) -> Result<Im
         flow: flow_of(alloc, &parts.flow.steps)?,
         assigned: assigned_of(alloc, &parts.flow.assignments)?,
         rows,
+        calls: Vec::new(alloc),
+        members: Vec::new(alloc),
         nodes,
         names: names_of(alloc, parts.program, log)?,
         code: emitted.code,

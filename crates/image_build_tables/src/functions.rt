@@ -4,7 +4,7 @@ ghost use Rattle.std.specs.Prelude.{◌≡◌, IfOk, length, map};
 ghost use Rattle.c_tree.specs.Programs.{function_view};
 ghost use Rattle.rv_emit_tables.specs.Emitted as emitted;
 ghost use Rattle.image_build_tables.specs.Variables.{entry, length_of_name, name_length};
-ghost use Rattle.image_build_tables.specs.Spans.{code_span, span};
+ghost use Rattle.image_build_tables.specs.Spans.{code_span, saved, span};
 
 use crate::numbers::number_of;
 use c_tree::TypedFunction;
@@ -18,6 +18,7 @@ fn function_of(function: &TypedFunction, graph: &Graph, code: &EmittedFunction) 
     ensures name { name_length result ≡ length_of_name (function_view function.now) }
     ensures entry { entry result ≡ graph.now.entry.0 }
     ensures span { span result ≡ code_span (emitted.function_view code.now) }
+    ensures saved { saved result ≡ 0 }
 {
     Function {
         name_length: number_of(function.name.len()),
@@ -25,6 +26,7 @@ fn function_of(function: &TypedFunction, graph: &Graph, code: &EmittedFunction) 
         end: code.end,
         frame: code.frame,
         entry: graph.entry.0,
+        saved: 0,
     }
 }
 
@@ -40,6 +42,7 @@ pub fn functions_of(
     ensures names { IfOk result (λ v. map name_length v.items ≡ map length_of_name (map function_view functions.now)) }
     ensures spans { IfOk result (λ v. map span v.items ≡ map code_span (map emitted.function_view code.now)) }
     ensures entries { IfOk result (λ v. map entry v.items ≡ map (λ g. g.entry.0) graphs.now) }
+    ensures saved { IfOk result (λ v. map saved v.items ≡ map (λ f. 0) (map function_view functions.now)) }
 {
     let mut made = Vec::new(alloc);
     for (number, function) in functions.iter().enumerate() {

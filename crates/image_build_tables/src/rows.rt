@@ -223,6 +223,7 @@ pub fn rows_of(
             place: told.place.0,
             variable: told.var.0,
             verdict,
+            quiet: None,
         })?;
         left = rest;
     }

@@ -2,13 +2,13 @@
 
 ghost use Rattle.std.specs.Prelude.{◌<◌, ◌^◌};
 ghost use Rattle.image_form.specs.Form.{form};
-ghost use Rattle.image_form.specs.Numbers.{assigned_numbers, change_numbers, flow_numbers, function_numbers, node_numbers, place_numbers, row_numbers, storage_value, variable_numbers, verdict_numbers};
+ghost use Rattle.image_form.specs.Numbers.{assigned_numbers, call_numbers, change_numbers, flow_numbers, function_numbers, member_numbers, node_numbers, place_numbers, row_numbers, storage_value, variable_numbers, verdict_numbers};
 ghost use Rattle.image_form.specs.Rules.{AllFit, RecordsFit};
 ghost use Rattle.image_form_drafts.specs.Fitting.{AreFit};
 
 use image_form::{
-    AssignedPair, Change, FlowPair, Function, Image, Node, Place, Storage, Variable, Verdict,
-    VisibleRow,
+    AssignedPair, CallRow, Change, FlowPair, Function, Image, Level, Member, Node, Place, Storage,
+    Variable, Verdict, VisibleRow,
 };
 
 /// A word fits.
@@ -28,17 +28,21 @@ fn words_fit(words: &[u32])
 }
 
 /// The numbers of a function fit.
-fn function_fits(function: Function)
-    ensures { AllFit (function_numbers function) }
-{}
+fn function_fits(level: Level, function: Function)
+    ensures { AllFit (function_numbers level function) }
+{
+    match level {
+        Level::Plain | Level::Quiet | Level::Callers => {}
+    }
+}
 
 /// The numbers of functions fit.
-fn functions_fit(functions: &[Function])
-    ensures { RecordsFit function_numbers functions.now }
+fn functions_fit(level: Level, functions: &[Function])
+    ensures { RecordsFit (function_numbers level) functions.now }
 {
     let mut ahead = functions;
     while let [function, rest @ ..] = ahead {
-        function_fits(*function);
+        function_fits(level, *function);
         ahead = rest;
     }
 }
@@ -172,19 +176,57 @@ fn verdict_fits(verdict: Verdict)
 }
 
 /// The numbers of a visible row fit.
-fn row_fits(row: VisibleRow)
-    ensures { AllFit (row_numbers row) }
+fn row_fits(level: Level, row: VisibleRow)
+    ensures { AllFit (row_numbers level row) }
+{
+    verdict_fits(row.verdict);
+    let _quiet = row.quiet.unwrap_or(0);
+    match level {
+        Level::Plain | Level::Quiet | Level::Callers => {}
+    }
+}
+
+/// The numbers of visible rows fit.
+fn rows_fit(level: Level, rows: &[VisibleRow])
+    ensures { RecordsFit (row_numbers level) rows.now }
+{
+    let mut ahead = rows;
+    while let [row, rest @ ..] = ahead {
+        row_fits(level, *row);
+        ahead = rest;
+    }
+}
+
+/// The numbers of the row of a call fit.
+fn call_fits(row: CallRow)
+    ensures { AllFit (call_numbers row) }
 {
     verdict_fits(row.verdict);
 }
 
-/// The numbers of visible rows fit.
-fn rows_fit(rows: &[VisibleRow])
-    ensures { RecordsFit row_numbers rows.now }
+/// The numbers of rows of calls fit.
+fn calls_fit(rows: &[CallRow])
+    ensures { RecordsFit call_numbers rows.now }
 {
     let mut ahead = rows;
     while let [row, rest @ ..] = ahead {
-        row_fits(*row);
+        call_fits(*row);
+        ahead = rest;
+    }
+}
+
+/// The numbers of a member fit.
+fn member_fits(member: Member)
+    ensures { AllFit (member_numbers member) }
+{}
+
+/// The numbers of members fit.
+fn members_fit(members: &[Member])
+    ensures { RecordsFit member_numbers members.now }
+{
+    let mut ahead = members;
+    while let [member, rest @ ..] = ahead {
+        member_fits(*member);
         ahead = rest;
     }
 }
@@ -195,12 +237,14 @@ pub fn tables_fit(tables: &Image)
 {
     words_fit(&tables.code);
     words_fit(&tables.owners);
-    functions_fit(&tables.functions);
+    functions_fit(tables.version.level, &tables.functions);
     places_fit(&tables.places);
     variables_fit(&tables.variables);
     changes_fit(&tables.changes);
     flow_fits(&tables.flow);
     assigned_fits(&tables.assigned);
-    rows_fit(&tables.rows);
+    rows_fit(tables.version.level, &tables.rows);
+    calls_fit(&tables.calls);
+    members_fit(&tables.members);
     nodes_fit(&tables.nodes);
 }

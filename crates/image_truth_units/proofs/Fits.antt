@@ -22,16 +22,24 @@ use Rattle.graph_homes.specs.Homed.{HomedForm}
 use Rattle.graph_homes.specs.Statics.{bytes_by_element, initial_bytes, object_bytes, padded}
 use Rattle.rv_emit_tables.specs.Emitted.{EmittedForm}
 use Rattle.rv_emit_storage.proofs.Padding.{padded_length}
+use Rattle.memory_map.specs.Maps.{bytes_size, most_words}
+use Rattle.memory_map.proofs.Facts.{code_few}
 use Rattle.image_form.specs.Form.{Form}
 use Rattle.image_form.specs.Rules.{FitRules, SizeRules}
-use Rattle.image_form.specs.Spelling.{size}
+use Rattle.image_form.specs.Versions.{greatest_version, is_read, version_number}
+use Rattle.image_form_sections.specs.declared.version.Version.{Version}
+use Rattle.memory_map.specs.declared.map.Map.{Map}
+use Rattle.rv_emit_storage.specs.UnitMaps.{map_of_unit}
+use Rattle.image_form.specs.Order.{behind, order}
+use Rattle.image_form.specs.Spelling.{record_count, size}
+use Rattle.image_form_sections.specs.declared.version.Level.TheVariants.{Plain}
 use Rattle.image_form_drafts.specs.Fitting.{AreFit}
 use Rattle.image_build_tables.specs.Variables.{automatic_shape, length_of_name, literal_shape, name_length, shape, static_shape}
-use Rattle.image_build_tables.specs.Tables.{Sight, sight}
+use Rattle.image_build_tables.specs.Tables.{Sight, plain_version, sight}
 use Rattle.image_truth_units.specs.Tables.{visible_from}
 use Rattle.image_truth_units.proofs.Accepted.{both, facts_of, is_less}
 use Rattle.image_truth_units.proofs.Functions.{has_entry, places_many}
-use Rattle.image_truth_units.proofs.Given.{Given}
+use Rattle.image_truth_units.proofs.Given.{Given, memory_is}
 
 -- ---- How many there are
 
@@ -103,6 +111,13 @@ seen_few p n (q ∷ places) =
     let all = sum_by-cons (λ (place : Place). length (visible p.automatics place.scope)) q places in
     omega (arith, rest, own, many, sum, all)
 
+-- ---- The version
+
+-- The version of the image of a unit is read.
+unit_read : (u : UnitForm) → is_read (version_number (plain_version (map_of_unit u))) ≡ true
+unfolding map_of_unit is_read greatest_version
+unit_read u = refl
+
 -- ---- All of it
 
 -- The sections whose lengths are not told by what is above have no more records than this.
@@ -125,6 +140,8 @@ module _ (p : ProgramTree) (h : HomedForm) (e : EmittedForm) (rows : List PlaceR
     flow = fits.flow;
     assigned = fits.assigned;
     rows = fits.rows;
+    calls = fits.calls;
+    members = fits.members;
     nodes = fits.nodes;
   }
 
@@ -152,7 +169,8 @@ module _ (p : ProgramTree) (h : HomedForm) (e : EmittedForm) (rows : List PlaceR
   size_rules spots are_few unchanged names_few seen =
       let facts = facts_of p given.formed in
       let code = ap (λ (l : List ℕ). length l) given.tables.code in
-      let short = given.emits.code.short in
+      let given_short = given.emits.code.short in
+      let short = code_few e.map (length e.code) given_short in
       let owners = ap (λ (l : List ℕ). length l) given.tables.owners in
       let owned = given.emits.owners in
       let initial = ap (λ (l : List ℕ). length l) given.tables.initial in
@@ -183,21 +201,24 @@ module _ (p : ProgramTree) (h : HomedForm) (e : EmittedForm) (rows : List PlaceR
       let r4 = facts.visible in
       let rows_few : length m.rows ≤ 1000000 = omega (arith, r1, r2, r3, r4) in
       let changes_few = ap length unchanged in
+      let no_calls = ap length given.tables.calls in
+      let no_members = ap length given.tables.members in
+      let size_is : size m ≡ behind Plain (record_count m) order = ap (λ (v : Version). behind v.level (record_count m) order) given.tables.version in
       let flow_few = are_few.flow in
       let assigned_few = are_few.assigned in
       let nodes_few = are_few.nodes in
-      let code_few : length m.code ≤ 262144 = omega (arith, code, short) in
-      let owners_few : length m.owners ≤ 262144 = omega (arith, owners, owned, short) in
-      let initial_few : length m.initial ≤ 1048576 = omega (arith, initial, bytes) in
+      let code_within : length m.code ≤ most_words m.version.map = subst (λ r. length m.code ≤ most_words r) (sym (memory_is p h e rows m given)) (omega (arith, code, given_short)) in
+      let initial_few : length m.initial ≤ bytes_size = omega (arith, initial, bytes) in
       let functions_most : length m.functions ≤ 256 = omega (arith, f1, f2, f3, functions_few) in
       let places_most : length m.places ≤ 1048576 = omega (arith, places, places_few, pl) in
       let variables_most : length m.variables ≤ 3145728 = omega (arith, variables, statics_few, sl, literals_few, ll, automatics_few, al) in
       record {
-        code = code_few;
+        version = subst (λ (v : Version). is_read (version_number v) ≡ true) (sym given.tables.version) (subst (λ (r : Map). is_read (version_number (plain_version r)) ≡ true) (sym given.emits.code.map) (unit_read h.unit));
+        code = code_within;
         initial = initial_few;
         initial_words = omega (arith, initial, initial_is, whole_words);
         some_function = omega (arith, f1, f2, f3, main_low);
         some_place = omega (arith, places, first_low);
         rows = rows_few;
-        whole = omega (arith, code_few, owners_few, initial_few, functions_most, places_most, variables_most, rows_few, changes_few, flow_few, assigned_few, nodes_few, names_few);
+        whole = subst (λ n. n < 2 ^ 32) (sym size_is) (omega (arith, no_calls, no_members, code, owners, owned, short, initial_few, functions_most, places_most, variables_most, rows_few, changes_few, flow_few, assigned_few, nodes_few, names_few));
       }

@@ -4,6 +4,8 @@ use Rattle.std.specs.Prelude.{◌==◌, nat_le, nat_lt, slice_index, if◌then�
 use Rattle.std.specs.List.{AllByRecursion}
 use Rattle.std.proofs.lemmas.Bool.{le-leb, lt-ltb, eq-eqb, and_from}
 use Rattle.std.proofs.lemmas.Option.{none-some, same_Some}
+use Rattle.memory_map.specs.Maps.{code_start, stack_end, stack_start}
+use Rattle.memory_map.proofs.Facts.{code_few, map_facts}
 use Rattle.image_form.specs.Form.{Form}
 use Rattle.rv_machine.specs.State.{State, word}
 use Rattle.stop_engine_view.specs.Callers.{calling_place, return_address, place_before}
@@ -62,14 +64,14 @@ module _ (codes : ℕ → FunctionCode) where
 -- ---- The stack
 
 module _ (h : HomedForm) (a : Arrangement) (e : EmittedForm) (addresses : ℕ → ℕ) (memory : ℕ → ℕ) where
-  first_frame : (sp : ℕ) (b : Activation) (more : List Activation) → IsStack e (code_of h a) addresses memory sp b more → IsFrame (code_of h a b.function) addresses sp b
+  first_frame : (sp : ℕ) (b : Activation) (more : List Activation) → IsStack e (code_of h a) addresses memory sp b more → IsFrame e.map (code_of h a b.function) addresses sp b
   first_frame sp b [] stack = stack.0
   first_frame sp b (c ∷ more) stack = stack.0
 
   -- each activation has its frame
   pub frame_there : (sp : ℕ) (b : Activation) (more : List Activation) (index : ℕ) (x : Activation) → IsStack e (code_of h a) addresses memory sp b more → slice_get (b ∷ more) index ≡ Some x
-      → IsFrame (code_of h a x.function) addresses (start_of (code_of h a) sp (b ∷ more) index) x
-  frame_there sp b more zero x stack is = subst (λ y. IsFrame (code_of h a y.function) addresses sp y) (same_Some b x is) (first_frame sp b more stack)
+      → IsFrame e.map (code_of h a x.function) addresses (start_of (code_of h a) sp (b ∷ more) index) x
+  frame_there sp b more zero x stack is = subst (λ y. IsFrame e.map (code_of h a y.function) addresses sp y) (same_Some b x is) (first_frame sp b more stack)
   frame_there sp b [] (suc index) x stack is = absurd (none-some x is)
   frame_there sp b (c ∷ more) (suc index) x stack is = frame_there (sp + (code_of h a b.function).size) c more index x stack.2 is
 
@@ -79,37 +81,41 @@ module _ (h : HomedForm) (a : Arrangement) (e : EmittedForm) (addresses : ℕ �
 
 -- ---- Callers
 
-module _ (h : HomedForm) (a : Arrangement) (e : EmittedForm) (addresses : ℕ → ℕ) (m : Form) (s : State) (owners : m.owners ≡ e.owners) (outermost : slice_index e.owners 2 ≡ 0) where
+module _ (h : HomedForm) (a : Arrangement) (e : EmittedForm) (addresses : ℕ → ℕ) (m : Form) (s : State) (regions : s.map ≡ e.map) (owners : m.owners ≡ e.owners) (outermost : slice_index e.owners 2 ≡ 0) where
   -- the place of the word before one that stands in the code
-  owner_before : (index : ℕ) → index + 1 ≤ 262144 → place_before m (address_of (index + 1)) ≡ slice_index m.owners index
+  owner_before : (index : ℕ) → address_of (index + 1) < 4294967296 → place_before m (address_of (index + 1)) ≡ slice_index m.owners index
   owner_before index low =
       let at : word (address_of (index + 1) + 4294967292) ≡ address_of index = omega (arith, low) in
       let even : address_of index % 4 ≡ 0 = omega arith in
-      let test : (address_of index % 4 == 0 && nat_le 65536 (address_of index)) ≡ true = and_from (address_of index % 4 == 0) (nat_le 65536 (address_of index)) (eq-eqb (address_of index % 4) 0 even) (le-leb 65536 (address_of index) (omega arith)) in
-      let number : (address_of index - 65536) / 4 ≡ index = omega arith in
-      ap (owner_of m) at ∙ ap (λ b. if b then slice_index m.owners ((address_of index - 65536) / 4) else 0) test ∙ ap (slice_index m.owners) number
+      let test : (address_of index % 4 == 0 && nat_le code_start (address_of index)) ≡ true = and_from (address_of index % 4 == 0) (nat_le code_start (address_of index)) (eq-eqb (address_of index % 4) 0 even) (le-leb code_start (address_of index) (omega arith)) in
+      let number : (address_of index - code_start) / 4 ≡ index = omega arith in
+      ap (owner_of m) at ∙ ap (λ b. if b then slice_index m.owners ((address_of index - code_start) / 4) else 0) test ∙ ap (slice_index m.owners) number
 
   -- the place to which an activation returns
-  calls_from : (sp : ℕ) (b : Activation) (index : ℕ) → IsFrame (code_of h a b.function) addresses sp b → word_at (memory_of s.bytes s.stack) sp ≡ address_of (index + 1) → index + 1 ≤ 262144 → calling_place m s sp ≡ slice_index m.owners index
+  calls_from : (sp : ℕ) (b : Activation) (index : ℕ) → IsFrame e.map (code_of h a b.function) addresses sp b → word_at (memory_of s.map s.bytes s.stack) sp ≡ address_of (index + 1) → address_of (index + 1) < 4294967296 → calling_place m s sp ≡ slice_index m.owners index
   calls_from sp b index frame returns low =
-      let least = frame.low in let most = frame.high in let even = frame.aligned in
-      let some = frame_some h a e addresses (memory_of s.bytes s.stack) b.function in
-      let below : is_stack_address sp ≡ true = and_from (nat_le 16777216 sp) (nat_lt sp 33554432) (le-leb 16777216 sp least) (lt-ltb sp 33554432 (omega (arith, most, some))) in
+      let own : IsFrame s.map (code_of h a b.function) addresses sp b = subst (λ r. IsFrame r (code_of h a b.function) addresses sp b) (sym regions) frame in
+      let least = own.low in let most = own.high in let even = own.aligned in
+      let some = frame_some h a e addresses (memory_of s.map s.bytes s.stack) b.function in
+      let below : is_stack_address s sp ≡ true = and_from (nat_le (stack_start s.map) sp) (nat_lt sp (stack_end s.map)) (le-leb (stack_start s.map) sp least) (lt-ltb sp (stack_end s.map) (omega (arith, most, some))) in
       let four : sp % 4 ≡ 0 = omega (arith, even) in
-      let test : (is_stack_address sp && sp % 4 == 0) ≡ true = and_from (is_stack_address sp) (sp % 4 == 0) below (eq-eqb (sp % 4) 0 four) in
+      let test : (is_stack_address s sp && sp % 4 == 0) ≡ true = and_from (is_stack_address s sp) (sp % 4 == 0) below (eq-eqb (sp % 4) 0 four) in
       ap (λ b. if b then place_before m (return_address s sp) else 0) test ∙ ap (place_before m) (stack_word_is s sp least ∙ returns) ∙ owner_before index low
 
   -- A debugger finds the activations that wait, one from the other.
-  pub callers_found : (sp : ℕ) (b : Activation) (more : List Activation) → IsStack e (code_of h a) addresses (memory_of s.bytes s.stack) sp b more → AllByRecursion (IsPlaced h a m) (b ∷ more)
+  pub callers_found : (sp : ℕ) (b : Activation) (more : List Activation) → IsStack e (code_of h a) addresses (memory_of s.map s.bytes s.stack) sp b more → AllByRecursion (IsPlaced h a m) (b ∷ more)
       → AreCallers m s (standing_of sp b) (standings (code_of h a) (sp + (code_of h a b.function).size) more)
   callers_found sp b [] stack placed = calls_from sp b 2 stack.0 stack.1 (omega arith) ∙ ap (λ l. slice_index l 2) owners ∙ outermost
   callers_found sp b (c ∷ more) stack placed =
       let returns = stack.1 in
-      let next = first_frame h a e addresses (memory_of s.bytes s.stack) (sp + (code_of h a b.function).size) c more stack.2 in
-      let high = next.high in (
-        calls_from sp b returns.index stack.0 returns.is returns.low ∙ ap (λ l. slice_index l returns.index) owners ∙ returns.owned,
+      let few = code_few e.map (returns.index + 1) returns.low in
+      let fits : address_of (returns.index + 1) < 4294967296 = omega (arith, few) in
+      let next = first_frame h a e addresses (memory_of s.map s.bytes s.stack) (sp + (code_of h a b.function).size) c more stack.2 in
+      let high = next.high in
+      let whole = (map_facts e.map).whole in (
+        calls_from sp b returns.index stack.0 returns.is fits ∙ ap (λ l. slice_index l returns.index) owners ∙ returns.owned,
         placed.1.0.some,
         ap (λ k. sp + k) (sym placed.0.frame),
-        omega (arith, high),
+        omega (arith, high, whole),
         callers_found (sp + (code_of h a b.function).size) c more stack.2 placed.1,
       )

@@ -1,5 +1,5 @@
 -- The functions of tables keep their rules.
-use Rattle.std.proofs.Common.{◌≡◌, ℕ, suc, ◌+◌, ◌≤◌, ◌<◌, inl, inr, Some, List, length, slice_get, sym, ap, ◌∙◌, arith}
+use Rattle.std.proofs.Common.{◌≡◌, ℕ, suc, ◌+◌, ◌≤◌, ◌<◌, inl, inr, Some, List, length, slice_get, refl, sym, ap, ◌∙◌, subst, arith}
 use Rattle.std.proofs.lemmas.Bool.{cases_lt}
 use Rattle.std.proofs.lemmas.List.{length-map}
 use Rattle.std.proofs.lemmas.Option.{same_Some, slice_get_within}
@@ -16,8 +16,9 @@ use Rattle.rv_emit_runs.specs.Laid.{code_of}
 use Rattle.rv_emit_runs.proofs.Frames.{laid_out}
 use Rattle.image_form.specs.Form.{Form}
 use Rattle.image_form.specs.RulesOfFunctions.{FunctionRules, IsFunction, code_start}
+use Rattle.image_form.specs.Masks.{mask_of, masked}
 use Rattle.image_form.specs.declared.tables.Function.{Function}
-use Rattle.image_build_tables.specs.Spans.{Span, code_span, span}
+use Rattle.image_build_tables.specs.Spans.{Span, code_span, saved, span}
 use Rattle.image_build_tables.specs.Variables.{counted, entry, length_of_name, name_length}
 use Rattle.image_build_tables.specs.Tables.{spot, spot_of_row}
 use Rattle.image_truth_units.specs.Tables.{entry_number, entry_place}
@@ -89,6 +90,10 @@ module _ (p : ProgramTree) (h : HomedForm) (e : EmittedForm) (rows : List PlaceR
         frame_is = sym (ap (λ (s : Span). s.frame) c.2);
       }
 
+  -- no register is told of that it saves
+  none_saved : (k : ℕ) (g : Function) → slice_get m.functions k ≡ Some g → g.saved ≡ 0
+  none_saved k g is = sym (across saved (λ (f : TypedFunctionTree). 0) m.functions p.functions k g given.tables.saved is).2
+
   is_function : (k : ℕ) (g : Function) → slice_get m.functions k ≡ Some g → IsFunction m g
   unfolding code_start
   is_function k g is =
@@ -112,6 +117,7 @@ module _ (p : ProgramTree) (h : HomedForm) (e : EmittedForm) (rows : List PlaceR
       let low = slice_get_within (places_of_program p) entry.index (entry_of k made.tree) entry.is in
       let entry_is = made.entry_is in
       let number_is = made.number_is in
+      let empty : 0 ≡ mask_of (masked 0) = refl in
       record {
         named = omega (arith, name_is, some, short);
         short_name = omega (arith, name_is, some, short);
@@ -122,6 +128,7 @@ module _ (p : ProgramTree) (h : HomedForm) (e : EmittedForm) (rows : List PlaceR
         frame_aligned = omega (arith, frame, size);
         frame_some = omega (arith, frame, size);
         frame_small = omega (arith, frame, small);
+        saves_homes = subst (λ n. n ≡ mask_of (masked n)) (sym (none_saved k g is)) empty;
         entry_is_place = (omega (arith, entry_is, number_is, number), omega (arith, entry_is, number_is, number, low, places_many));
       }
 
@@ -151,4 +158,5 @@ module _ (p : ProgramTree) (h : HomedForm) (e : EmittedForm) (rows : List PlaceR
         let first_is = two.first_is in
         omega (arith, less, end_is, first_is));
     entries_ascend = next_from (λ (x y : Function). x.entry < y.entry) m.functions ascending;
+    none_saved = λ untold. all_from (λ (g : Function). g.saved ≡ 0) m.functions none_saved;
   }

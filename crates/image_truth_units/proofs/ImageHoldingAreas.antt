@@ -18,6 +18,11 @@ use Rattle.graph_core.specs.Runs.{Activation}
 use Rattle.graph_core.specs.Validity.{IsValid, taken_by, total}
 use Rattle.graph_homes.specs.Homed.{HomedForm, HaveHomes}
 use Rattle.graph_homes.specs.Statics.{statics_start, static_sizes, static_at}
+use Rattle.memory_map.specs.Maps.{bytes_end, bytes_start, stack_end, stack_start}
+use Rattle.memory_map.proofs.Facts.{map_facts}
+use Rattle.rv_emit_storage.specs.UnitMaps.{map_of_unit}
+use Rattle.rv_emit_storage.proofs.UnitMaps.{statics_begin}
+use Rattle.rv_emit_steps.specs.Meaning.{IsInMemory as LiesIn}
 use Rattle.rv_emit_tables.specs.Emitted.{EmittedForm}
 use Rattle.rv_emit_storage.specs.Storages.{object_at}
 use Rattle.rv_emit_runs.specs.Waiting.{bytes_in}
@@ -34,27 +39,22 @@ use Rattle.image_truth_units.proofs.Frames.{start_of, ends_before, from_standing
 
 -- ---- Static memory
 
-start_is : statics_start ≡ 4194304
-unfolding statics_start
-start_is = refl
-
 module _ (u : UnitForm) (valid : IsValid u) where
-  fits : statics_start + total taken_by (static_sizes u) ≤ 5242880
+  fits : bytes_start (map_of_unit u) + total taken_by (static_sizes u) ≤ bytes_end (map_of_unit u)
   fits =
       let all = total_both static_bytes (λ (b : List ℕ). length b) u.statics u.array_bytes in
       let few = valid.statics in
-      let start = start_is in
-      omega (arith, all, few, start)
+      omega (arith, all, few)
 
   sized : (n : ℕ) (o : StaticObject) → slice_get u.statics n ≡ Some o → slice_get (static_sizes u) n ≡ Some (static_bytes o)
   sized n o is = front_at (map static_bytes u.statics) (map (λ (b : List ℕ). length b) u.array_bytes) n (static_bytes o) (map_at static_bytes u.statics n o is)
 
   -- a static object lies in static memory
-  pub static_inside : (n : ℕ) (o : StaticObject) → slice_get u.statics n ≡ Some o → (4194304 ≤ static_at u n) × (static_at u n + static_bytes o + 4 ≤ 5242880)
+  pub static_inside : (n : ℕ) (o : StaticObject) → slice_get u.statics n ≡ Some o → (bytes_start (map_of_unit u) ≤ static_at u n) × (static_at u n + static_bytes o + 4 ≤ bytes_end (map_of_unit u))
   static_inside n o is =
       let lies = lies_among (static_sizes u) statics_start n (static_bytes o) (sized n o is) in
-      let start = start_is in let most = fits in let low = lies.low in let high = lies.high in
-      (omega (arith, low, start), omega (arith, high, most))
+      let start = statics_begin u in let most = fits in let low = lies.low in let high = lies.high in
+      (omega (arith, low, start), omega (arith, high, start, most))
 
   -- and ends before the next one
   pub static_before : (k n : ℕ) (o w : StaticObject) → k < n → slice_get u.statics k ≡ Some o → slice_get u.statics n ≡ Some w → static_at u k + static_bytes o < static_at u n
@@ -64,7 +64,7 @@ module _ (u : UnitForm) (valid : IsValid u) where
 
 -- ---- Areas
 
-module _ (p : ProgramTree) (h : HomedForm) (valid : IsValid h.unit) (homed : HaveHomes h) (a : Arrangement) (m : Form) (e : EmittedForm) (addresses memory : ℕ → ℕ) (count : length h.unit.statics ≡ static_count p) (keeps : KeepsObjectsOf h a m) (sp : ℕ) (b : Activation) (more : List Activation)
+module _ (p : ProgramTree) (h : HomedForm) (valid : IsValid h.unit) (homed : HaveHomes h) (a : Arrangement) (m : Form) (e : EmittedForm) (regions : e.map ≡ map_of_unit h.unit) (addresses memory : ℕ → ℕ) (count : length h.unit.statics ≡ static_count p) (keeps : KeepsObjectsOf h a m) (sp : ℕ) (b : Activation) (more : List Activation)
     (stack : IsStack e (code_of h a) addresses memory sp b more) (placed : AllByRecursion (IsPlaced h a m) (b ∷ more)) where
   -- an area of static storage is that of a static object of the unit
   record IsStaticOne (number start bytes : ℕ) : Type 0 where
@@ -138,9 +138,9 @@ module _ (p : ProgramTree) (h : HomedForm) (valid : IsValid h.unit) (homed : Hav
   -- the parts of a frame lie in it, with a word behind each
   record IsInFrame (x : Activation) (index place : ℕ) (o : MemoryObject) : Type 0 where
     pub low : start_of (code_of h a) sp (b ∷ more) index ≤ start_of (code_of h a) sp (b ∷ more) index + object_at (code_of h a x.function).storage place
-    pub least : 16777216 ≤ start_of (code_of h a) sp (b ∷ more) index
+    pub least : stack_start e.map ≤ start_of (code_of h a) sp (b ∷ more) index
     pub high : start_of (code_of h a) sp (b ∷ more) index + object_at (code_of h a x.function).storage place + bytes_in o + 4 ≤ start_of (code_of h a) sp (b ∷ more) index + (code_of h a x.function).size
-    pub most : start_of (code_of h a) sp (b ∷ more) index + (code_of h a x.function).size ≤ 33554432
+    pub most : start_of (code_of h a) sp (b ∷ more) index + (code_of h a x.function).size ≤ stack_end e.map
 
   in_frame : (x : Activation) (index place : ℕ) (o : MemoryObject) → slice_get (b ∷ more) index ≡ Some x → slice_get (code_of h a x.function).graph.objects place ≡ Some o → IsInFrame x index place o
   in_frame x index place o at is =
@@ -150,14 +150,15 @@ module _ (p : ProgramTree) (h : HomedForm) (valid : IsValid h.unit) (homed : Hav
       let high = lies.high in
       record { low = omega arith; least = frame.low; high = omega (arith, high); most = frame.high }
 
-  static_inside_memory : (number start bytes : ℕ) → IsStaticArea m number start bytes → (4194304 ≤ start) × (start + bytes + 4 ≤ 5242880)
+  static_inside_memory : (number start bytes : ℕ) → IsStaticArea m number start bytes → (bytes_start e.map ≤ start) × (start + bytes + 4 ≤ bytes_end e.map)
   static_inside_memory number start bytes area =
       let one = static_one number start bytes area in
       let lies = static_inside h.unit valid number one.object one.is in
       let begins = one.begins in let size = one.size in let low = lies.0 in let high = lies.1 in
-      (omega (arith, begins, low), omega (arith, begins, size, high))
+      let from = ap bytes_start regions in
+      (omega (arith, begins, low, from), omega (arith, begins, size, high, from))
 
-  frame_inside_memory : (number depth start bytes : ℕ) → IsFrameArea m (standings (code_of h a) sp (b ∷ more)) number depth start bytes → (16777216 ≤ start) × (start + bytes + 4 ≤ 33554432)
+  frame_inside_memory : (number depth start bytes : ℕ) → IsFrameArea m (standings (code_of h a) sp (b ∷ more)) number depth start bytes → (stack_start e.map ≤ start) × (start + bytes + 4 ≤ stack_end e.map)
   frame_inside_memory number depth start bytes area =
       let one = frame_one number depth start bytes area in
       let lies = in_frame one.activation one.index one.place one.object one.at one.is in
@@ -165,7 +166,7 @@ module _ (p : ProgramTree) (h : HomedForm) (valid : IsValid h.unit) (homed : Hav
       (omega (arith, begins, least, low), omega (arith, begins, size, high, most))
 
   -- An area lies in static memory or in the stack, with a word behind it.
-  pub area_inside : (o : Owner) (start bytes : ℕ) → IsArea p m (standings (code_of h a) sp (b ∷ more)) o start bytes → ((4194304 ≤ start) × (start + bytes + 4 ≤ 5242880)) ⊎ ((16777216 ≤ start) × (start + bytes + 4 ≤ 33554432))
+  pub area_inside : (o : Owner) (start bytes : ℕ) → IsArea p m (standings (code_of h a) sp (b ∷ more)) o start bytes → LiesIn e.map start bytes
   area_inside (Static n) start bytes area = inl (static_inside_memory n start bytes area.1)
   area_inside (Literal n) start bytes area = inl (static_inside_memory (length p.statics + n) start bytes area.1)
   area_inside (OfVariable x depth) start bytes area = inr (frame_inside_memory (automatic_number p x) depth start bytes area)
@@ -191,7 +192,8 @@ module _ (p : ProgramTree) (h : HomedForm) (valid : IsValid h.unit) (homed : Hav
       let one = static_inside_memory i start bytes first in
       let two = frame_inside_memory number depth other its second in
       let high = one.1 in let low = two.0 in
-      omega (arith, high, low)
+      let apart = (map_facts e.map).apart in
+      omega (arith, high, low, apart)
 
   -- two objects of activations
   inner_below : (one_index two_index one_place two_place start other bytes : ℕ) (x y : Activation) (o w : MemoryObject) → one_index < two_index → slice_get (b ∷ more) one_index ≡ Some x → slice_get (b ∷ more) two_index ≡ Some y

@@ -58,6 +58,8 @@ tables_keep p h e rows m given spots places variables every steps steps_order as
   flow = flow_rules p h e rows m given steps steps_order;
   assigned = assigned_rules p h e rows m given assignments assignments_order;
   rows = row_rules;
+  calls = record { none = λ untold. given.tables.calls };
+  members = record { none = λ untold. given.tables.members; structures = λ untold. given.tables.members };
   nodes = node_rules;
   names = name_rules p h e rows m given unchanged;
 }

@@ -12,7 +12,8 @@ use Rattle.graph_core.specs.Memory.{static_bytes}
 use Rattle.graph_core.specs.Paths.{Among, front, behind}
 use Rattle.graph_core.specs.Validity.{taken_by, total}
 use Rattle.graph_homes.specs.Homed.{HomedForm}
-use Rattle.graph_homes.specs.Statics.{addresses_from, static_sizes}
+use Rattle.graph_homes.specs.Statics.{addresses_from, static_at, static_sizes, statics_start}
+use Rattle.memory_map.specs.Maps.{bytes_size}
 use Rattle.rv_emit_tables.specs.Emitted.{EmittedForm, FunctionCode}
 use Rattle.image_form.specs.declared.variables.Storage.{Storage}
 use Rattle.image_form.specs.declared.variables.Storage.TheVariants as storage
@@ -50,11 +51,11 @@ put_kept P (k ∷ more) table keeping at each (behind among) is = put_kept P mor
 abbrev pub IsSome : Storage → Type 0
 IsSome at = storage.Static 0 ≢ at
 
-statics_some : (number : ℕ) (addresses : List ℕ) → AllByRecursion (λ a. 4194304 ≤ a) addresses → AllByRecursion (λ (k : Keeping). IsSome k.storage) (statics_kept number addresses)
+statics_some : (number : ℕ) (addresses : List ℕ) → AllByRecursion (λ a. 1 ≤ a) addresses → AllByRecursion (λ (k : Keeping). IsSome k.storage) (statics_kept number addresses)
 statics_some number [] each = tt
 statics_some number (a ∷ more) each = ((λ wrong. no_address a each.0 wrong), statics_some (number + 1) more each.1)
   where
-    no_address : (a : ℕ) → 4194304 ≤ a → storage.Static 0 ≡ storage.Static a → ⊥
+    no_address : (a : ℕ) → 1 ≤ a → storage.Static 0 ≡ storage.Static a → ⊥
     no_address a low wrong = let zero_is : 0 ≡ a = cc in absurd (omega (arith, low, zero_is))
 
 home_some : (slots : ℕ) (home : Home) → IsSome (storage_of slots home)
@@ -82,7 +83,7 @@ functions_some (g ∷ graphs) (c ∷ codes) (homes ∷ all) =
     both_kinds (λ (k : Keeping). IsSome k.storage) (scalars_kept c.slots g.scalars homes) (objects_kept g.objects c.objects ++ functions_kept graphs codes all) (scalars_some c.slots g.scalars homes)
     (both_kinds (λ (k : Keeping). IsSome k.storage) (objects_kept g.objects c.objects) (functions_kept graphs codes all) (objects_some g.objects c.objects) (functions_some graphs codes all))
 
-pub keepings_some : (h : HomedForm) (e : EmittedForm) → AllByRecursion (λ a. 4194304 ≤ a) e.statics → AllByRecursion (λ (k : Keeping). IsSome k.storage) (keepings_of h e)
+pub keepings_some : (h : HomedForm) (e : EmittedForm) → AllByRecursion (λ a. 1 ≤ a) e.statics → AllByRecursion (λ (k : Keeping). IsSome k.storage) (keepings_of h e)
 keepings_some h e each = both_kinds (λ (k : Keeping). IsSome k.storage) (statics_kept 0 e.statics) (functions_kept h.unit.graphs e.functions h.homes) (statics_some 0 e.statics each) (functions_some h.unit.graphs e.functions h.homes)
 
 -- ---- What is put
@@ -148,7 +149,7 @@ put_object h e f k g c homes o is at of fits there =
     put_right (statics_kept 0 e.statics) (functions_kept h.unit.graphs e.functions h.homes) o.var.0 (function_put h.unit.graphs e.functions h.homes f g c homes o.var.0 is at of (inr (object_put g.objects c.objects k o fits there)))
 
 -- What is kept of a variable that is put is not the address 0.
-pub kept_some : (h : HomedForm) (e : EmittedForm) (many number : ℕ) (at : Storage) → AllByRecursion (λ a. 4194304 ≤ a) e.statics → IsPutAt (keepings_of h e) number → slice_get (storages_of h e many) number ≡ Some at → IsSome at
+pub kept_some : (h : HomedForm) (e : EmittedForm) (many number : ℕ) (at : Storage) → AllByRecursion (λ a. 1 ≤ a) e.statics → IsPutAt (keepings_of h e) number → slice_get (storages_of h e many) number ≡ Some at → IsSome at
 kept_some h e many number at each put is =
     put_kept IsSome (keepings_of h e) (replicate many (storage.Static 0)) put.keeping at (keepings_some h e each) put.among (ap (slice_get (storages_of h e many)) put.variable ∙ is)
 
@@ -172,11 +173,11 @@ total_map f (x ∷ xs) = ap (λ n. taken_by (f x) + n) (total_map f xs)
 
 -- Addresses of static objects lie within static memory.
 pub static_within : (u : UnitForm) (n : ℕ) → n < length u.statics → total (λ (o : StaticObject). taken_by (static_bytes o)) u.statics + total (λ (b : List ℕ). taken_by (length b)) u.array_bytes ≤ 1048576
-    → (4194304 ≤ slice_index (addresses_from 4194304 (static_sizes u)) n) × (slice_index (addresses_from 4194304 (static_sizes u)) n + 4 ≤ 5242880)
+    → (statics_start ≤ static_at u n) × (static_at u n + 4 ≤ statics_start + bytes_size)
 static_within u n low most =
     let sum = length-append (map static_bytes u.statics) (map (λ (b : List ℕ). length b) u.array_bytes) in
     let many = length-map u.statics static_bytes in
-    let r = address_within 4194304 (static_sizes u) n (omega (arith, low, sum, many)) in
+    let r = address_within statics_start (static_sizes u) n (omega (arith, low, sum, many)) in
     let all = total_both (map static_bytes u.statics) (map (λ (b : List ℕ). length b) u.array_bytes) in
     let one = total_map static_bytes u.statics in
     let two = total_map (λ (b : List ℕ). length b) u.array_bytes in

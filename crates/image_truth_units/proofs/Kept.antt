@@ -12,6 +12,7 @@ use Rattle.rv_emit_tables.specs.Emitted.{EmittedForm, FunctionCode}
 use Rattle.image_form.specs.Form.{Form}
 use Rattle.image_form.specs.Rules.{IsImage}
 use Rattle.image_form.specs.RulesOfVariables.{IsVariable, IsKept, IsKeptStatically, IsKeptInFunction, static_start}
+use Rattle.memory_map.proofs.Facts.{map_facts}
 use Rattle.image_form.specs.declared.variables.Storage.{Storage}
 use Rattle.image_form.specs.declared.variables.Storage.TheVariants as kept
 use Rattle.image_form.specs.declared.variables.Variable.{Variable}
@@ -23,14 +24,17 @@ use Rattle.image_truth_units.proofs.Areas.{there}
 use Rattle.image_truth_units.proofs.Storages.{IsKeptBy, static, scalar, object, nowhere, kept_by}
 use Rattle.image_truth_units.proofs.Tables.{map_at, all_at, past_literals, owner_at, owned_behind, fixed_before}
 
-no_static_address : IsKeptStatically (kept.Static 0) → ⊥
+no_static_address : (m : Form) → IsKeptStatically m (kept.Static 0) → ⊥
 unfolding static_start
-no_static_address rule = let low = rule.0 in omega (arith, low)
+no_static_address m rule =
+    let low = rule.0 in
+    let some = (map_facts m.version.map).low in
+    omega (arith, low, some)
 
 -- a home is no address and no object of a frame
-no_home_static : (slots : ℕ) (home : Home) (at : Storage) → storage_of slots home ≡ at → IsKeptStatically at → ⊥
-no_home_static slots (Register r) at same rule = subst IsKeptStatically (sym same) rule
-no_home_static slots (Slot k) at same rule = subst IsKeptStatically (sym same) rule
+no_home_static : (m : Form) (slots : ℕ) (home : Home) (at : Storage) → storage_of slots home ≡ at → IsKeptStatically m at → ⊥
+no_home_static m slots (Register r) at same rule = subst (IsKeptStatically m) (sym same) rule
+no_home_static m slots (Slot k) at same rule = subst (IsKeptStatically m) (sym same) rule
 
 no_home_frame : (slots offset : ℕ) (home : Home) → storage_of slots home ≡ kept.Frame offset → ⊥
 no_home_frame slots offset (Register r) same = cc
@@ -70,18 +74,18 @@ module _ (p : ProgramTree) (m : Form) (functions : map name_length m.functions �
       let all = all_there in
       let v = there m.variables number (omega (arith, low, all)) in
       let none = no_owner v.0 v.1 v.0.function refl in
-      let rule : IsKeptStatically v.0.storage = subst (λ o. IsKept m o v.0.storage) none (rule_of number v.0 v.1) in
+      let rule : IsKeptStatically m v.0.storage = subst (λ o. IsKept m o v.0.storage) none (rule_of number v.0 v.1) in
       by_kept v.0 v.1 none rule (kept_at number v.0 v.1)
     where
       no_owner : (v : Variable) → slice_get m.variables number ≡ Some v → (o : Option ℕ) → v.function ≡ o → v.function ≡ None
       no_owner v is None e = e
       no_owner v is (Some f) e = absurd (let behind = owned_behind p m functions variables owners more names rules number f v is e in omega (arith, behind, low))
 
-      by_kept : (v : Variable) → slice_get m.variables number ≡ Some v → v.function ≡ None → IsKeptStatically v.storage → IsKeptBy h e number v.storage → IsFixed number
+      by_kept : (v : Variable) → slice_get m.variables number ≡ Some v → v.function ≡ None → IsKeptStatically m v.storage → IsKeptBy h e number v.storage → IsFixed number
       by_kept v is none rule (static address at same) = record { variable = v; is = is; owner_is = none; address = address; there_is = at; storage_is = sym same }
-      by_kept v is none rule (scalar of) = absurd (no_home_static of.code.slots of.home v.storage of.storage_is rule)
-      by_kept v is none rule (object of) = absurd (subst IsKeptStatically (sym of.storage_is) rule)
-      by_kept v is none rule (nowhere same) = absurd (no_static_address (subst IsKeptStatically (sym same) rule))
+      by_kept v is none rule (scalar of) = absurd (no_home_static m of.code.slots of.home v.storage of.storage_is rule)
+      by_kept v is none rule (object of) = absurd (subst (IsKeptStatically m) (sym of.storage_is) rule)
+      by_kept v is none rule (nowhere same) = absurd (no_static_address m (subst (IsKeptStatically m) (sym same) rule))
 
   -- ---- Automatic variables
 

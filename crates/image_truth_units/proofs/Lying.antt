@@ -5,7 +5,9 @@ use Rattle.std.proofs.lemmas.Bool.{cases_lt}
 use Rattle.std.proofs.lemmas.List.{length-append, length-map}
 use Rattle.std.proofs.lemmas.Option.{none-some, same_Some, slice_get_within}
 use Rattle.rv_code.specs.declared.instruction.Instruction.{Instruction}
-use Rattle.graph_core.specs.Graphs.{Binding, Graph}
+use Rattle.memory_map.specs.Maps.{most_words}
+use Rattle.memory_map.proofs.Facts.{code_few, map_facts}
+use Rattle.graph_core.specs.Graphs.{Binding, Graph, UnitForm}
 use Rattle.graph_core.specs.Validity.{IsValid}
 use Rattle.graph_homes.specs.Homed.{HomedForm, homes_in}
 use Rattle.rv_emit_tables.specs.declared.emitted.PlacedStop.{PlacedStop}
@@ -20,12 +22,13 @@ use Rattle.rv_emit_code.specs.Beginning.{base_code, binding_code, entering_code,
 use Rattle.rv_emit_code.specs.Blocks.{no_code}
 use Rattle.rv_emit_sequence.specs.Sequences.{Ground, all_pieces, counted, first_pieces, last_pieces, IsSequenceOf}
 use Rattle.rv_emit_layout.specs.declared.layout.OwnedWord.{OwnedWord}
-use Rattle.rv_emit_layout.specs.Layouts.{Lying, function_words, layout_of, lying, owned_words, piece_code, words_before, words_from}
+use Rattle.rv_emit_layout.specs.Layouts.{Lying, function_words, layout_of, lying, most_pieces, owned_words, piece_code, words_before, words_from}
 use Rattle.rv_emit_layout.specs.Tracing.{word_address}
 use Rattle.rv_emit_runs.specs.Laid.{program_of}
-use Rattle.rv_emit_layout.specs.Laid.{LaidForm, firsts_from, ground_for, parameters_in, stub_form, told_by, told_of_all, words_of_all, AreLaid, IsEmittedOf, StaticForm}
+use Rattle.rv_emit_layout.specs.Laid.{LaidForm, firsts_from, ground_for, parameters_in, stub_of, told_by, told_of_all, words_of_all, AreLaid, IsEmittedOf, StaticForm}
 use Rattle.rv_emit_runs.proofs.Functions.{AreLayouts, FunctionIn, function_count, pieces_few}
 use Rattle.rv_emit_runs.proofs.Grounds.{blocks_few}
+use Rattle.rv_emit_runs.proofs.Maps.{emitted_in_reach}
 use Rattle.rv_emit_runs.proofs.Owners.{AreOwned, first_owned}
 use Rattle.rv_emit_runs.proofs.Told.{told_there}
 use Rattle.rv_emit_runs.proofs.UnitPlaced.{HasCode, LaidAt, fits, found, laid_at, laid_count, stub_words, together}
@@ -113,21 +116,21 @@ told_count : (graphs : List Graph) (firsts : List ℕ) (f : ℕ) (all : List Lai
 told_count graphs firsts f [] = refl
 told_count graphs firsts f (l ∷ more) = let later = told_count graphs firsts (counted (f + 1)) more in omega (arith, later)
 
-word_at : (n : ℕ) → n ≤ 262144 → word_address n ≡ address_of_word n
+word_at : (n : ℕ) → n ≤ most_pieces → word_address n ≡ address_of_word n
 word_at n low = omega (arith, low)
 
 -- ---- What stands before all functions, and behind them
 
-stub_owned : (main : ℕ) (firsts : List ℕ) (rest : List OwnedWord) (i : ℕ) → i < 5 → slice_index (map owner_of (function_words (stub_form main) (layout_of (stub_form main)) 0 firsts ++ rest)) i ≡ 0
-stub_owned main firsts rest zero low = refl
-stub_owned main firsts rest (suc zero) low = refl
-stub_owned main firsts rest (suc (suc zero)) low = refl
-stub_owned main firsts rest (suc (suc (suc zero))) low = refl
-stub_owned main firsts rest (suc (suc (suc (suc zero)))) low = refl
-stub_owned main firsts rest (suc (suc (suc (suc (suc i))))) low = absurd (omega (arith, low))
+stub_owned : (u : UnitForm) (firsts : List ℕ) (rest : List OwnedWord) (i : ℕ) → i < 5 → slice_index (map owner_of (function_words (stub_of u) (layout_of (stub_of u)) 0 firsts ++ rest)) i ≡ 0
+stub_owned u firsts rest zero low = refl
+stub_owned u firsts rest (suc zero) low = refl
+stub_owned u firsts rest (suc (suc zero)) low = refl
+stub_owned u firsts rest (suc (suc (suc zero))) low = refl
+stub_owned u firsts rest (suc (suc (suc (suc zero)))) low = refl
+stub_owned u firsts rest (suc (suc (suc (suc (suc i))))) low = absurd (omega (arith, low))
 
-stub_count : (main : ℕ) (firsts : List ℕ) → length (function_words (stub_form main) (layout_of (stub_form main)) 0 firsts) ≡ 5
-stub_count main firsts = refl
+stub_count : (u : UnitForm) (firsts : List ℕ) → length (function_words (stub_of u) (layout_of (stub_of u)) 0 firsts) ≡ 5
+stub_count u firsts = refl
 
 beyond : (xs : List ℕ) (i : ℕ) → length xs ≤ i → slice_index xs i ≡ 0
 beyond [] i high = refl
@@ -150,13 +153,13 @@ record IsCovered (n : ℕ) (all : List LaidForm) (i : ℕ) : Type 0 where
   pub low : slice_index (firsts_from n all) number ≤ i
   pub high : i < slice_index (firsts_from n all) number + laid.layout.words
 
-covered : (firsts : List ℕ) (all : List LaidForm) (f n i : ℕ) → n + length (words_of_all firsts f all) ≤ 262144 → AreLayouts all → n ≤ i → i < n + length (words_of_all firsts f all) → IsCovered n all i
+covered : (firsts : List ℕ) (all : List LaidForm) (f n i : ℕ) → n + length (words_of_all firsts f all) ≤ most_pieces → AreLayouts all → n ≤ i → i < n + length (words_of_all firsts f all) → IsCovered n all i
 covered firsts [] f n i few layouts low high = absurd (omega (arith, low, high))
 covered firsts (x ∷ more) f n i few layouts low high =
     let words = function_words x.sequence x.layout (slice_index firsts f) firsts in
     let sum = length-append words (words_of_all firsts (counted (f + 1)) more) in
     let short : length x.sequence.pieces ≤ length words = pieces_few (lying x.sequence x.layout (slice_index firsts f) firsts) x.layout.far 0 x.sequence.pieces in
-    let pieces : length x.sequence.pieces ≤ 262144 = omega (arith, short, sum, few) in
+    let pieces : length x.sequence.pieces ≤ most_pieces = omega (arith, short, sum, few) in
     let size : length words ≡ words_before x.layout.far x.sequence.pieces (length x.sequence.pieces) = function_count x.sequence x.layout (slice_index firsts f) firsts pieces in
     let own : x.layout.words ≡ words_before x.layout.far x.sequence.pieces (length x.sequence.pieces) = (layouts.0 pieces).words in
     let next : counted (n + x.layout.words) ≡ n + x.layout.words = omega (arith, size, own, sum, few) in
@@ -170,7 +173,7 @@ covered firsts (x ∷ more) f n i few layouts low high =
 
 -- ---- All of it
 
-module _ (h : HomedForm) (valid : IsValid h.unit) (e : EmittedForm) (emitted : IsEmittedOf h e) (short : length e.code ≤ 262144) where
+module _ (h : HomedForm) (valid : IsValid h.unit) (e : EmittedForm) (emitted : IsEmittedOf h e) (short : length e.code ≤ most_words e.map) where
   few : length h.unit.graphs ≤ 4294967295
   few = let functions : length h.unit.graphs ≤ 256 = valid.functions in omega (arith, functions)
 
@@ -181,7 +184,7 @@ module _ (h : HomedForm) (valid : IsValid h.unit) (e : EmittedForm) (emitted : I
   firsts = emitted.coded.firsts
 
   has : HasCode (program_of e short) e.owners emitted.coded
-  has = record { words = emitted.words; own = emitted.owners; stops = ap (λ l. map (λ (x : PlacedStop). x.address) l) emitted.stops }
+  has = record { reach = emitted_in_reach h e emitted; words = emitted.words; own = emitted.owners; stops = ap (λ l. map (λ (x : PlacedStop). x.address) l) emitted.stops }
 
   count : length all ≡ length h.unit.graphs
   count = laid_count h emitted.statics 0 h.unit.graphs all emitted.code.laid
@@ -194,7 +197,7 @@ module _ (h : HomedForm) (valid : IsValid h.unit) (e : EmittedForm) (emitted : I
     pub laid : LaidForm
     pub there_is : slice_get all f ≡ Some laid
     pub told : told_by (slice_index firsts f) (parameters_in h.unit.graphs f) laid ≡ c
-    pub fit : Fits laid (slice_index firsts f)
+    pub fit : Fits e.map laid (slice_index firsts f)
 
   told_at : (f : ℕ) (c : FunctionCode) → slice_get e.functions f ≡ Some c → IsToldAt f c
   told_at f c is =
@@ -213,14 +216,16 @@ module _ (h : HomedForm) (valid : IsValid h.unit) (e : EmittedForm) (emitted : I
   first_is : (f : ℕ) (c : FunctionCode) → (t : IsToldAt f c) → c.first ≡ address_of_word (slice_index firsts f)
   first_is f c t =
       let low = t.fit.low in
-      sym (ap (λ (x : FunctionCode). x.first) t.told) ∙ word_at (slice_index firsts f) (omega (arith, low))
+      let most = (map_facts e.map).few in
+      sym (ap (λ (x : FunctionCode). x.first) t.told) ∙ word_at (slice_index firsts f) (omega (arith, low, most))
 
   end_is : (f : ℕ) (c : FunctionCode) → (t : IsToldAt f c) → c.end ≡ address_of_word (slice_index firsts f + t.laid.layout.words)
   end_is f c t =
       let low = t.fit.low in
       let words = t.fit.layout.words in
-      let next : counted (slice_index firsts f + t.laid.layout.words) ≡ slice_index firsts f + t.laid.layout.words = omega (arith, low, words) in
-      sym (ap (λ (x : FunctionCode). x.end) t.told) ∙ ap word_address next ∙ word_at (slice_index firsts f + t.laid.layout.words) (omega (arith, low, words))
+      let most = (map_facts e.map).few in
+      let next : counted (slice_index firsts f + t.laid.layout.words) ≡ slice_index firsts f + t.laid.layout.words = omega (arith, low, words, most) in
+      sym (ap (λ (x : FunctionCode). x.end) t.told) ∙ ap word_address next ∙ word_at (slice_index firsts f + t.laid.layout.words) (omega (arith, low, words, most))
 
   words_of : (f : ℕ) (l : LaidForm) → slice_get all f ≡ Some l → FunctionIn emitted.coded.words firsts f l
   words_of f l is = found h emitted.statics emitted.coded emitted.code (program_of e short) e.owners has few f l is
@@ -299,17 +304,18 @@ module _ (h : HomedForm) (valid : IsValid h.unit) (e : EmittedForm) (emitted : I
 
   is_covered : (i : ℕ) → slice_index e.owners i ≢ 0 → IsCovered 5 all i
   is_covered i some =
-      let front = function_words (stub_form h.unit.main) (layout_of (stub_form h.unit.main)) 0 firsts in
+      let front = function_words (stub_of h.unit) (layout_of (stub_of h.unit)) 0 firsts in
       let rest = words_of_all firsts 0 all in
       let owners : e.owners ≡ map owner_of (front ++ rest) = emitted.owners ∙ ap (map owner_of) emitted.code.words in
-      let five = stub_count h.unit.main firsts in
+      let five = stub_count h.unit firsts in
       let sum = length-append front rest in
       let words : length emitted.coded.words ≡ length (front ++ rest) = ap (λ (w : List OwnedWord). length w) emitted.code.words in
       let many : length (map owner_of (front ++ rest)) ≡ length (front ++ rest) = length-map (front ++ rest) owner_of in
+      let few_words = code_few e.map (length e.code) short in
       elim (cases_lt i 5) [
-        | inl low ↦ absurd (some (ap (λ l. slice_index l i) owners ∙ stub_owned h.unit.main firsts rest i low))
+        | inl low ↦ absurd (some (ap (λ l. slice_index l i) owners ∙ stub_owned h.unit firsts rest i low))
         | inr high ↦ elim (cases_lt i (length (front ++ rest))) [
-          | inl within ↦ covered firsts all 0 5 i (omega (arith, short, code_count, words, sum, five)) (layouts_of h emitted.statics 0 h.unit.graphs all emitted.code.laid) high (omega (arith, within, sum, five))
+          | inl within ↦ covered firsts all 0 5 i (omega (arith, few_words, code_count, words, sum, five)) (layouts_of h emitted.statics 0 h.unit.graphs all emitted.code.laid) high (omega (arith, within, sum, five))
           | inr out ↦ absurd (some (ap (λ l. slice_index l i) owners ∙ beyond (map owner_of (front ++ rest)) i (omega (arith, out, many))))
         ]
       ]
@@ -324,7 +330,7 @@ module _ (h : HomedForm) (valid : IsValid h.unit) (e : EmittedForm) (emitted : I
           let is : slice_get e.functions c.number ≡ Some code =
           ap (λ l. slice_get l c.number) emitted.functions ∙ told_there h.unit.graphs firsts all 0 c.number c.laid (omega (arith, few, count)) c.is ∙ ap (λ j. Some (told_by (slice_index firsts j) (parameters_in h.unit.graphs j) c.laid)) here in
           let t : IsToldAt c.number code = record { laid = c.laid; there_is = c.is; told = refl; fit = fits h emitted.statics emitted.coded emitted.code (program_of e short) e.owners has few c.number c.laid c.is } in
-          let begins : slice_index firsts c.number ≡ slice_index (firsts_from 5 all) c.number = ap (λ l. slice_index l c.number) (emitted.code.firsts ∙ ap (λ n. firsts_from n all) (stub_words h.unit.main)) in
+          let begins : slice_index firsts c.number ≡ slice_index (firsts_from 5 all) c.number = ap (λ l. slice_index l c.number) (emitted.code.firsts ∙ ap (λ n. firsts_from n all) (stub_words h.unit)) in
           let first = first_is c.number code t in
           let end = end_is c.number code t in
           let low = c.low in

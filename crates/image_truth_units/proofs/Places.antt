@@ -8,7 +8,7 @@ use Rattle.c_tree.specs.Programs.{ProgramTree}
 use Rattle.c_places.specs.Places.{Place, places_of_program}
 use Rattle.c_flow.specs.Rows.{Row, row_of, row_view}
 use Rattle.graph_homes.specs.Homed.{HomedForm}
-use Rattle.rv_emit_tables.specs.Emitted.{EmittedForm, FunctionCode}
+use Rattle.rv_emit_tables.specs.Emitted.{EmittedForm, FunctionCode, address_of_word}
 use Rattle.image_form.specs.Form.{Form, numbered}
 use Rattle.image_form.specs.RulesOfFunctions.{code_start}
 use Rattle.image_form.specs.RulesOfPlaces.{IsInFunction, IsOwner, IsPlace, OwnerRules, PlaceRules, word_address}
@@ -63,12 +63,12 @@ module _ (p : ProgramTree) (h : HomedForm) (e : EmittedForm) (rows : List PlaceR
   word_of i x is = let seen = seen_at i x is in has_word p h e rows m given unit i seen.at x seen.is is
 
   -- A word of the code of a function lies in what the tables say of it.
-  in_function : (k word : ℕ) (c : FunctionCode) → slice_get e.functions k ≡ Some c → c.first ≤ 65536 + 4 * word → 65536 + 4 * word < c.end → IsInFunction m k (65536 + 4 * word)
+  in_function : (k word : ℕ) (c : FunctionCode) → slice_get e.functions k ≡ Some c → c.first ≤ address_of_word word → address_of_word word < c.end → IsInFunction m k (address_of_word word)
   in_function k word c is low high =
       let f = across code_span span e.functions m.functions k c (sym given.tables.spans) is in
       let first = ap (λ (s : Span). s.first) f.2 in
       let end = ap (λ (s : Span). s.end) f.2 in
-      subst (λ o. IsSomeAnd o (λ (g : Function). (g.first ≤ 65536 + 4 * word) × (65536 + 4 * word < g.end))) (sym f.1) (omega (arith, first, low), omega (arith, end, high))
+      subst (λ o. IsSomeAnd o (λ (g : Function). (g.first ≤ address_of_word word) × (address_of_word word < g.end))) (sym f.1) (omega (arith, first, low), omega (arith, end, high))
 
   is_place : (i : ℕ) (x : ImagePlace) → slice_get m.places i ≡ Some x → IsPlace m x
   is_place i x is =
@@ -86,7 +86,7 @@ module _ (p : ProgramTree) (h : HomedForm) (e : EmittedForm) (rows : List PlaceR
       record {
         line_from_one = omega (arith, line_is, least);
         address_aligned = omega (arith, address_is);
-        in_function = subst (λ a. IsInFunction m x.function a) (sym address_is) (subst (λ k. IsInFunction m k (65536 + 4 * own.word)) function (in_function placed.at.function own.word placed.code placed.code_is placed.low placed.high));
+        in_function = subst (λ a. IsInFunction m x.function a) (sym address_is) (subst (λ k. IsInFunction m k (address_of_word own.word)) function (in_function placed.at.function own.word placed.code placed.code_is placed.low placed.high));
       }
 
   -- THE PLACES KEEP THEIR RULES.
@@ -133,7 +133,7 @@ module _ (p : ProgramTree) (h : HomedForm) (e : EmittedForm) (rows : List PlaceR
       let number = placed.number in
       let at : n ≡ suc placed.index = omega (arith, owns, number) in
       subst (λ o. IsSomeAnd o (λ (q : ImagePlace). IsInFunction m q.function (word_address w))) (sym (ap (numbered m.places) at ∙ x.1))
-      (subst (λ k. IsInFunction m k (65536 + 4 * w)) function (in_function placed.at.function w placed.code placed.code_is placed.low placed.high))
+      (subst (λ k. IsInFunction m k (address_of_word w)) function (in_function placed.at.function w placed.code placed.code_is placed.low placed.high))
 
   -- THE OWNERS OF WORDS KEEP THEIR RULES.
   pub owner_rules : OwnerRules m

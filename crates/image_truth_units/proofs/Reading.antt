@@ -2,6 +2,9 @@
 use Rattle.std.proofs.Common.{◌≡◌, ℕ, zero, suc, ◌+◌, ◌-◌, ◌*◌, ◌<◌, ◌≤◌, ◌⊎◌, inl, inr, sym, ap, ◌∙◌, arith, refl, length, true, false, Some}
 use Rattle.std.specs.Prelude.{slice_index, nat_lt}
 use Rattle.std.proofs.lemmas.Bool.{le-ltb, lt-ltb}
+use Rattle.memory_map.specs.declared.map.Map.{Map}
+use Rattle.memory_map.specs.Maps.{bytes_end, bytes_start, code_start, most_words, stack_end, stack_start}
+use Rattle.memory_map.proofs.Facts.{code_ends, map_facts}
 use Rattle.c_tree.specs.declared.types.IntegerType.{IntegerType}
 use Rattle.c_tree.specs.declared.types.IntegerType.TheVariants.{Char, SignedChar, UnsignedChar, Short, UnsignedShort, Int, UnsignedInt, Long, UnsignedLong}
 use Rattle.c_meaning_values.specs.Types.{size_by_stars}
@@ -15,56 +18,71 @@ use Rattle.rv_emit_steps.specs.Holding.{memory_of, half_at, word_at}
 use Rattle.rv_emit_steps.proofs.Bytes.{in_bytes, in_stack}
 use Rattle.rv_emit_steps.specs.Meaning.{bits_at}
 
-location_in_bytes : (s : State) (a : ℕ) → length s.code ≤ 262144 → 4194304 ≤ a → a < 5242880 → location_of s a ≡ Some (InBytes (a - 4194304))
+location_in_bytes : (s : State) (a : ℕ) → length s.code ≤ most_words s.map → bytes_start s.map ≤ a → a < bytes_end s.map → location_of s a ≡ Some (InBytes (a - bytes_start s.map))
 unfolding location_of
 location_in_bytes s a short low high =
-    let a1 : nat_lt a 65536 ≡ false = le-ltb a 65536 (omega arith) in
-    let a2 : nat_lt a (65536 + 4 * length s.code) ≡ false = le-ltb a (65536 + 4 * length s.code) (omega arith) in
-    let a3 : nat_lt a 4194304 ≡ false = le-ltb a 4194304 (omega arith) in
-    let a4 : nat_lt a 5242880 ≡ true = lt-ltb a 5242880 (omega arith) in
+    let ends = code_ends s.map (length s.code) short in
+    let a1 : nat_lt a code_start ≡ false = le-ltb a code_start (omega (arith, ends, low)) in
+    let a2 : nat_lt a (code_start + 4 * length s.code) ≡ false = le-ltb a (code_start + 4 * length s.code) (omega (arith, ends, low)) in
+    let a3 : nat_lt a (bytes_start s.map) ≡ false = le-ltb a (bytes_start s.map) low in
+    let a4 : nat_lt a (bytes_end s.map) ≡ true = lt-ltb a (bytes_end s.map) high in
     simp (a1, a2, a3, a4)
 
-location_in_stack : (s : State) (a : ℕ) → length s.code ≤ 262144 → 16777216 ≤ a → a < 33554432 → location_of s a ≡ Some (InStack (a - 16777216))
+location_in_stack : (s : State) (a : ℕ) → length s.code ≤ most_words s.map → stack_start s.map ≤ a → a < stack_end s.map → location_of s a ≡ Some (InStack (a - stack_start s.map))
 unfolding location_of
 location_in_stack s a short low high =
-    let a1 : nat_lt a 65536 ≡ false = le-ltb a 65536 (omega arith) in
-    let a2 : nat_lt a (65536 + 4 * length s.code) ≡ false = le-ltb a (65536 + 4 * length s.code) (omega arith) in
-    let a3 : nat_lt a 4194304 ≡ false = le-ltb a 4194304 (omega arith) in
-    let a4 : nat_lt a 5242880 ≡ false = le-ltb a 5242880 (omega arith) in
-    let a5 : nat_lt a 16777216 ≡ false = le-ltb a 16777216 (omega arith) in
-    let a6 : nat_lt a 33554432 ≡ true = lt-ltb a 33554432 (omega arith) in
+    let ends = code_ends s.map (length s.code) short in
+    let apart = (map_facts s.map).apart in
+    let a1 : nat_lt a code_start ≡ false = le-ltb a code_start (omega (arith, ends, apart, low)) in
+    let a2 : nat_lt a (code_start + 4 * length s.code) ≡ false = le-ltb a (code_start + 4 * length s.code) (omega (arith, ends, apart, low)) in
+    let a3 : nat_lt a (bytes_start s.map) ≡ false = le-ltb a (bytes_start s.map) (omega (arith, apart, low)) in
+    let a4 : nat_lt a (bytes_end s.map) ≡ false = le-ltb a (bytes_end s.map) (omega (arith, apart, low)) in
+    let a5 : nat_lt a (stack_start s.map) ≡ false = le-ltb a (stack_start s.map) low in
+    let a6 : nat_lt a (stack_end s.map) ≡ true = lt-ltb a (stack_end s.map) high in
     simp (a1, a2, a3, a4, a5, a6)
 
 -- so many bytes from an address on lie in static memory, or in the stack
-abbrev pub AreInside : (address bytes : ℕ) → Type 0
-AreInside a n = ((4194304 ≤ a) × (a + n ≤ 5242880)) ⊎ ((16777216 ≤ a) × (a + n ≤ 33554432))
+abbrev pub AreInside : (regions : Map) → (address bytes : ℕ) → Type 0
+AreInside m a n = ((bytes_start m ≤ a) × (a + n ≤ bytes_end m)) ⊎ ((stack_start m ≤ a) × (a + n ≤ stack_end m))
+
+-- they end at an address of 32 bits
+inside_fits : (m : Map) (a n : ℕ) → AreInside m a n → a + n < 4294967296
+inside_fits m a n (inl (low, high)) = let apart = (map_facts m).apart in let whole = (map_facts m).whole in omega (arith, high, apart, whole)
+inside_fits m a n (inr (low, high)) = let whole = (map_facts m).whole in omega (arith, high, whole)
+
+-- a part of them lies there too
+part_inside : (m : Map) (a n k : ℕ) → AreInside m a n → k < n → AreInside m (a + k) 1
+part_inside m a n k (inl (low, high)) lt = inl (omega (arith, low), omega (arith, high, lt))
+part_inside m a n k (inr (low, high)) lt = inr (omega (arith, low), omega (arith, high, lt))
 
 -- a byte
-pub byte_is : (s : State) (a : ℕ) → length s.code ≤ 262144 → AreInside a 1 → byte_at s a ≡ memory_of s.bytes s.stack a
+pub byte_is : (s : State) (a : ℕ) → length s.code ≤ most_words s.map → AreInside s.map a 1 → byte_at s a ≡ memory_of s.map s.bytes s.stack a
 unfolding byte_at
-byte_is s a short (inl (low, high)) = ap (byte_of_location s) (location_in_bytes s a short low (omega (arith, high))) ∙ sym (in_bytes s.bytes s.stack a low (omega (arith, high)))
-byte_is s a short (inr (low, high)) = ap (byte_of_location s) (location_in_stack s a short low (omega (arith, high))) ∙ sym (in_stack s.bytes s.stack a low)
+byte_is s a short (inl (low, high)) =
+    let apart = (map_facts s.map).apart in
+    ap (byte_of_location s) (location_in_bytes s a short low (omega (arith, high))) ∙ sym (in_bytes s.map s.bytes s.stack a low (omega (arith, high, apart)))
+byte_is s a short (inr (low, high)) = ap (byte_of_location s) (location_in_stack s a short low (omega (arith, high))) ∙ sym (in_stack s.map s.bytes s.stack a low)
 
-byte_behind : (s : State) (a n k : ℕ) → length s.code ≤ 262144 → AreInside a n → k < n → byte_at s (word (a + k)) ≡ memory_of s.bytes s.stack (a + k)
-byte_behind s a n k short (inl (low, high)) lt =
-    let same : word (a + k) ≡ a + k = omega (arith, high, lt) in ap (byte_at s) same ∙ byte_is s (a + k) short (inl (omega (arith, low), omega (arith, high, lt)))
-byte_behind s a n k short (inr (low, high)) lt =
-    let same : word (a + k) ≡ a + k = omega (arith, high, lt) in ap (byte_at s) same ∙ byte_is s (a + k) short (inr (omega (arith, low), omega (arith, high, lt)))
+byte_behind : (s : State) (a n k : ℕ) → length s.code ≤ most_words s.map → AreInside s.map a n → k < n → byte_at s (word (a + k)) ≡ memory_of s.map s.bytes s.stack (a + k)
+byte_behind s a n k short inside lt =
+    let fits = inside_fits s.map a n inside in
+    let same : word (a + k) ≡ a + k = omega (arith, fits, lt) in
+    ap (byte_at s) same ∙ byte_is s (a + k) short (part_inside s.map a n k inside lt)
 
-first_byte : (s : State) (a n : ℕ) → length s.code ≤ 262144 → AreInside a n → 1 ≤ n → byte_at s a ≡ memory_of s.bytes s.stack a
+first_byte : (s : State) (a n : ℕ) → length s.code ≤ most_words s.map → AreInside s.map a n → 1 ≤ n → byte_at s a ≡ memory_of s.map s.bytes s.stack a
 first_byte s a n short (inl (low, high)) lt = byte_is s a short (inl (low, omega (arith, high, lt)))
 first_byte s a n short (inr (low, high)) lt = byte_is s a short (inr (low, omega (arith, high, lt)))
 
 -- a halfword
-half_is : (s : State) (a : ℕ) → length s.code ≤ 262144 → AreInside a 2 → memory_half s a ≡ half_at (memory_of s.bytes s.stack) a
+half_is : (s : State) (a : ℕ) → length s.code ≤ most_words s.map → AreInside s.map a 2 → memory_half s a ≡ half_at (memory_of s.map s.bytes s.stack) a
 half_is s a short inside =
-    ap (λ b. b + byte_at s (word (a + 1)) * 256) (first_byte s a 2 short inside (omega arith)) ∙ ap (λ b. memory_of s.bytes s.stack a + b * 256) (byte_behind s a 2 1 short inside (omega arith))
+    ap (λ b. b + byte_at s (word (a + 1)) * 256) (first_byte s a 2 short inside (omega arith)) ∙ ap (λ b. memory_of s.map s.bytes s.stack a + b * 256) (byte_behind s a 2 1 short inside (omega arith))
 
 -- a word
-word_is : (s : State) (a : ℕ) → length s.code ≤ 262144 → AreInside a 4 → memory_word s a ≡ word_at (memory_of s.bytes s.stack) a
+word_is : (s : State) (a : ℕ) → length s.code ≤ most_words s.map → AreInside s.map a 4 → memory_word s a ≡ word_at (memory_of s.map s.bytes s.stack) a
 unfolding memory_word
 word_is s a short inside =
-    let f = memory_of s.bytes s.stack in
+    let f = memory_of s.map s.bytes s.stack in
     let b0 = first_byte s a 4 short inside (omega arith) in
     let b1 = byte_behind s a 4 1 short inside (omega arith) in
     let b2 = byte_behind s a 4 2 short inside (omega arith) in
@@ -76,7 +94,7 @@ word_is s a short inside =
     joined w x y z w' x' y' z' b0 b1 b2 b3 = omega (arith, b0, b1, b2, b3)
 
 -- an element of any type
-pub element_is : (s : State) (base : IntegerType) (stars a : ℕ) → length s.code ≤ 262144 → AreInside a (size_by_stars base stars) → element_word s (element_by_stars base stars) a ≡ bits_at (memory_of s.bytes s.stack) (size_by_stars base stars) a
+pub element_is : (s : State) (base : IntegerType) (stars a : ℕ) → length s.code ≤ most_words s.map → AreInside s.map a (size_by_stars base stars) → element_word s (element_by_stars base stars) a ≡ bits_at (memory_of s.map s.bytes s.stack) (size_by_stars base stars) a
 element_is s Char zero a short inside = byte_is s a short inside
 element_is s SignedChar zero a short inside = byte_is s a short inside
 element_is s UnsignedChar zero a short inside = byte_is s a short inside
@@ -89,16 +107,16 @@ element_is s UnsignedLong zero a short inside = word_is s a short inside
 element_is s base (suc stars) a short inside = word_is s a short inside
 
 -- a word of the stack, from the offset of its address in the stack on
-pub stack_word_is : (s : State) (a : ℕ) → 16777216 ≤ a → word_in s.stack (a - 16777216) ≡ word_at (memory_of s.bytes s.stack) a
+pub stack_word_is : (s : State) (a : ℕ) → stack_start s.map ≤ a → word_in s.stack (a - stack_start s.map) ≡ word_at (memory_of s.map s.bytes s.stack) a
 unfolding word_in
 stack_word_is s a low =
-    let f = memory_of s.bytes s.stack in
-    let byte : (k j : ℕ) → j ≡ a - 16777216 + k → slice_index s.stack j ≡ f (a + k) = λ k j e.
-    let same : j ≡ a + k - 16777216 = omega (arith, e, low) in
-    ap (slice_index s.stack) same ∙ sym (in_stack s.bytes s.stack (a + k) (omega (arith, low))) in
+    let f = memory_of s.map s.bytes s.stack in
+    let byte : (k j : ℕ) → j ≡ a - stack_start s.map + k → slice_index s.stack j ≡ f (a + k) = λ k j e.
+    let same : j ≡ a + k - stack_start s.map = omega (arith, e, low) in
+    ap (slice_index s.stack) same ∙ sym (in_stack s.map s.bytes s.stack (a + k) (omega (arith, low))) in
     let here : a + 0 ≡ a = omega arith in
-    let b0 : slice_index s.stack (a - 16777216) ≡ f a = byte 0 (a - 16777216) (omega arith) ∙ ap f here in
-    let b1 : slice_index s.stack (a - 16777216 + 1) ≡ f (a + 1) = byte 1 (a - 16777216 + 1) refl in
-    let b2 : slice_index s.stack (a - 16777216 + 2) ≡ f (a + 2) = byte 2 (a - 16777216 + 2) refl in
-    let b3 : slice_index s.stack (a - 16777216 + 3) ≡ f (a + 3) = byte 3 (a - 16777216 + 3) refl in
+    let b0 : slice_index s.stack (a - stack_start s.map) ≡ f a = byte 0 (a - stack_start s.map) (omega arith) ∙ ap f here in
+    let b1 : slice_index s.stack (a - stack_start s.map + 1) ≡ f (a + 1) = byte 1 (a - stack_start s.map + 1) refl in
+    let b2 : slice_index s.stack (a - stack_start s.map + 2) ≡ f (a + 2) = byte 2 (a - stack_start s.map + 2) refl in
+    let b3 : slice_index s.stack (a - stack_start s.map + 3) ≡ f (a + 3) = byte 3 (a - stack_start s.map + 3) refl in
     rw (b0, b1, b2, b3) refl

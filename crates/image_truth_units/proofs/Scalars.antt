@@ -9,6 +9,8 @@ use Rattle.c_tree.specs.declared.object_type.Scalar.{Scalar}
 use Rattle.c_tree.specs.Programs.{ProgramTree, StaticTree, AutomaticTree, LiteralTree}
 use Rattle.c_meaning_values.specs.Memory as source-memory
 use Rattle.c_meaning_values.specs.Memory.{contents}
+use Rattle.memory_map.specs.Maps.{most_words}
+use Rattle.rv_emit_storage.specs.UnitMaps.{map_of_unit}
 use Rattle.image_form.specs.Form.{Form}
 use Rattle.image_form.specs.Rules.{IsImage}
 use Rattle.image_form.specs.declared.verdicts.Verdict.TheVariants.{Home}
@@ -51,7 +53,7 @@ module _ (p : ProgramTree) (m : Form) (functions : map name_length m.functions �
     (literal_law : (n : ℕ) (l : LiteralTree) → slice_get p.literals n ≡ Some l → (1 ≤ length l.bytes) × (length l.bytes ≤ 4294967295))
     (h : HomedForm) (valid : IsValid h.unit) (homed : HaveHomes h) (a : Arrangement) (e : EmittedForm) (storages : map storage m.variables ≡ storages_of h e (length m.variables)) (spans : map span m.functions ≡ map code_span e.functions) (words : m.owners ≡ e.owners) (outermost : slice_index e.owners 2 ≡ 0)
     (unit : HasVariablesIn p h.unit) (has : HasPlacesOf h.unit m) (tells : Tells h a e)
-    (c : Configuration) (s : State) (short : length s.code ≤ 262144) (stands : StandsAt h e a c s) (running : IsRunning (over_homes h) c)
+    (c : Configuration) (s : State) (regions : e.map ≡ map_of_unit h.unit) (short : length s.code ≤ most_words s.map) (stands : StandsAt h e a c s) (running : IsRunning (over_homes h) c)
     (memory : source-memory.Memory) (same : SameMemory p memory c.memory) (typed : AreTyped memory) (differ : OwnersDiffer memory) (declared : (n : ℕ) (o : source-memory.Object) → slice_get memory n ≡ Some o → IsDeclared p o.owner o) where
   -- a home of a scalar of the innermost activation may be one
   among : (j : ℕ) (g : Graph) → slice_get h.unit.graphs c.here.function ≡ Some g → j < length g.scalars → IsHomeAmong (code_of h a c.here.function).slots (home_of h c.here.function j)
@@ -77,9 +79,9 @@ module _ (p : ProgramTree) (m : Form) (functions : map name_length m.functions �
       let value : shadow.other ≡ c.here.names (home_number kept.home) = known_is shadow.other (c.here.names (home_number (home_of h c.here.function j))) (sym shadow.known ∙ shown) ∙ ap (λ y. c.here.names (home_number y)) home in
       let alike = subst (SameValue p memory c.memory shadow.value) value shadow.same in
       let within = subst (IsHomeAmong (code_of h a c.here.function).slots) home (among j g graph (slice_get_within g.scalars j sc at)) in
-      let keeps = kept_at_home p h valid homed a e m unit.statics (keeps_objects p m functions variables owners more names rules h a e storages unit tells (tables p m functions variables owners more names rules static_law automatic_law literal_law h valid homed a e storages spans words outermost unit has tells c s short stands running memory same typed differ declared) literal_law)
-      words outermost c s short stands running (keeps_places h a e tells m spans has) memory same typed declared (automatic_number p x) kept.code.slots kept.variable kept.home shadow.value (ap (slice_get m.variables) (sym number) ∙ kept.is) kept.storage_is slots within alike in
-      scalar_text p m functions variables owners more names rules static_law automatic_law literal_law h valid homed a e storages spans words outermost unit has tells c s short stands running memory same typed differ declared
+      let keeps = kept_at_home p h valid homed a e m unit.statics (keeps_objects p m functions variables owners more names rules h a e storages unit tells (tables p m functions variables owners more names rules static_law automatic_law literal_law h valid homed a e storages spans words outermost unit has tells c s regions short stands running memory same typed differ declared) literal_law)
+      words outermost c s regions short stands running (keeps_places h a e tells m spans has) memory same typed declared (automatic_number p x) kept.code.slots kept.variable kept.home shadow.value (ap (slice_get m.variables) (sym number) ∙ kept.is) kept.storage_is slots within alike in
+      scalar_text p m functions variables owners more names rules static_law automatic_law literal_law h valid homed a e storages spans words outermost unit has tells c s regions short stands running memory same typed differ declared
       x seen.number v scalar seen.object shadow.value Home declared_is of seen.is seen.owner seen.lives shadow.holds keeps
     where
       known_is : (y z : unit-value.Value) → Some (Known y) ≡ Some (Known z) → y ≡ z

@@ -4,6 +4,8 @@ use Rattle.std.specs.Prelude.{slice_index}
 use Rattle.c_tree.specs.Programs.{ProgramTree}
 use Rattle.c_meaning_values.specs.declared.value.Value as source-value
 use Rattle.c_meaning_values.specs.Memory as source-memory
+use Rattle.memory_map.specs.Maps.{most_words}
+use Rattle.rv_emit_storage.specs.UnitMaps.{map_of_unit}
 use Rattle.image_form.specs.Form.{Form}
 use Rattle.image_form.specs.declared.verdicts.Verdict.TheVariants.{Home as AtHome}
 use Rattle.image_form.specs.declared.variables.Variable.{Variable}
@@ -19,7 +21,7 @@ use Rattle.graph_build_runs.specs.Correspondence.{SameMemory, SameValue}
 use Rattle.graph_homes.specs.Homed.{HomedForm, HaveHomes, IsHomeAmong, home_number, over_homes}
 use Rattle.rv_emit_tables.specs.Emitted.{EmittedForm}
 use Rattle.rv_emit_runs.specs.Laid.{Arrangement, code_of}
-use Rattle.rv_emit_runs.specs.Standing.{StandsAt}
+use Rattle.rv_emit_runs.specs.Standing.{IsFrame, StandsAt}
 use Rattle.graph_homes.specs.Owned.{IsRunning}
 use Rattle.image_truth_units.specs.Variables.{static_count}
 use Rattle.image_truth_units.specs.Standing.{IsWordOf, IsDeclared, IsHome}
@@ -35,16 +37,16 @@ home_kind slots (Register r) = tt
 home_kind slots (Slot k) = tt
 
 module _ (p : ProgramTree) (h : HomedForm) (valid : IsValid h.unit) (homed : HaveHomes h) (a : Arrangement) (e : EmittedForm) (m : Form) (count : length h.unit.statics ≡ static_count p) (keeps : KeepsObjectsOf h a m) (owners : m.owners ≡ e.owners) (outermost : slice_index e.owners 2 ≡ 0)
-    (c : Configuration) (s : State) (short : length s.code ≤ 262144) (stands : StandsAt h e a c s) (running : IsRunning (over_homes h) c) (places : KeepsPlacesOf h a m)
+    (c : Configuration) (s : State) (regions : e.map ≡ map_of_unit h.unit) (short : length s.code ≤ most_words s.map) (stands : StandsAt h e a c s) (running : IsRunning (over_homes h) c) (places : KeepsPlacesOf h a m)
     (memory : source-memory.Memory) (same : SameMemory p memory c.memory) (typed : AreTyped memory) (declared : (n : ℕ) (o : source-memory.Object) → slice_get memory n ≡ Some o → IsDeclared p o.owner o) where
   -- the word of a home whose value is a variable's is that of the variable's value
   word_of_home : (home : Home) (value : source-value.Value) (slots : ℕ) → slots ≡ (code_of h a c.here.function).storage.slots → IsHomeAmong (code_of h a c.here.function).slots home → SameValue p memory c.memory value (c.here.names (home_number home))
       → IsWordOf p m (standings (code_of h a) (reg s 2) (c.here ∷ c.waiting)) memory value (home_word s (storage_of slots home))
   word_of_home home value slots slots_are among alike =
-      let frame = frame_there h a e stands.addresses _ (reg s 2) c.here c.waiting 0 c.here stands.stack refl in
+      let frame = subst (λ r. IsFrame r (code_of h a c.here.function) stands.addresses (reg s 2) c.here) (sym stands.map) (frame_there h a e stands.addresses _ (reg s 2) c.here c.waiting 0 c.here stands.stack refl) in
       subst (IsWordOf p m (standings (code_of h a) (reg s 2) (c.here ∷ c.waiting)) memory value) (sym (home_word_is h valid homed a stands.addresses s c.here frame slots slots_are home among))
       (value_means p m (standings (code_of h a) (reg s 2) (c.here ∷ c.waiting)) memory c.memory stands.addresses
-      (object_area p h valid homed a e m count keeps owners outermost c s short stands running places memory same typed declared) value (c.here.names (home_number home)) _ alike (stands.homes home among))
+      (object_area p h valid homed a e m count keeps owners outermost c s regions short stands running places memory same typed declared) value (c.here.names (home_number home)) _ alike (stands.homes home among))
 
   -- What a verdict says is so where it is that a variable is in its home, and the home's value is the variable's.
   pub kept_at_home : (number slots : ℕ) (v : Variable) (home : Home) (value : source-value.Value) → slice_get m.variables number ≡ Some v → v.storage ≡ storage_of slots home → slots ≡ (code_of h a c.here.function).storage.slots → IsHomeAmong (code_of h a c.here.function).slots home

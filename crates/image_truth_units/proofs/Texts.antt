@@ -9,6 +9,8 @@ use Rattle.c_meaning_values.specs.declared.value.Value as source-value
 use Rattle.c_meaning_values.specs.declared.value.Phase.TheVariants.{Live}
 use Rattle.c_meaning_values.specs.Memory as source-memory
 use Rattle.c_meaning_values.specs.Memory.{contents}
+use Rattle.memory_map.specs.Maps.{most_words}
+use Rattle.rv_emit_storage.specs.UnitMaps.{map_of_unit}
 use Rattle.image_form.specs.Form.{Form}
 use Rattle.image_form.specs.Rules.{IsImage}
 use Rattle.image_form.specs.declared.verdicts.Verdict.{Verdict}
@@ -46,7 +48,7 @@ module _ (p : ProgramTree) (m : Form) (functions : map name_length m.functions �
     (literal_law : (n : ℕ) (l : LiteralTree) → slice_get p.literals n ≡ Some l → (1 ≤ length l.bytes) × (length l.bytes ≤ 4294967295))
     (h : HomedForm) (valid : IsValid h.unit) (homed : HaveHomes h) (a : Arrangement) (e : EmittedForm) (storages : map storage m.variables ≡ storages_of h e (length m.variables)) (spans : map span m.functions ≡ map code_span e.functions) (words : m.owners ≡ e.owners) (outermost : slice_index e.owners 2 ≡ 0)
     (unit : HasVariablesIn p h.unit) (has : HasPlacesOf h.unit m) (tells : Tells h a e)
-    (c : Configuration) (s : State) (short : length s.code ≤ 262144) (stands : StandsAt h e a c s) (running : IsRunning (over_homes h) c)
+    (c : Configuration) (s : State) (regions : e.map ≡ map_of_unit h.unit) (short : length s.code ≤ most_words s.map) (stands : StandsAt h e a c s) (running : IsRunning (over_homes h) c)
     (memory : source-memory.Memory) (same : SameMemory p memory c.memory) (typed : AreTyped memory) (differ : OwnersDiffer memory) (declared : (n : ℕ) (o : source-memory.Object) → slice_get memory n ≡ Some o → IsDeclared p o.owner o) where
   -- the variables of the image are the program's
   pub tables : HasVariablesOf p m
@@ -61,7 +63,7 @@ module _ (p : ProgramTree) (m : Form) (functions : map name_length m.functions �
 
   -- The machine holds the memory of the program's run.
   pub holds : HoldsMemory p m memory (standing_of (reg s 2) c.here) waiting s
-  holds = holds_memory p h valid homed a e m unit.statics (keeps_objects p m functions variables owners more names rules h a e storages unit tells tables literal_law) words outermost c s short stands running (keeps_places h a e tells m spans has) memory same typed declared
+  holds = holds_memory p h valid homed a e m unit.statics (keeps_objects p m functions variables owners more names rules h a e storages unit tells tables literal_law) words outermost c s regions short stands running (keeps_places h a e tells m spans has) memory same typed declared
 
   -- The text that is shown of a static variable is that of what it holds.
   pub static_text : (n k : ℕ) (t : StaticTree) (o : source-memory.Object) → slice_get p.statics n ≡ Some t → slice_get memory k ≡ Some o → o.owner ≡ Static n → o.phase ≡ Live → IsObjectText p memory t.of (contents (Static n) memory) (held_text m s c.here.place n)

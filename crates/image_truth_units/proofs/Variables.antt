@@ -21,6 +21,11 @@ use Rattle.graph_core.specs.Validity.{IsGraph, taken_by_object, total}
 use Rattle.graph_homes.specs.Frames.{object_offsets, objects_start}
 use Rattle.graph_homes.specs.Homed.{AreHomesOf, HomedForm, IsHomeAmong, home_of, homes_in}
 use Rattle.graph_homes.specs.Statics.{static_at, statics_start}
+use Rattle.memory_map.specs.declared.map.Map.{Map}
+use Rattle.memory_map.specs.Maps.{bytes_size, bytes_start}
+use Rattle.memory_map.proofs.Facts.{map_facts}
+use Rattle.rv_emit_storage.specs.UnitMaps.{map_of_unit}
+use Rattle.rv_emit_storage.proofs.UnitMaps.{statics_begin}
 use Rattle.rv_emit_tables.specs.Emitted.{EmittedForm, FunctionCode}
 use Rattle.rv_emit_runs.specs.Laid.{code_of, graph_at}
 use Rattle.rv_emit_runs.proofs.Frames.{AreHomed, graph_is, laid_out}
@@ -42,7 +47,7 @@ use Rattle.image_truth_units.specs.ImageRulesUnits.{HasAllVariables, HasObjectOf
 use Rattle.image_truth_units.proofs.Accepted.{ascend_at, both, facts_of}
 use Rattle.image_truth_units.proofs.Fits.{variables_many}
 use Rattle.image_truth_units.proofs.Functions.{IsMade, made_of, some_length}
-use Rattle.image_truth_units.proofs.Given.{Given}
+use Rattle.image_truth_units.proofs.Given.{Given, memory_is}
 use Rattle.image_truth_units.proofs.Keepings.{IsPutAt, IsSome, kept_some, put_object, put_scalar, put_static, static_within}
 use Rattle.image_truth_units.proofs.Lists.{across, all_at, all_from, from_map, map_at, next_from, there}
 use Rattle.image_truth_units.proofs.ProgramPlaces.{behind_is, front_is}
@@ -146,25 +151,29 @@ module _ (p : ProgramTree) (h : HomedForm) (e : EmittedForm) (rows : List PlaceR
 
   -- ---- Storages
 
-  low_statics : AllByRecursion (λ a. 4194304 ≤ a) e.statics
-  unfolding statics_start
-  low_statics = all_from (λ a. 4194304 ≤ a) e.statics (λ n a is.
+  low_statics : AllByRecursion (λ a. 1 ≤ a) e.statics
+  low_statics = all_from (λ a. 1 ≤ a) e.statics (λ n a is.
       let many = given.emits.told.many in
       let low = slice_get_within e.statics n a is in
       let here : n < length h.unit.statics = omega (arith, low, many) in
       let same : static_at h.unit n ≡ a = same_Some (static_at h.unit n) a (sym (given.emits.statics n here) ∙ is) in
       let least = (static_within h.unit n here given.valid.statics).0 in
-      subst (λ a. 4194304 ≤ a) same least)
+      let begins = statics_begin h.unit in
+      let some = (map_facts (map_of_unit h.unit)).low in
+      subst (λ a. 1 ≤ a) same (omega (arith, least, begins, some)))
 
-  kept_static : (n a : ℕ) → slice_get e.statics n ≡ Some a → IsKeptStatically (storage.Static a)
-  unfolding statics_start static_start static_size
+  kept_static : (n a : ℕ) → slice_get e.statics n ≡ Some a → IsKeptStatically m (storage.Static a)
+  unfolding static_start static_size
   kept_static n a is =
       let many = given.emits.told.many in
       let low = slice_get_within e.statics n a is in
       let here : n < length h.unit.statics = omega (arith, low, many) in
       let same : static_at h.unit n ≡ a = same_Some (static_at h.unit n) a (sym (given.emits.statics n here) ∙ is) in
       let within = static_within h.unit n here given.valid.statics in
-      subst (λ a. (4194304 ≤ a) × (a < 5242880)) same (within.0, (let high = within.1 in omega (arith, high)))
+      let least = within.0 in
+      let high = within.1 in
+      let begins : bytes_start m.version.map ≡ statics_start = ap (λ (r : Map). bytes_start r) (memory_is p h e rows m given ∙ given.emits.code.map) ∙ sym (statics_begin h.unit) in
+      subst (λ a. (bytes_start m.version.map ≤ a) × (a < bytes_start m.version.map + bytes_size)) same (omega (arith, least, begins), omega (arith, high, begins))
 
   -- What a function of the unit is made of.
   record HasParts (f : ℕ) (g : Graph) : Type 0 where
@@ -310,8 +319,8 @@ module _ (p : ProgramTree) (h : HomedForm) (e : EmittedForm) (rows : List PlaceR
     pub counts : IsCount v.storage v.count
 
   stored_static : (k address : ℕ) (v : Variable) → slice_get e.statics k ≡ Some address → storage.Static address ≡ v.storage → IsDeclaredAs p k v → IsStored v
-  stored_static k address v at stored (of_static t is same none) = record { kept = subst (λ o. IsKept m o v.storage) (sym none) (subst IsKeptStatically stored (kept_static k address at)); counts = subst (λ s. IsCount s v.count) stored tt }
-  stored_static k address v at stored (of_literal n l number is same none) = record { kept = subst (λ o. IsKept m o v.storage) (sym none) (subst IsKeptStatically stored (kept_static k address at)); counts = subst (λ s. IsCount s v.count) stored tt }
+  stored_static k address v at stored (of_static t is same none) = record { kept = subst (λ o. IsKept m o v.storage) (sym none) (subst (IsKeptStatically m) stored (kept_static k address at)); counts = subst (λ s. IsCount s v.count) stored tt }
+  stored_static k address v at stored (of_literal n l number is same none) = record { kept = subst (λ o. IsKept m o v.storage) (sym none) (subst (IsKeptStatically m) stored (kept_static k address at)); counts = subst (λ s. IsCount s v.count) stored tt }
   stored_static k address v at stored (of_automatic x f a number is same own of) = absurd (let low = slice_get_within e.statics k address at in omega (arith, low, number, statics_many))
 
   same_owner : (x f y g : ℕ) → x ≡ y → slice_get (owned_from 0 p.functions) x ≡ Some (Some f) → slice_get (owned_from 0 p.functions) y ≡ Some (Some g) → f ≡ g

@@ -10,6 +10,10 @@ use Rattle.c_type_rules.specs.Types.{loaded}
 use Rattle.c_meaning_values.specs.Types.{scalar_size}
 use Rattle.c_meaning_values.specs.Memory as source-memory
 use Rattle.image_build_tables.specs.Variables.{element_by_stars}
+use Rattle.memory_map.specs.declared.map.Map.{Map}
+use Rattle.memory_map.specs.Maps.{bytes_end, bytes_start, most_words, stack_end, stack_start}
+use Rattle.memory_map.proofs.Facts.{map_facts}
+use Rattle.rv_emit_storage.specs.UnitMaps.{map_of_unit}
 use Rattle.image_form.specs.Form.{Form}
 use Rattle.image_form.specs.declared.variables.Storage.TheVariants as kept
 use Rattle.rv_machine.specs.State.{State, reg}
@@ -27,7 +31,7 @@ use Rattle.graph_homes.specs.Homed.{HomedForm, HaveHomes, over_homes}
 use Rattle.rv_emit_steps.specs.Holding.{memory_of}
 use Rattle.rv_emit_tables.specs.Emitted.{EmittedForm}
 use Rattle.rv_emit_storage.specs.Storages.{object_at}
-use Rattle.rv_emit_steps.specs.Meaning.{HoldsBits, bits_at}
+use Rattle.rv_emit_steps.specs.Meaning.{HoldsBits, bits_at, IsInMemory as LiesIn}
 use Rattle.rv_emit_runs.specs.Laid.{Arrangement, code_of}
 use Rattle.rv_emit_runs.specs.Standing.{StandsAt}
 use Rattle.image_truth_units.specs.Variables.{static_count, automatic_number}
@@ -49,7 +53,7 @@ times_within (suc i) zero size lt = absurd (omega (arith, lt))
 times_within (suc i) (suc count) size lt = let rest = times_within i count size (omega (arith, lt)) in omega (arith, rest)
 
 module _ (p : ProgramTree) (h : HomedForm) (valid : IsValid h.unit) (homed : HaveHomes h) (a : Arrangement) (e : EmittedForm) (m : Form) (count : length h.unit.statics ≡ static_count p) (keeps : KeepsObjectsOf h a m) (owners : m.owners ≡ e.owners) (outermost : slice_index e.owners 2 ≡ 0)
-    (c : Configuration) (s : State) (short : length s.code ≤ 262144) (stands : StandsAt h e a c s) (running : IsRunning (over_homes h) c) (places : KeepsPlacesOf h a m)
+    (c : Configuration) (s : State) (regions : e.map ≡ map_of_unit h.unit) (short : length s.code ≤ most_words s.map) (stands : StandsAt h e a c s) (running : IsRunning (over_homes h) c) (places : KeepsPlacesOf h a m)
     (memory : source-memory.Memory) (same : SameMemory p memory c.memory) (typed : AreTyped memory) (declared : (n : ℕ) (o : source-memory.Object) → slice_get memory n ≡ Some o → IsDeclared p o.owner o) where
   -- ---- Where objects are
 
@@ -65,7 +69,7 @@ module _ (p : ProgramTree) (h : HomedForm) (valid : IsValid h.unit) (homed : Hav
   frame_area x deep n q is live owner =
       let its = object_at_depth h a c running n x deep q is live owner in
       let there = keeps.objects its.activation.function its.number its.object its.is in
-      let frame = frame_there h a e stands.addresses (memory_of s.bytes s.stack) (reg s 2) c.here c.waiting its.index its.activation stands.stack its.there in
+      let frame = frame_there h a e stands.addresses (memory_of s.map s.bytes s.stack) (reg s 2) c.here c.waiting its.index its.activation stands.stack its.there in
       let place = all_at (IsPlaced h a m) (c.here ∷ c.waiting) its.index its.activation (placed_all h a m places c running) its.there in
       let many = many_standings (code_of h a) (reg s 2) (c.here ∷ c.waiting) in
       let deep_is = its.deep in
@@ -94,9 +98,9 @@ module _ (p : ProgramTree) (h : HomedForm) (valid : IsValid h.unit) (homed : Hav
 
   -- ---- What they hold
 
-  inside_element : (start bytes at size : ℕ) → at + size ≤ bytes → ((4194304 ≤ start) × (start + bytes + 4 ≤ 5242880)) ⊎ ((16777216 ≤ start) × (start + bytes + 4 ≤ 33554432)) → AreInside (start + at) size
-  inside_element start bytes at size within (inl (low, high)) = inl (omega (arith, low), omega (arith, high, within))
-  inside_element start bytes at size within (inr (low, high)) = inr (omega (arith, low), omega (arith, high, within))
+  inside_element : (m : Map) (start bytes at size : ℕ) → at + size ≤ bytes → LiesIn m start bytes → AreInside m (start + at) size
+  inside_element m start bytes at size within (inl (low, high)) = inl (omega (arith, low), omega (arith, high, within))
+  inside_element m start bytes at size within (inr (low, high)) = inr (omega (arith, low), omega (arith, high, within))
 
   object_stands : (k : ℕ) (o : source-memory.Object) → slice_get memory k ≡ Some o → Held p memory c.memory o → StandsInMemory p m (standings (code_of h a) (reg s 2) (c.here ∷ c.waiting)) memory s o
   object_stands k o is held_there = record {
@@ -109,8 +113,8 @@ module _ (p : ProgramTree) (h : HomedForm) (valid : IsValid h.unit) (homed : Hav
         let of = values.typed memory o.element v (all_at (IsOf memory (loaded o.element)) o.values i v (typed k o is) at) in
         let wide = times_within i (length held_there.object.values) (scalar_size o.element) (slice_get_within held_there.object.values i w.0 w.1) in
         let whole : unit-memory.bytes_of held_there.object ≡ length held_there.object.values * scalar_size o.element = ap (λ z. length held_there.object.values * z) size in
-        let inside = inside_element (stands.addresses held_there.number) (unit-memory.bytes_of held_there.object) (i * scalar_size o.element) (scalar_size o.element) (omega (arith, wide, whole)) region in
-        let bits = subst (λ z. HoldsBits stands.addresses c.memory z w.0 (bits_at (memory_of s.bytes s.stack) z (stands.addresses held_there.number + i * z))) size holds in
+        let inside = inside_element s.map (stands.addresses held_there.number) (unit-memory.bytes_of held_there.object) (i * scalar_size o.element) (scalar_size o.element) (omega (arith, wide, whole)) region in
+        let bits = subst (λ z. HoldsBits stands.addresses c.memory z w.0 (bits_at (memory_of s.map s.bytes s.stack) z (stands.addresses held_there.number + i * z))) size holds in
         let read = element_is s o.element.base o.element.stars (stands.addresses held_there.number + i * scalar_size o.element) short inside in
         bits_mean p m (standings (code_of h a) (reg s 2) (c.here ∷ c.waiting)) memory c.memory stands.addresses object_area o.element.base o.element.stars v w.0 (element_word s (element_by_stars o.element.base o.element.stars) (stands.addresses held_there.number + i * scalar_size o.element)) of w.2
         (subst (λ z. HoldsBits stands.addresses c.memory (scalar_size o.element) w.0 z) (sym read) bits);
@@ -122,17 +126,21 @@ module _ (p : ProgramTree) (h : HomedForm) (valid : IsValid h.unit) (homed : Hav
       area : IsArea p m (standings (code_of h a) (reg s 2) (c.here ∷ c.waiting)) o.owner (stands.addresses held_there.number) (unit-memory.bytes_of held_there.object)
       area = object_area held_there.number k o held_there.object is held_there.is held_there.same
 
-      region : ((4194304 ≤ stands.addresses held_there.number) × (stands.addresses held_there.number + unit-memory.bytes_of held_there.object + 4 ≤ 5242880)) ⊎ ((16777216 ≤ stands.addresses held_there.number) × (stands.addresses held_there.number + unit-memory.bytes_of held_there.object + 4 ≤ 33554432))
-      region = area_inside p h valid homed a m e stands.addresses (memory_of s.bytes s.stack) count keeps (reg s 2) c.here c.waiting stands.stack (placed_all h a m places c running) o.owner (stands.addresses held_there.number) (unit-memory.bytes_of held_there.object) area
+      region : LiesIn s.map (stands.addresses held_there.number) (unit-memory.bytes_of held_there.object)
+      region = subst (λ r. LiesIn r (stands.addresses held_there.number) (unit-memory.bytes_of held_there.object)) (sym stands.map) (area_inside p h valid homed a m e regions stands.addresses (memory_of s.map s.bytes s.stack) count keeps (reg s 2) c.here c.waiting stands.stack (placed_all h a m places c running) o.owner (stands.addresses held_there.number) (unit-memory.bytes_of held_there.object) area)
 
   kept_in_memory : (owner : Owner) → IsInMemory p owner → source.IsInMemory p owner
   kept_in_memory (Static n) inside = tt
   kept_in_memory (Literal n) inside = tt
   kept_in_memory (OfVariable x deep) inside = inside
 
-  bounded : (o : Owner) (start bytes : ℕ) → ((4194304 ≤ start) × (start + bytes + 4 ≤ 5242880)) ⊎ ((16777216 ≤ start) × (start + bytes + 4 ≤ 33554432)) → (1 ≤ start) × (start + bytes < 4294967296)
-  bounded o start bytes (inl (low, high)) = (omega (arith, low), omega (arith, high))
-  bounded o start bytes (inr (low, high)) = (omega (arith, low), omega (arith, high))
+  bounded : (m : Map) (start bytes : ℕ) → LiesIn m start bytes → (1 ≤ start) × (start + bytes < 4294967296)
+  bounded m start bytes (inl (low, high)) =
+      let least = (map_facts m).low in let apart = (map_facts m).apart in let whole = (map_facts m).whole in
+      (omega (arith, low, least), omega (arith, high, apart, whole))
+  bounded m start bytes (inr (low, high)) =
+      let least = (map_facts m).low in let apart = (map_facts m).apart in let whole = (map_facts m).whole in
+      (omega (arith, low, least, apart), omega (arith, high, whole))
 
   -- The machine holds the memory of the program's run.
   pub holds_memory : HoldsMemory p m memory (standing_of (reg s 2) c.here) (standings (code_of h a) (reg s 2 + (code_of h a c.here.function).size) c.waiting) s
@@ -143,9 +151,9 @@ module _ (p : ProgramTree) (h : HomedForm) (valid : IsValid h.unit) (homed : Hav
         frame = refl;
         depth_is = omega (arith, few, many);
         few = omega (arith, few, many);
-        callers = callers_found h a e stands.addresses m s owners outermost (reg s 2) c.here c.waiting stands.stack (placed_all h a m places c running);
-        inside = λ o start bytes area. bounded o start bytes (area_inside p h valid homed a m e stands.addresses (memory_of s.bytes s.stack) count keeps (reg s 2) c.here c.waiting stands.stack (placed_all h a m places c running) o start bytes area);
-        apart = λ o q start other bytes its differ first second. areas_apart p h valid homed a m e stands.addresses (memory_of s.bytes s.stack) count keeps (reg s 2) c.here c.waiting stands.stack (placed_all h a m places c running) o q start other bytes its differ first second;
+        callers = callers_found h a e stands.addresses m s stands.map owners outermost (reg s 2) c.here c.waiting stands.stack (placed_all h a m places c running);
+        inside = λ o start bytes area. bounded e.map start bytes (area_inside p h valid homed a m e regions stands.addresses (memory_of s.map s.bytes s.stack) count keeps (reg s 2) c.here c.waiting stands.stack (placed_all h a m places c running) o start bytes area);
+        apart = λ o q start other bytes its differ first second. areas_apart p h valid homed a m e regions stands.addresses (memory_of s.map s.bytes s.stack) count keeps (reg s 2) c.here c.waiting stands.stack (placed_all h a m places c running) o q start other bytes its differ first second;
         typed = λ n i o v is at. values.typed memory o.element v (all_at (IsOf memory (loaded o.element)) o.values i v (typed n o is) at);
         declared = declared;
         objects = λ n o is live inside. object_stands n o is (same n o is live (kept_in_memory o.owner inside));

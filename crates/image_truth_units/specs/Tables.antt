@@ -8,11 +8,11 @@ use Rattle.graph_core.specs.Graphs.{Graph, UnitForm}
 use Rattle.graph_homes.specs.Homed.{HomedForm}
 use Rattle.rv_emit_tables.specs.Emitted.{EmittedForm}
 use Rattle.image_form.specs.Form.{Form}
-use Rattle.image_build_tables.specs.Spans.{code_span, span}
+use Rattle.image_build_tables.specs.Spans.{code_span, saved, span}
 use Rattle.image_build_tables.specs.Storages.{storages_of}
 use Rattle.image_build_tables.specs.Variables.{declared_names, entry, length_of_name, name_length, owner, owners_of, pass_names, shape, shapes_of, storage}
 use Rattle.image_build_tables.specs.Places.{address, addresses_of}
-use Rattle.image_build_tables.specs.Tables.{assigned_pair, change_record, flow_pair, Sight, spot, spot_of_row}
+use Rattle.image_build_tables.specs.Tables.{assigned_pair, change_record, flow_pair, plain_version, Sight, spot, spot_of_row}
 
 -- the place at which a function begins: the one at its name
 abbrev pub entry_number : ProgramTree → TypedFunctionTree → ℕ
@@ -33,12 +33,14 @@ visible_from place (r ∷ rows) = map (λ x. record { place = place; variable = 
 
 -- TABLES ARE MADE OF A PROGRAM, a unit with homes, its code and the table of the program's places: section by section they say what these say.
 pub record AreTablesOf (p : ProgramTree) (h : HomedForm) (e : EmittedForm) (rows : List PlaceRow) (m : Form) : Type 0 where
+  pub version : m.version ≡ plain_version e.map
   pub code : m.code ≡ e.code
   pub initial : m.initial ≡ e.initial
   pub owners : m.owners ≡ e.owners
   pub functions : map name_length m.functions ≡ map length_of_name p.functions
   pub spans : map span m.functions ≡ map code_span e.functions
   pub entries : map entry m.functions ≡ map entry_place h.unit.graphs
+  pub saved : map saved m.functions ≡ map (λ f. 0) p.functions
   pub variables : map shape m.variables ≡ shapes_of p
   pub belonging : map owner m.variables ≡ owners_of p
   pub storages : map storage m.variables ≡ storages_of h e (variables_in p)
@@ -49,3 +51,5 @@ pub record AreTablesOf (p : ProgramTree) (h : HomedForm) (e : EmittedForm) (rows
   pub changes : m.changes ≡ map change_record h.unit.log
   pub flow : m.flow ≡ map flow_pair h.unit.steps
   pub assigned : m.assigned ≡ map assigned_pair h.unit.assignments
+  pub calls : m.calls ≡ []
+  pub members : m.members ≡ []

@@ -47,6 +47,7 @@ returns-clause-made c =
     record {
       emitted = emitted;
       emits = c.in_ok-emitted.ensures.emits;
+      version = made.version;
       mode = made.mode;
       code = made.code;
       owners = made.owners;
@@ -85,7 +86,7 @@ returns-clause-image c =
     let seen = subst (λ o. IfSome o (λ v. map sight v.items ≡ sights_from 1 rows)) c.in-Some.is c.in_ok-verdicts.ensures.visible in
     is_image p h emitted rows (form image) c.requires.laws c.requires.names c.requires.spots (omega (arith, few)) c.requires.valid c.requires.homes c.requires.shape (c.requires.plain plain)
     c.in_ok-emitted.ensures.emits c.in_ok-emitted.ensures.coded c.in_ok-emitted.ensures.few
-    (tables_are p h emitted rows (form image) made.code made.initial made.owners made.functions made.spans (made.entries ∙ entries_seen c.args.homed.now.unit.graphs.items) made.variables made.belonging (kept_each h emitted _ image.variables.items made.storages) made.names c.in_ok-places.ensures made.places made.addresses made.changes made.flow made.assigned)
+    (tables_are p h emitted rows (form image) made.version made.code made.initial made.owners made.functions made.spans (made.entries ∙ entries_seen c.args.homed.now.unit.graphs.items) made.saved made.variables made.belonging (kept_each h emitted _ image.variables.items made.storages) made.names c.in_ok-places.ensures made.places made.addresses made.changes made.flow made.assigned made.calls made.members)
     c.tables_fit.ensures c.in-Some.verdicts.items seen shown (made.bare (subst AreShown (sym c.deref.ensures.value) shown))
     (λ fewer. subst (λ l. AreRowsOf (telling_of h rows emitted) image.nodes.items l image.rows.items) c.deref.ensures.value (made.rows fewer))
     (visible_of p rows c.in-Some.verdicts.items (form image) c.requires.fits c.in_ok-places.ensures seen (made.visible ∙ ap (map sight_of_verdict) c.deref.ensures.value))
@@ -104,7 +105,7 @@ returns-clause-shows c =
     let seen = subst (λ o. IfSome o (λ v. map sight v.items ≡ sights_from 1 rows)) c.in-Some.is c.in_ok-verdicts.ensures.visible in
     shows_all p h emitted rows (form image) c.requires.laws c.requires.names c.requires.spots (omega (arith, few)) c.requires.valid c.requires.homes c.requires.shape (c.requires.plain plain)
     c.in_ok-emitted.ensures.emits c.in_ok-emitted.ensures.coded c.in_ok-emitted.ensures.few
-    (tables_are p h emitted rows (form image) made.code made.initial made.owners made.functions made.spans (made.entries ∙ entries_seen c.args.homed.now.unit.graphs.items) made.variables made.belonging (kept_each h emitted _ image.variables.items made.storages) made.names c.in_ok-places.ensures made.places made.addresses made.changes made.flow made.assigned)
+    (tables_are p h emitted rows (form image) made.version made.code made.initial made.owners made.functions made.spans (made.entries ∙ entries_seen c.args.homed.now.unit.graphs.items) made.saved made.variables made.belonging (kept_each h emitted _ image.variables.items made.storages) made.names c.in_ok-places.ensures made.places made.addresses made.changes made.flow made.assigned made.calls made.members)
     c.tables_fit.ensures c.in-Some.verdicts.items seen shown (made.bare (subst AreShown (sym c.deref.ensures.value) shown))
     (λ fewer. subst (λ l. AreRowsOf (telling_of h rows emitted) image.nodes.items l image.rows.items) c.deref.ensures.value (made.rows fewer))
     (visible_of p rows c.in-Some.verdicts.items (form image) c.requires.fits c.in_ok-places.ensures seen (made.visible ∙ ap (map sight_of_verdict) c.deref.ensures.value))
