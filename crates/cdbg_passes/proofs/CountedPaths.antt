@@ -1,13 +1,13 @@
 -- A list of blocks that is a path from the entry names a path, and along it the blocks do a computation as often as it was done on the path.
 use Rattle.std.proofs.Common.{◌≡◌, ◌⊎◌, inl, inr, ℕ, zero, suc, ◌+◌, ◌<◌, Some, List, [], ◌∷◌, ◌++◌, length, reverse, refl, sym, ap, ◌∙◌, subst, arith, append_assoc, append-nil}
-use Rattle.std.specs.Prelude.{if◌then◌else◌, slice_get, ⊤}
+use Rattle.std.specs.Prelude.{slice_get, ⊤}
 use Rattle.std.proofs.lemmas.List.{reverse-append, length-append}
 use Rattle.std.proofs.lemmas.Option.{none-some, same_Some, slice_get_within}
 use Rattle.base_laws.proofs.Lists.{front_at, snoc_new}
 use Rattle.graph_core.specs.declared.value.Value.TheVariants.{Number}
 use Rattle.graph_core.specs.Graphs.{Instruction, End, Block, Graph}
 use Rattle.graph_core.specs.Uses.{targets_of}
-use Rattle.graph_core.specs.Paths.{Passed, History, Among, Way, stays, passes, goes, Path, path}
+use Rattle.graph_core.specs.Paths.{History, Among, Way, stays, passes, goes, Path, path}
 use Rattle.graph_core.specs.Computations.{Computation}
 use Rattle.graph_core.specs.Validity.{total}
 use Rattle.motion_pass.specs.Counts.{IsPath, LeadsTo, once, times_along, times_in}

@@ -3,7 +3,7 @@ use Rattle.std.proofs.Common.{inl, inr, ℕ, List, [], ◌∷◌}
 use Rattle.debug_records.specs.declared.change.PassName.{PassName}
 use Rattle.graph_core.specs.Graphs.{UnitForm}
 use Rattle.pass_law.specs.Keeps.{Keeps}
-use Rattle.pass_law.specs.Leading.{IsLawfulStep, IsStepOf, Lead}
+use Rattle.pass_law.specs.Leading.{IsLawfulStep, Lead}
 use Rattle.cdbg_passes.specs.Earned.{AreEarned}
 use Rattle.cdbg_passes.specs.Trail.{IsOnTrail, IsStepOfProgram}
 use Rattle.cdbg_passes.proofs.ComputedOnce.{are_optimal}

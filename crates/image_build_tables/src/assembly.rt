@@ -50,7 +50,8 @@ pub fn image_of(alloc: Global, parts: &Parts<'_>, emitted: Emitted) -> Result<Im
     ensures owners { IfOk result (λ m. m.owners.items ≡ emitted.owners.items) }
     ensures functions { IfOk result (λ m. map name_length m.functions.items ≡ map length_of_name (program_view parts.now.program.now).functions) }
     ensures spans { IfOk result (λ m. map span m.functions.items ≡ map code_span (emitted_view emitted).functions) }
-    ensures saved { IfOk result (λ m. map saved m.functions.items ≡ map (λ f. 0) (program_view parts.now.program.now).functions) }
+    ensures saved { IfOk result (λ m. map saved m.functions.items
+        ≡ map (λ f. 0) (program_view parts.now.program.now).functions) }
     ensures variables { IfOk result (λ m. map shape m.variables.items ≡ shapes_of (program_view parts.now.program.now)) }
     ensures storages { IfOk result (λ m. map storage m.variables.items ≡ storages_of (homed_view parts.now.homed.now) (emitted_view emitted) (length parts.now.program.now.statics.items + length parts.now.program.now.literals.items + length parts.now.program.now.automatics.items)) }
     ensures belonging { IfOk result (λ m. map owner m.variables.items ≡ owners_of (program_view parts.now.program.now)) }
