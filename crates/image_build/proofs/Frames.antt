@@ -32,9 +32,9 @@ abbrev next_from : ℕ → Form → State → Standing → (caller : ℕ) → Li
 next_from n m s a caller = cond (caller == 0) [] (frames_from n m s caller (word (a.frame + frame_of m a.place)))
 
 by_calling : (n : ℕ) (m : Form) (s : State) (a : Standing) → frames_from (suc n) m s a.place a.frame ≡ a.place ∷ next_from n m s a (calling_place m s a.frame)
-by_calling n m s a = by_test (is_stack_address a.frame && a.frame % 4 == 0) refl
+by_calling n m s a = by_test (is_stack_address s a.frame && a.frame % 4 == 0) refl
   where
-    by_test : (b : Bool) → (is_stack_address a.frame && a.frame % 4 == 0) ≡ b → frames_from (suc n) m s a.place a.frame ≡ a.place ∷ next_from n m s a (calling_place m s a.frame)
+    by_test : (b : Bool) → (is_stack_address s a.frame && a.frame % 4 == 0) ≡ b → frames_from (suc n) m s a.place a.frame ≡ a.place ∷ next_from n m s a (calling_place m s a.frame)
     by_test true e =
         ap (λ b. a.place ∷ cond b (next_from n m s a (place_before m (return_address s a.frame))) []) e
         ∙ ap (λ b. a.place ∷ next_from n m s a (cond b (place_before m (return_address s a.frame)) 0)) (sym e)
