@@ -1,4 +1,5 @@
 mod FirstRow
 pub mod PlaceRows
+mod RecipeValues
 mod ValidRows
 mod VariablesInTurn
