@@ -5,12 +5,14 @@ use Rattle.image_form.specs.RulesOfFunctions.{FunctionRules, code_start}
 use Rattle.image_form.specs.RulesOfNames.{NameRules}
 use Rattle.image_form.specs.RulesOfPlaces.{PlaceRules, OwnerRules, IsOwner, word_address}
 use Rattle.image_form.specs.Spelling.{size}
+use Rattle.image_form_sections.specs.Versions.{is_read, greatest_version}
 use Rattle.image_form.proofs.TableLaws.{ascending_distinct, numbered_from_zero}
 use Rattle.cdbg_back_tests.specs.Samples.{addition_form}
 
 sizes : SizeRules addition_form
-unfolding addition_form size
+unfolding addition_form size is_read greatest_version
 sizes = record {
+  version = refl;
   code = omega arith;
   initial = omega arith;
   initial_words = refl;
@@ -33,12 +35,19 @@ fits = record {
   flow = search rules;
   assigned = search rules;
   rows = search rules;
+  calls = tt;
+  members = tt;
   nodes = tt;
 }
 
 functions : FunctionRules addition_form
 unfolding addition_form code_start
-functions = record { each = search rules; apart = search rules; entries_ascend = search rules }
+functions = record {
+  each = search rules;
+  apart = search rules;
+  entries_ascend = search rules;
+  none_saved = λ _. search rules;
+}
 
 places : PlaceRules addition_form
 unfolding addition_form code_start
@@ -80,7 +89,15 @@ is_image = record {
   changes = tt;
   flow = record { each = search rules; ascend = search rules };
   assigned = record { each = search rules; ascend = search rules };
-  rows = record { visible = search rules; verdicts = search rules; ascend = search rules };
+  rows = record {
+    visible = search rules;
+    verdicts = search rules;
+    quiet = search rules;
+    none_quiet = λ _. search rules;
+    ascend = search rules;
+  };
+  calls = record { none = λ _. refl };
+  members = record { none = λ _. refl; structures = λ _. refl };
   nodes = record { homes = tt; earlier = λ i n e. absurd cc; shallow = λ i lt. absurd (omega (arith, lt)); differ = λ i j x y ei ej same. absurd cc };
   names = names;
 }

@@ -5,12 +5,14 @@ use Rattle.image_form.specs.RulesOfFunctions.{FunctionRules, code_start}
 use Rattle.image_form.specs.RulesOfNames.{NameRules}
 use Rattle.image_form.specs.RulesOfPlaces.{PlaceRules, OwnerRules, IsOwner, word_address}
 use Rattle.image_form.specs.Spelling.{size}
+use Rattle.image_form_sections.specs.Versions.{is_read, greatest_version}
 use Rattle.image_form.proofs.TableLaws.{ascending_distinct, numbered_from_zero}
 use Rattle.cdbg_back_tests.specs.Samples.{calling_form}
 
 sizes : (count : ℕ) → (call : ℕ) → (last : ℕ) → SizeRules (calling_form count call last)
-unfolding calling_form size
+unfolding calling_form size is_read greatest_version
 sizes count call last = record {
+  version = refl;
   code = omega arith;
   initial = omega arith;
   initial_words = refl;
@@ -36,12 +38,19 @@ fits count call last few low short =
       flow = tt;
       assigned = tt;
       rows = search rules;
+      calls = tt;
+      members = tt;
       nodes = tt;
     }
 
 functions : (count : ℕ) → (call : ℕ) → (last : ℕ) → FunctionRules (calling_form count call last)
 unfolding calling_form code_start
-functions count call last = record { each = search rules; apart = search rules; entries_ascend = search rules }
+functions count call last = record {
+  each = search rules;
+  apart = search rules;
+  entries_ascend = search rules;
+  none_saved = λ _. search rules;
+}
 
 places : (count : ℕ) → (call : ℕ) → (last : ℕ) → PlaceRules (calling_form count call last)
 unfolding calling_form code_start
@@ -83,7 +92,15 @@ is_image count call last few low short = record {
   changes = tt;
   flow = record { each = tt; ascend = tt };
   assigned = record { each = tt; ascend = tt };
-  rows = record { visible = search rules; verdicts = search rules; ascend = search rules };
+  rows = record {
+    visible = search rules;
+    verdicts = search rules;
+    quiet = search rules;
+    none_quiet = λ _. search rules;
+    ascend = search rules;
+  };
+  calls = record { none = λ _. refl };
+  members = record { none = λ _. refl; structures = λ _. refl };
   nodes = record { homes = tt; earlier = λ i n e. absurd cc; shallow = λ i lt. absurd (omega (arith, lt)); differ = λ i j x y ei ej same. absurd cc };
   names = names count call last;
 }

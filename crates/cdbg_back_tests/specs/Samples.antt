@@ -1,14 +1,17 @@
 -- The images that the tests run.
-use Rattle.std.specs.Prelude.{ℕ, ◌+◌, ◌*◌, Some, [], ◌∷◌, codes}
+use Rattle.std.specs.Prelude.{ℕ, ◌+◌, ◌*◌, Some, None, [], ◌∷◌, codes}
 use Rattle.debug_records.specs.declared.mode.Mode.TheVariants.{Slots}
 use Rattle.image_form.specs.declared.variables.ElementType.TheVariants.{I32}
 use Rattle.image_form.specs.declared.variables.Storage.TheVariants.{Slot}
 use Rattle.image_form.specs.declared.verdicts.Verdict.TheVariants.{Home}
 use Rattle.image_form.specs.Form.{Form}
+use Rattle.image_form_sections.specs.declared.version.Level.TheVariants.{Plain}
+use Rattle.memory_map.specs.declared.map.Map.TheVariants.{One}
 
 -- The image of `int main(void){int x=2; x=x+3; putchar(65); return x;}` behind a line that includes stdio.
 unfoldable pub addition_form : Form
 addition_form = record {
+  version = record { map = One; level = Plain };
   mode = Slots;
   code =
       0x02000137 ∷ 0x40000213 ∷ 0x00c000ef ∷ 0x00a00893 ∷ 0x00000073 ∷ 0x00021663 ∷ 0x00300893 ∷ 0x00000073 ∷ 0xfff20213 ∷ 0xff010113 ∷
@@ -16,7 +19,7 @@ addition_form = record {
       0x04100513 ∷ 0x00200893 ∷ 0x00000073 ∷ 0x0040006f ∷ 0x00412503 ∷ 0x0040006f ∷ 0x00012083 ∷ 0x01010113 ∷ 0x00120213 ∷ 0x00008067 ∷ [];
   initial = [];
   functions =
-      record { name_length = 4; first = 65556; end = 65656; frame = 16; entry = 1 } ∷ [];
+      record { name_length = 4; first = 65556; end = 65656; frame = 16; entry = 1; saved = 0 } ∷ [];
   places =
       record { position = 23; line = 2; function = 0; address = 65556 } ∷
       record { position = 38; line = 2; function = 0; address = 65584 } ∷
@@ -30,9 +33,11 @@ addition_form = record {
   flow = record { from = 1; to = 2 } ∷ record { from = 2; to = 3 } ∷ record { from = 3; to = 4 } ∷ record { from = 4; to = 5 } ∷ [];
   assigned = record { place = 2; variable = 0 } ∷ record { place = 3; variable = 0 } ∷ [];
   rows =
-      record { place = 3; variable = 0; verdict = Home } ∷
-      record { place = 4; variable = 0; verdict = Home } ∷
-      record { place = 5; variable = 0; verdict = Home } ∷ [];
+      record { place = 3; variable = 0; verdict = Home; quiet = None } ∷
+      record { place = 4; variable = 0; verdict = Home; quiet = None } ∷
+      record { place = 5; variable = 0; verdict = Home; quiet = None } ∷ [];
+  calls = [];
+  members = [];
   nodes = [];
   names = codes "mainx";
 }
@@ -41,6 +46,7 @@ addition_form = record {
 -- A so many times, and ends by a call of the environment: its number is given, and so is the word that should make it.
 unfoldable pub calling_form : ℕ → ℕ → ℕ → Form
 calling_form count call last = record {
+  version = record { map = One; level = Plain };
   mode = Slots;
   code =
       0x02000137 ∷ 0x40000213 ∷ 0x028000ef ∷ 0x00a00893 ∷ 0x00000073 ∷ 0xfff20213 ∷ 0xff010113 ∷ 0x00300313 ∷ 0x00612223 ∷ 0x01010113 ∷
@@ -48,8 +54,8 @@ calling_form count call last = record {
       (count * 1048576 + 0x00000493) ∷ 0x04100513 ∷ 0x00200893 ∷ 0x00048863 ∷ 0x00000073 ∷ 0xfff48493 ∷ 0xff5ff06f ∷ 0x00812503 ∷ (call * 1048576 + 0x00000893) ∷ last ∷ [];
   initial = [];
   functions =
-      record { name_length = 1; first = 65556; end = 65584; frame = 16; entry = 1 } ∷
-      record { name_length = 4; first = 65584; end = 65656; frame = 16; entry = 4 } ∷ [];
+      record { name_length = 1; first = 65556; end = 65584; frame = 16; entry = 1; saved = 0 } ∷
+      record { name_length = 4; first = 65584; end = 65656; frame = 16; entry = 4; saved = 0 } ∷ [];
   places =
       record { position = 4; line = 1; function = 0; address = 65556 } ∷
       record { position = 11; line = 1; function = 0; address = 65564 } ∷
@@ -69,14 +75,16 @@ calling_form count call last = record {
   flow = [];
   assigned = [];
   rows =
-      record { place = 3; variable = 0; verdict = Home } ∷
-      record { place = 6; variable = 1; verdict = Home } ∷
-      record { place = 7; variable = 1; verdict = Home } ∷
-      record { place = 7; variable = 2; verdict = Home } ∷
-      record { place = 8; variable = 1; verdict = Home } ∷
-      record { place = 8; variable = 2; verdict = Home } ∷
-      record { place = 9; variable = 1; verdict = Home } ∷
-      record { place = 9; variable = 2; verdict = Home } ∷ [];
+      record { place = 3; variable = 0; verdict = Home; quiet = None } ∷
+      record { place = 6; variable = 1; verdict = Home; quiet = None } ∷
+      record { place = 7; variable = 1; verdict = Home; quiet = None } ∷
+      record { place = 7; variable = 2; verdict = Home; quiet = None } ∷
+      record { place = 8; variable = 1; verdict = Home; quiet = None } ∷
+      record { place = 8; variable = 2; verdict = Home; quiet = None } ∷
+      record { place = 9; variable = 1; verdict = Home; quiet = None } ∷
+      record { place = 9; variable = 2; verdict = Home; quiet = None } ∷ [];
+  calls = [];
+  members = [];
   nodes = [];
   names = codes "fmainxxy";
 }

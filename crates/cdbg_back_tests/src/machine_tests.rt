@@ -1,5 +1,8 @@
 //! Small programs, in words that the GNU assembler wrote (binutils 2.40). What they must leave was computed by another machine, written in Python.
 
+ghost use Rattle.std.specs.Prelude.{◌≡◌, ◌*◌, ◌≤◌, IfOk, length};
+
+use memory_map::Map;
 use rv_machine::{Event, Machine};
 use std::alloc::{AllocError, Global};
 use std::process::Abort;
@@ -53,10 +56,35 @@ fn hold(registers: &[u32], words: &[(usize, u32)]) -> bool {
     all.all(|(number, word)| registers.get(*number) == Some(word))
 }
 
+/// The bytes of words, each word's lowest byte first.
+fn bytes_of(alloc: Global, words: &[u32]) -> Result<Vec<u8>, AllocError>
+    ensures { IfOk result (λ bytes. length bytes.items ≡ 4 * length words.now) }
+{
+    let mut bytes = Vec::new(alloc);
+    for word in words {
+        bytes.extend_from_slice(&word.to_le_bytes())?;
+    }
+    Ok(bytes)
+}
+
+/// The machine as it starts on these words of code.
+fn machine_of(
+    alloc: Global,
+    words: &[u32],
+    bytes: &[u8],
+    input: &[u8],
+) -> Result<Machine, AllocError>
+    requires code { length words.now ≤ 100 }
+    requires bytes { length bytes.now ≤ 100 }
+{
+    let code = bytes_of(alloc, words)?;
+    Machine::load(alloc, Map::One, &code, bytes, input)
+}
+
 /// A program leaves what is told of it.
 fn assert_leaves(rt: &impl Abort, alloc: Global, program: &Program) -> Result<(), AllocError> {
     assert!(rt; program.code.len() <= 100 && program.bytes.len() <= 100);
-    let machine = Machine::load(alloc, program.code, program.bytes, program.input)?;
+    let machine = machine_of(alloc, program.code, program.bytes, program.input)?;
     let ran = run(alloc, machine)?;
     let leaves = ran.ending == program.ending
         && ran.output.as_slice() == program.output
@@ -557,7 +585,7 @@ fn programs_fault_where_the_other_machine_faults(rt: HostRuntime) -> Result<(), 
 
 /// A machine that has run two instructions: lui sp, 0x2000; sw sp, -4(sp).
 fn machine_with_a_stack(alloc: Global) -> Result<Machine, AllocError> {
-    let mut machine = Machine::load(alloc, &[0x02000137, 0xfe212e23], &[7, 8, 9], &[])?;
+    let mut machine = machine_of(alloc, &[0x02000137, 0xfe212e23], &[7, 8, 9], &[])?;
     machine.step();
     machine.step();
     Ok(machine)
@@ -621,7 +649,7 @@ fn every_byte_can_be_read(rt: HostRuntime) -> Result<(), AllocError> {
 fn an_ending_comes_again_and_changes_nothing(rt: HostRuntime) -> Result<(), AllocError> {
     // addi a7, x0, 10; addi a0, x0, 3; ecall
     let code = [0x00a00893, 0x00300513, 0x00000073];
-    let mut machine = Machine::load(rt.alloc(), &code, &[], &[])?;
+    let mut machine = machine_of(rt.alloc(), &code, &[], &[])?;
     for wanted in [Event::Went, Event::Went, Event::Exited(3), Event::Exited(3)] {
         assert!(rt; machine.step() == wanted);
     }

@@ -1,15 +1,26 @@
 //! The images that the tests run.
 
-ghost use Rattle.std.specs.Prelude.{◌≡◌, ◌<◌, Some, IfOk};
+ghost use Rattle.std.specs.Prelude.{◌≡◌, ◌<◌, Some, None, IfOk};
 ghost use Rattle.image_form.specs.Form.{form};
 ghost use Rattle.cdbg_back_tests.specs.Samples.{addition_form, calling_form};
 
 use debug_records::Mode;
 use image_form::{
-    AssignedPair, ElementType, FlowPair, Function, Image, Place, Storage, Variable, Verdict,
-    VisibleRow,
+    AssignedPair, ElementType, FlowPair, Function, Image, Level, Place, Storage, Variable, Verdict,
+    Version, VisibleRow,
 };
+use memory_map::Map;
 use std::alloc::{AllocError, Global};
+
+/// The first version.
+fn first_version() -> Version
+    ensures { result ≡ record { map = Map.One; level = Level.Plain } }
+{
+    Version {
+        map: Map::One,
+        level: Level::Plain,
+    }
+}
 
 fn place(position: u32, line: u32, function: u32, address: u32) -> Place
     ensures { result ≡ record { position = position; line = line; function = function; address = address } }
@@ -37,12 +48,13 @@ fn variable(function: u32, position: u32, offset: u32) -> Variable
 }
 
 fn visible(place: u32, variable: u32) -> VisibleRow
-    ensures { result ≡ record { place = place; variable = variable; verdict = Verdict.Home } }
+    ensures { result ≡ record { place = place; variable = variable; verdict = Verdict.Home; quiet = None } }
 {
     VisibleRow {
         place,
         variable,
         verdict: Verdict::Home,
+        quiet: None,
     }
 }
 
@@ -52,6 +64,7 @@ pub fn addition_image(alloc: Global) -> Result<Image, AllocError>
     ensures { IfOk result (λ m. form m ≡ addition_form) }
 {
     Ok(Image {
+        version: first_version(),
         mode: Mode::Slots,
         code: vec![in alloc;
             0x02000137, 0x40000213, 0x00c000ef, 0x00a00893, 0x00000073, 0x00021663, 0x00300893,
@@ -67,7 +80,8 @@ pub fn addition_image(alloc: Global) -> Result<Image, AllocError>
                 first: 65556,
                 end: 65656,
                 frame: 16,
-                entry: 1
+                entry: 1,
+                saved: 0
             },
         ]?,
         places: vec![in alloc;
@@ -100,6 +114,8 @@ pub fn addition_image(alloc: Global) -> Result<Image, AllocError>
             },
         ]?,
         rows: vec![in alloc; visible(3, 0), visible(4, 0), visible(5, 0)]?,
+        calls: Vec::new(alloc),
+        members: Vec::new(alloc),
         nodes: Vec::new(alloc),
         names: vec![in alloc; b'm', b'a', b'i', b'n', b'x']?,
     })
@@ -114,6 +130,7 @@ pub fn calling_image(alloc: Global, count: u32, call: u32, last: u32) -> Result<
     ensures { IfOk result (λ m. form m ≡ calling_form count call last) }
 {
     Ok(Image {
+        version: first_version(),
         mode: Mode::Slots,
         code: vec![in alloc;
             0x02000137,
@@ -154,14 +171,16 @@ pub fn calling_image(alloc: Global, count: u32, call: u32, last: u32) -> Result<
                 first: 65556,
                 end: 65584,
                 frame: 16,
-                entry: 1
+                entry: 1,
+                saved: 0
             },
             Function {
                 name_length: 4,
                 first: 65584,
                 end: 65656,
                 frame: 16,
-                entry: 4
+                entry: 4,
+                saved: 0
             },
         ]?,
         places: vec![in alloc;
@@ -193,6 +212,8 @@ pub fn calling_image(alloc: Global, count: u32, call: u32, last: u32) -> Result<
             visible(9, 1),
             visible(9, 2),
         ]?,
+        calls: Vec::new(alloc),
+        members: Vec::new(alloc),
         nodes: Vec::new(alloc),
         names: vec![in alloc; b'f', b'm', b'a', b'i', b'n', b'x', b'x', b'y']?,
     })
