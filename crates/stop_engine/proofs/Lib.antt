@@ -10,3 +10,4 @@ mod ActivationLaws
 mod VisibleLaws
 mod StopsByLine
 mod CodeWords
+mod PlaceFunctions

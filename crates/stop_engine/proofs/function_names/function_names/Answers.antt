@@ -10,7 +10,7 @@ use Rattle.stop_engine.proofs.function_names.function_names.Goals as goal
 use Rattle.stop_engine.proofs.function_names.function_names.Goals.{then-not-contains_key+in_ok-insert, else-not-contains_key}
 
 no_function : Function
-no_function = record { name_length = 0; first = 0; end = 0; frame = 0; entry = 0 }
+no_function = record { name_length = 0; first = 0; end = 0; frame = 0; entry = 0; saved = 0 }
 
 pub loop-number-preserved : goal.loop-number-preserved
 unfolding no_function
