@@ -175,3 +175,15 @@ cut_late A WriteFault old new ends early = early
 cut_late A NoMemory old new ends early = early
 cut_late A (ImageRefused code offset) old new ends early = ends
 cut_late A (TooLong name) old new ends early = ends
+
+-- What fails as something is saved or put out is told after that alone.
+pub written_late : (A : Type 0) (s : Status) (old new : ℕ) → WriteEnds {A = A} (Err s) old new → IsEarly s → ⊥
+written_late A Done old new ends early = early
+written_late A Usage old new ends early = ends
+written_late A (SourceRefused code line) old new ends early = ends
+written_late A (ScriptRefused code line) old new ends early = ends
+written_late A ReadFault old new ends early = ends
+written_late A WriteFault old new ends early = early
+written_late A NoMemory old new ends early = early
+written_late A (ImageRefused code offset) old new ends early = ends
+written_late A (TooLong name) old new ends early = ends

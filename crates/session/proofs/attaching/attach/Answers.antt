@@ -1,11 +1,11 @@
-use Rattle.std.proofs.Common.{◌≡◌, ◌<◌, ◌++◌, inr, sym, ap, ◌∙◌, subst, Some, rules}
+use Rattle.std.proofs.Common.{◌≡◌, ◌<◌, ◌++◌, inr, refl, sym, ap, ◌∙◌, subst, Some, rules}
 use Rattle.std.specs.List.{AllByRecursion}
 use Rattle.image_form.specs.Views.{viewed}
 use Rattle.outside.specs.Taken.{TakesPart}
 use Rattle.script_form.specs.Script.{orders}
 use Rattle.stop_engine.specs.Transcript.{transcript_bytes}
 use Rattle.command_line.specs.Job.{attach_given}
-use Rattle.session.proofs.Sessions.{attached, played_same}
+use Rattle.session.proofs.Sessions.{attached, played_same, written_late}
 use Rattle.session.proofs.attaching.attach.Goals as goal
 
 pub returns-in-Ok-play : goal.returns-in-Ok-play
@@ -31,10 +31,26 @@ returns-in-Ok-play g c = record {
   };
 }
 
+pub returns-in-Err-read_script : goal.returns-in-Err-read_script
+returns-in-Err-read_script g c = record {
+  caused = search rules;
+  stays = record {
+    kept = λ early told n. c.in-Ok.ensures.same n told;
+    nothing = λ early told. refl;
+    others = λ told n unsaved. c.in-Ok.ensures.same n told;
+  };
+  image = search rules;
+  transcript = search rules;
+}
+
 pub returns : goal.returns
 returns g c = record {
   caused = search rules;
-  stays = search rules;
+  stays = record {
+    kept = λ early told n. c.in-Ok.ensures.same n told;
+    nothing = λ early told. absurd (written_late (Unit {0}) c.in-Err-play.status (g.K.Sink.fault_count c.args.sink.now) (g.K.Sink.fault_count c.play.new.sink) c.in-Err-play.ensures.ends early);
+    others = λ told n unsaved. c.in-Ok.ensures.same n told;
+  };
   image = search rules;
   transcript = record {
     part = λ cut told told_sink.
