@@ -1,3 +1,4 @@
+mod Kinds
 mod Listed
 mod Asked
 mod Found

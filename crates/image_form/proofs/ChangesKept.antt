@@ -1,5 +1,5 @@
 -- Changes and pairs keep their rules where their rows keep their tests.
-use Rattle.std.proofs.Common.{◌≡◌, ℕ, zero, suc, ◌<◌, true, length, Some, refl, arith}
+use Rattle.std.proofs.Common.{◌≡◌, ◌≢◌, ℕ, zero, suc, ◌<◌, true, length, Some, refl, arith}
 use Rattle.std.specs.Prelude.{slice_get, nat_le}
 use Rattle.std.specs.List.{AllByRecursion}
 use Rattle.std.proofs.lemmas.Bool.Decides.{nat_tests}
@@ -9,7 +9,7 @@ use Rattle.image_form.specs.declared.tables.AssignedPair.{AssignedPair}
 use Rattle.image_form.specs.declared.tables.Change.{Change}
 use Rattle.image_form.specs.declared.tables.FlowPair.{FlowPair}
 use Rattle.debug_records.specs.declared.change.Kind.{Kind}
-use Rattle.debug_records.specs.declared.change.Kind.TheVariants.{Removed, Moved, Reused, Replaced}
+use Rattle.debug_records.specs.declared.change.Kind.TheVariants.{Removed, Moved, Reused, Replaced, Sunk}
 use Rattle.image_form.specs.Decoding.{sections_of}
 use Rattle.image_form.specs.Form.{Form}
 use Rattle.image_form.specs.Numbers.{place_numbers, variable_numbers, kind_number, change_numbers, flow_numbers, assigned_numbers}
@@ -20,11 +20,19 @@ use Rattle.image_form_sections.specs.TestsOfTables.{is_place, is_not_below, is_p
 use Rattle.image_form.proofs.Kept.{AllTrue, row_is, next_from, next_at, before_at, at_each}
 use Rattle.image_form.proofs.TableLaws.{each_at, each_from}
 
-kind_small : (k : Kind) → nat_le (kind_number k) 3 ≡ true
-kind_small Removed = refl
-kind_small Moved = refl
-kind_small Reused = refl
-kind_small Replaced = refl
+kind_small : (k : Kind) → k ≢ Sunk → nat_le (kind_number k) 3 ≡ true
+kind_small Removed none = refl
+kind_small Moved none = refl
+kind_small Reused none = refl
+kind_small Replaced none = refl
+kind_small Sunk none = absurd (none refl)
+
+kind_there : (k : Kind) → nat_le (kind_number k) 3 ≡ true → k ≢ Sunk
+kind_there Removed small = λ e. absurd cc
+kind_there Moved small = λ e. absurd cc
+kind_there Reused small = λ e. absurd cc
+kind_there Replaced small = λ e. absurd cc
+kind_there Sunk small = absurd cc
 
 module _ (f : Form) where
   abbrev pub ChangesKept : Type 0
@@ -39,6 +47,7 @@ module _ (f : Form) where
         short_name = grind (arith, nat_tests, k.0);
         at_place = grind (arith, nat_tests, k.1.1.0);
         of_variable = grind (arith, nat_tests, k.1.1.1.0);
+        none_sunk = kind_there c.kind k.1.0;
       }
 
   pub changes_sound : ChangesKept → AllByRecursion (IsChange f) f.changes
@@ -49,7 +58,7 @@ module _ (f : Form) where
   change_complete i c at is =
       rw (row_is change_numbers f.changes i c at, length-map f.places place_numbers, length-map f.variables variable_numbers) (
         grind (arith, nat_tests, is.named, is.short_name),
-        (kind_small c.kind, (grind (arith, nat_tests, is.at_place), (grind (arith, nat_tests, is.of_variable), (refl, tt)))),
+        (kind_small c.kind is.none_sunk, (grind (arith, nat_tests, is.at_place), (grind (arith, nat_tests, is.of_variable), (refl, tt)))),
       )
 
   pub changes_complete : AllByRecursion (IsChange f) f.changes → ChangesKept

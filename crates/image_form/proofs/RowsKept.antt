@@ -8,7 +8,7 @@ use Rattle.std.proofs.lemmas.List.{length-map}
 use Rattle.std.proofs.lemmas.Option.{slice_get_within, slice_get-get_or}
 use Rattle.image_form.specs.declared.tables.Change.{Change}
 use Rattle.debug_records.specs.declared.change.Kind.{Kind}
-use Rattle.debug_records.specs.declared.change.Kind.TheVariants.{Removed, Moved, Reused, Replaced}
+use Rattle.debug_records.specs.declared.change.Kind.TheVariants.{Removed, Moved, Reused, Replaced, Sunk}
 use Rattle.image_form.specs.declared.tables.Place.{Place}
 use Rattle.image_form.specs.declared.variables.ElementType.TheVariants.{U8}
 use Rattle.image_form.specs.declared.variables.Storage.TheVariants.{Static}
@@ -137,6 +137,8 @@ module _ (f : Form) where
   writer_sound Reused (Some a) told kept = ((λ e. absurd cc), code_sound a kept)
   writer_sound Replaced None told kept = absurd (let a = code_sound 0 kept in omega (arith, a.1))
   writer_sound Replaced (Some a) told kept = ((λ e. absurd cc), code_sound a kept)
+  writer_sound Sunk None told kept = absurd (let a = code_sound 0 kept in omega (arith, a.1))
+  writer_sound Sunk (Some a) told kept = ((λ e. absurd cc), code_sound a kept)
 
   writer_complete : (kind : Kind) (writer : Option ℕ) → IsWriter f kind writer → (if kind_number kind == 0 then unwrap_or writer 0 == 0 else is_code_address (sections_of f) (unwrap_or writer 0)) ≡ true
   writer_complete Removed None is = refl
@@ -147,6 +149,8 @@ module _ (f : Form) where
   writer_complete Reused (Some a) is = code_complete a is.1
   writer_complete Replaced None is = absurd cc
   writer_complete Replaced (Some a) is = code_complete a is.1
+  writer_complete Sunk None is = absurd cc
+  writer_complete Sunk (Some a) is = code_complete a is.1
 
   -- What a verdict may name.
   verdict_sound : (i place variable : ℕ) (v : Verdict) (more : List ℕ) → get_or (map (row_numbers f.version.level) f.rows) i [] ≡ place ∷ variable ∷ verdict_then v more → TellsWriter v
