@@ -68,7 +68,10 @@ fn a_route_goes_by_a_place(rt: HostRuntime) -> Result<(), Fail> {
 /// Flags of places, and the least way from 1 by 1 to 4 past those that are set: by 2, or else by 3, or else none.
 static PAST: [(&[bool], &[Place]); 4] = [
     (&[], &[Place(1), Place(2), Place(4)]),
-    (&[false, true, false, true, true], &[Place(1), Place(2), Place(4)]),
+    (
+        &[false, true, false, true, true],
+        &[Place(1), Place(2), Place(4)],
+    ),
     (&[false, false, true], &[Place(1), Place(3), Place(4)]),
     (&[false, false, true, true], &[]),
 ];

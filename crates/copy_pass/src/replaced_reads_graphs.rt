@@ -71,11 +71,7 @@ fn add_function(
 /// particular order.
 ///
 /// `AllocError` where memory was refused.
-pub fn replaced_reads(
-    alloc: Global,
-    was: &[Graph],
-    is: &[Graph],
-) -> Result<Vec<Case>, AllocError>
+pub fn replaced_reads(alloc: Global, was: &[Graph], is: &[Graph]) -> Result<Vec<Case>, AllocError>
     ensures { IfOk result (λ cases. AreCasesOf IsReplacedRead (map graph_view was.now) (map graph_view is.now) cases.items) }
 {
     let mut cases = Vec::new(alloc);

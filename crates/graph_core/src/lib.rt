@@ -25,6 +25,6 @@ pub use instruction::{Callee, Element, Instr, Location};
 pub use memory_map::Room;
 pub use name::{Label, Name, Operand};
 pub use recipe::{NoteValue, Recipe};
-pub use uses::Targets;
 pub use unit::{Bytes, Relocation, StaticObject, Unit};
+pub use uses::Targets;
 pub use value::{Owner, Shadow, Value};

@@ -8,6 +8,7 @@ loop-place-preserved c =
     let flags = c.args.flags.now in
     let blocked = c.loop-place.blocked.items in
     let k = c.loop-place.place in
-    let size = c.loop-place.invariant.0 in
-    (length-set _ (2 * k + 1) (get_or flags k false) ∙ length-set blocked (2 * k) (get_or flags k false) ∙ size,
-      flagged_next flags blocked k (get_or flags k false) (omega (arith, size, c.loop-place-test.true, c.min-place-end.ensures)) refl c.loop-place.invariant.1)
+    let size = c.loop-place.invariant.0 in (
+      length-set _ (2 * k + 1) (get_or flags k false) ∙ length-set blocked (2 * k) (get_or flags k false) ∙ size,
+      flagged_next flags blocked k (get_or flags k false) (omega (arith, size, c.loop-place-test.true, c.min-place-end.ensures)) refl c.loop-place.invariant.1,
+    )
