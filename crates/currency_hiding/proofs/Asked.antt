@@ -26,7 +26,7 @@ use Rattle.currency_writers.specs.Writers.{AreWriters, AreWritesBy, HaveOneHome,
 use Rattle.currency_writers.specs.Copies.{AreCopies}
 use Rattle.currency_hiding.specs.Changes.{AreFound, IsListed, hides_as, log_of}
 use Rattle.currency_hiding.specs.Found.{AreForeign, IsCopied, IsForeign, IsFunction, IsHomeWritten, IsOn, IsOwn}
-use Rattle.currency_hiding.proofs.Kinds.{moved_by}
+use Rattle.currency_hiding.proofs.ByKind.{moved_by}
 use Rattle.currency_hiding.proofs.Listed.{listed_by, numbered}
 pub use Rattle.base_laws.proofs.Lists.{member_at}
 

@@ -39,7 +39,7 @@ use Rattle.currency_hiding.specs.First.{MayBeTold, order_of}
 use Rattle.currency_hiding.specs.Found.{AreAllFound, AreCauses, AreForeign, AreInOrder, AreMoreFound, AreMovesFound, AreSharesFound, HasNoneAt, HidesFrom, IsAsked, IsCovered, IsFirstAt, IsForeign, IsMovedTo, IsOfKind, IsReady, IsRemovalFound, IsToldBy, IsViaOf, IsViaTold, variable_of}
 use Rattle.currency_hiding.proofs.Asked.{member_at}
 use Rattle.currency_hiding.proofs.Found.{shared_back}
-use Rattle.currency_hiding.proofs.Kinds.{by_taken}
+use Rattle.currency_hiding.proofs.ByKind.{by_taken}
 use Rattle.currency_hiding.proofs.Listed.{listed_of, numbered, own_number}
 
 -- all of a list were looked at

@@ -32,7 +32,7 @@ use Rattle.currency_writers.proofs.Indexed.{get_cases, get_kept, get_last}
 use Rattle.currency_hiding.specs.Changes.{AreFound, IsLastSharing, IsSharing, log_of}
 use Rattle.currency_hiding.specs.First.{IsLastShared, IsShared, order_of}
 use Rattle.currency_hiding.specs.Found.{AreCauses, AreInOrder, HidesAt, HidesFrom, IsAsked, IsForeign, IsMovedTo, IsOfKind, variable_of}
-use Rattle.currency_hiding.proofs.Kinds.{moved_by, taken_by}
+use Rattle.currency_hiding.proofs.ByKind.{moved_by, taken_by}
 use Rattle.currency_hiding.proofs.Listed.{listed_of, numbered}
 
 module _ (l : declared-changes.Changes) (s : declared-search.Search) (f : declared-function.Function) where

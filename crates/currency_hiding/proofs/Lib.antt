@@ -1,4 +1,4 @@
-mod Kinds
+mod ByKind
 mod Listed
 mod Asked
 mod Found

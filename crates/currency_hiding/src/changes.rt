@@ -122,7 +122,7 @@ impl<'a> Changes<'a> {
     }
 
     /// Whether by the change of a number the assignment of homes gave the register of a variable to other names too.
-    #[tactic(auto, using(crate::proofs::Kinds::reused_by))]
+    #[tactic(auto, using(crate::proofs::ByKind::reused_by))]
     fn is_sharing(&self, number: u32, var: Var) -> bool
         ensures { (result ≡ true) ↔ IsSharing self.now var.0 number }
     {
