@@ -9,7 +9,7 @@ use Rattle.memory_map.specs.declared.map.Room.TheVariants.{Small}
 use Rattle.graph_core.specs.Bounds.{most_arguments, most_blocks, most_instructions, most_markers}
 use Rattle.graph_core.specs.Graphs.{Instruction, Marker, Note, Move, Operate, Truncate, Same, Address, Load, Store, Zero, CopyWords, Call, Block, Graph, UnitForm}
 use Rattle.graph_core.specs.Validity.{IsGraph, IsValid, arguments_in, arguments_of, counts, instructions_of, markers_in, markers_of, markers_of_blocks, total}
-use Rattle.rv_emit_instructions.specs.Words.{most_words_of}
+use Rattle.rv_emit_words.specs.InstructionWords.{most_words_of}
 use Rattle.rv_emit_sequence.specs.Words.{most_words_of_blocks}
 use Rattle.rv_emit_layout.specs.Words.{most_words_of_graphs}
 
