@@ -8,7 +8,7 @@ use Rattle.graph_solve.proofs.graph.push_edges.Goals as goal
 
 pub returns : goal.returns
 returns c =
-    let labels = labels_in c.targets.result in
+    let labels = labels_in c.targets-targets.result in
     let all : take c.loop-target.target-index c.as_slice-target-items.result.now ≡ labels = take_all c.loop-target.target-index c.as_slice-target-items.result.now c.loop-target-test.false ∙ c.as_slice-target-items.ensures in
     c.loop-target.invariant ∙ ap (λ es. c.args.edges.now.items ++ es)
-    (ap (map (λ (label : Label). edge_from c.args.from label.0)) all ∙ sym (map_through (edge_from c.args.from) (λ (label : Label). label.0) labels) ∙ ap (map (edge_from c.args.from)) c.targets.ensures)
+    (ap (map (λ (label : Label). edge_from c.args.from label.0)) all ∙ sym (map_through (edge_from c.args.from) (λ (label : Label). label.0) labels) ∙ ap (map (edge_from c.args.from)) c.targets-targets.ensures)
