@@ -19,8 +19,8 @@ use rv_emit_tables::Emitted;
 use std::alloc::{AllocError, Global};
 
 /// The code of a unit whose names have homes: the machine over it does what the unit over its homes does. The only error
-/// is want of memory, which also answers a function of 2^32 instructions or more, notes among them, and a unit of the larger room; no text
-/// makes one of these.
+/// is want of memory, which also answers a function of 2^32 instructions or more, notes among them, and a unit of the
+/// larger room; no text makes one of these.
 pub fn emit(alloc: Global, homed: &HomedUnit) -> Result<Emitted, AllocError>
     requires valid { IsValid (homed_view homed.now).unit }
     requires homes { HaveHomes (homed_view homed.now) }
