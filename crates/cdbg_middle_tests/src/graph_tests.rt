@@ -1,7 +1,7 @@
 //! Units that are valid, and units that are not for one reason each, by the rules of places as they are written down.
 
 use debug_records::{ChangeLog, Place};
-use graph_core::{Block, Callee, End, Graph, Instr, Label, Name, Operand, Unit};
+use graph_core::{Block, Callee, End, Graph, Instr, Label, Name, Operand, Room, Unit};
 use places::FlowTable;
 use smallvec::SmallVec;
 use std::alloc::{AllocError, Global};
@@ -83,6 +83,7 @@ fn unit_of(alloc: Global, entry: u32, blocks: Vec<Block>) -> Result<Unit, AllocE
             assignments: Vec::new(alloc),
         },
         log: ChangeLog::new(alloc),
+        room: Room::Small,
     })
 }
 

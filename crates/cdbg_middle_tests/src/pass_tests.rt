@@ -7,7 +7,7 @@ ghost use Rattle.pass_law.specs.Worked.{assigning, assigns_two, block, built, en
 
 use debug_records::{ChangeLog, Kind, PassName, Place, Var};
 use graph_core::{
-    Block, Callee, End, Graph, Instr, Label, Name, NoteValue, Operand, Recipe, Scalar, Unit,
+    Block, Callee, End, Graph, Instr, Label, Name, NoteValue, Operand, Recipe, Room, Scalar, Unit,
 };
 use pass_law::{Pass, RunErr, Trail, run_list};
 use places::{Assignment, FlowStep, FlowTable};
@@ -184,6 +184,7 @@ fn unit_of_main(alloc: Global) -> Result<Unit, AllocError>
         array_bytes: Vec::new(alloc),
         flow: FlowTable { steps, assignments },
         log: ChangeLog::new(alloc),
+        room: Room::Small,
     })
 }
 

@@ -1,7 +1,7 @@
 //! Paths of a loop, worked by hand: a call of each function.
 
 use debug_records::{Place, Var};
-use places::{Assignment, FlowStep, FlowTable, Path, is_path, route};
+use places::{Assignment, FlowStep, FlowTable, Path, is_path, route, route_past};
 use smallvec::SmallVec;
 use std::alloc::{AllocError, Global};
 use std::test::Fail;
@@ -62,5 +62,29 @@ fn a_route_goes_by_a_place(rt: HostRuntime) -> Result<(), Fail> {
         return Err(Fail::from("a path from 1 to 2"));
     };
     assert!(rt; found.places.as_slice() == [Place(1), Place(2)].as_slice());
+    Ok(())
+}
+
+/// Flags of places, and the least way from 1 by 1 to 4 past those that are set: by 2, or else by 3, or else none.
+static PAST: [(&[bool], &[Place]); 4] = [
+    (&[], &[Place(1), Place(2), Place(4)]),
+    (
+        &[false, true, false, true, true],
+        &[Place(1), Place(2), Place(4)],
+    ),
+    (&[false, false, true], &[Place(1), Place(3), Place(4)]),
+    (&[false, false, true, true], &[]),
+];
+
+#[test]
+fn a_route_goes_past_blocked_places(rt: HostRuntime) -> Result<(), Fail> {
+    let steps = vec![in rt.alloc(); step(1, 2), step(1, 3), step(2, 4), step(3, 4)]?;
+    for (flags, wanted) in &PAST {
+        let found = route_past(rt.alloc(), &steps, *flags, Place(1), Place(1), Place(4))?;
+        match found {
+            Some(found) => assert!(rt; found.places.as_slice() == *wanted),
+            None => assert!(rt; wanted.is_empty()),
+        }
+    }
     Ok(())
 }

@@ -6,6 +6,7 @@ use Rattle.std.specs.List.{AllByRecursion}
 use Rattle.debug_records.specs.Change.{pass_name}
 use Rattle.debug_records.specs.declared.change.Kind.TheVariants.{Moved}
 use Rattle.base_laws.proofs.Lists.{all_at}
+use Rattle.memory_map.specs.declared.map.Room.{Room}
 use Rattle.graph_core.specs.Graphs.{Name, Instruction, Move, End, Scalar, Graph, UnitForm}
 use Rattle.graph_core.specs.Uses.{target_of}
 use Rattle.graph_core.specs.Computations.{Computation, computed_by}
@@ -134,13 +135,13 @@ was_moved u g h is valid c r = of_block (block_moved u g h is valid c.block r.st
 
 -- ---- All changes
 
-one_moved : (before : List Graph) (g : Graph) (behind : List Graph) (h : Graph) → BecomesIn before g behind h → g.name_count < h.name_count → IsMoved g h
+one_moved : {room : Room} (before : List Graph) (g : Graph) (behind : List Graph) (h : Graph) → BecomesIn room before g behind h → g.name_count < h.name_count → IsMoved g h
 one_moved before g behind h (moves entered moved within_bounds) more = moved
 one_moved before g behind _ (passes_a_bound entered moved beyond) more = absurd (omega (arith, more))
 one_moved before g behind _ (is_entered_again again) more = absurd (omega (arith, more))
 
 -- A function that has more names was moved.
-function_moved : (before gs hs : List Graph) → BecomeIn before gs hs → (f : ℕ) (g h : Graph) → slice_get gs f ≡ Some g → slice_get hs f ≡ Some h → g.name_count < h.name_count → IsMoved g h
+function_moved : {room : Room} (before gs hs : List Graph) → BecomeIn room before gs hs → (f : ℕ) (g h : Graph) → slice_get gs f ≡ Some g → slice_get hs f ≡ Some h → g.name_count < h.name_count → IsMoved g h
 function_moved before [] hs become f g h stood stands more = absurd (none-some g stood)
 function_moved before (x ∷ gs) [] become f g h stood stands more = absurd (none-some h stands)
 function_moved before (x ∷ gs) (y ∷ hs) (one_function becomes others) zero g h stood stands more =

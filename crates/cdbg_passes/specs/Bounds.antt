@@ -1,5 +1,6 @@
 -- What passes do where counts are bounded.
 use Rattle.std.specs.Prelude.{◌≡◌, ◌⊎◌, ℕ, suc, ◌≤◌, Some, List, ◌∷◌, ◌++◌, length, slice_get, take, drop}
+use Rattle.memory_map.specs.declared.map.Room.{Room}
 use Rattle.graph_core.specs.Graphs.{Graph}
 use Rattle.graph_core.specs.Validity.{arguments_of, instructions_of}
 use Rattle.motion_pass_placement.specs.Moves.{IsWithin}
@@ -13,11 +14,11 @@ pub record NeverGrows (g h : Graph) : Type 0 where
   pub arguments : arguments_of h ≤ arguments_of g
 
 -- Why code motion leaves a function as it was: what the rule makes of it is the same, or would take the unit beyond a bound, with the functions before it as they became and those behind it as they were.
-pub record IsLeftForBounds (before : List Graph) (g : Graph) (behind : List Graph) : Type 0 where
+pub record IsLeftForBounds (room : Room) (before : List Graph) (g : Graph) (behind : List Graph) : Type 0 where
   pub moved : Graph
   pub is : IsMoved g moved
-  pub why : (moved ≡ g) ⊎ (IsWithin moved (before ++ moved ∷ behind) → ⊥)
+  pub why : (moved ≡ g) ⊎ (IsWithin room moved (before ++ moved ∷ behind) → ⊥)
 
 -- FUNCTIONS ARE LEFT FOR BOUNDS ALONE: so it is of each that is behind the pass what it was before.
-abbrev pub AreLeftForBounds : (gs hs : List Graph) → Type 0
-AreLeftForBounds gs hs = (k : ℕ) (g : Graph) → slice_get gs k ≡ Some g → slice_get hs k ≡ Some g → IsLeftForBounds (take k hs) g (drop (suc k) gs)
+abbrev pub AreLeftForBounds : Room → (gs hs : List Graph) → Type 0
+AreLeftForBounds room gs hs = (k : ℕ) (g : Graph) → slice_get gs k ≡ Some g → slice_get hs k ≡ Some g → IsLeftForBounds room (take k hs) g (drop (suc k) gs)

@@ -1,5 +1,6 @@
 -- That a pass leaves nothing that it could still do, said of what it made.
 use Rattle.std.specs.Prelude.{◌≡◌, ◌⊎◌, ℕ, suc, Some, List, ◌∷◌, ◌++◌, slice_get, take, drop}
+use Rattle.memory_map.specs.declared.map.Room.{Room}
 use Rattle.graph_core.specs.Graphs.{Instruction, End, Graph}
 use Rattle.graph_core.specs.Uses.{target_of}
 use Rattle.graph_core.specs.Paths.{Among}
@@ -22,17 +23,17 @@ HasNoDead h =
     (n p x : ℕ) (i : Instruction) (rest : List Instruction) (e : End) → IsReached h n (i ∷ rest) e → StandsWith h p n (i ∷ rest) e → target_of i ≡ Some x → MayGo h p x → IsUnread h x n rest e → ⊥
 
 -- What code motion would make of a function takes the unit beyond a bound, with the functions before it as they became and those behind it as they were.
-pub record IsBeyondBounds (before : List Graph) (g : Graph) (behind : List Graph) : Type 0 where
+pub record IsBeyondBounds (room : Room) (before : List Graph) (g : Graph) (behind : List Graph) : Type 0 where
   pub moved : Graph
   pub is : IsMoved g moved
-  pub beyond : IsWithin moved (before ++ moved ∷ behind) → ⊥
+  pub beyond : IsWithin room moved (before ++ moved ∷ behind) → ⊥
 
 -- NOTHING IS COMPUTED AGAIN in any function behind code motion, but where it left the function as it was for a bound.
-abbrev pub ComputeNothingAgain : (gs hs : List Graph) → Type 0
-ComputeNothingAgain gs hs =
-    (k : ℕ) (g h : Graph) → slice_get gs k ≡ Some g → slice_get hs k ≡ Some h → HasNothingAgain h ⊎ ((h ≡ g) × IsBeyondBounds (take k hs) g (drop (suc k) gs))
+abbrev pub ComputeNothingAgain : Room → (gs hs : List Graph) → Type 0
+ComputeNothingAgain room gs hs =
+    (k : ℕ) (g h : Graph) → slice_get gs k ≡ Some g → slice_get hs k ≡ Some h → HasNothingAgain h ⊎ ((h ≡ g) × IsBeyondBounds room (take k hs) g (drop (suc k) gs))
 
 -- EACH FUNCTION IS COMPUTATIONALLY OPTIMAL behind code motion, but where it left the function as it was for a bound.
-abbrev pub AreOptimal : (gs hs : List Graph) → Type 0
-AreOptimal gs hs =
-    (k : ℕ) (g h : Graph) → slice_get gs k ≡ Some g → slice_get hs k ≡ Some h → IsOptimal g h ⊎ ((h ≡ g) × IsBeyondBounds (take k hs) g (drop (suc k) gs))
+abbrev pub AreOptimal : Room → (gs hs : List Graph) → Type 0
+AreOptimal room gs hs =
+    (k : ℕ) (g h : Graph) → slice_get gs k ≡ Some g → slice_get hs k ≡ Some h → IsOptimal g h ⊎ ((h ≡ g) × IsBeyondBounds room (take k hs) g (drop (suc k) gs))

@@ -29,7 +29,7 @@ pub record PropagatesCopies (u v : UnitForm) : Type 0 where
 pub record MovesCode (u v : UnitForm) : Type 0 where
   pub made : MakesValid u v
   pub changes : AddsChangesOf (pass_name (codes "motion")) Moved IsMovedAssignment u v
-  pub functions : AreAllMoved u.graphs v.graphs
+  pub functions : AreAllMoved u.room u.graphs v.graphs
 
 -- A step of the removal of dead assignments: the writes that go are gone from each function, behind the old changes one is logged for each of them that wrote a variable, and no other, and each note says what it shall.
 pub record RemovesDead (u v : UnitForm) : Type 0 where

@@ -17,4 +17,4 @@ pub record IsOnTrail (steps : UnitForm → UnitForm → Type 0) (u v : UnitForm)
   pub step : steps u v
   pub keeps : Keeps u v
   pub earned : IsStepOfProgram u v → AreEarned u v
-  pub optimal : MovesCode u v → AreOptimal u.graphs v.graphs
+  pub optimal : MovesCode u v → AreOptimal u.room u.graphs v.graphs

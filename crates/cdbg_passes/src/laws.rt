@@ -32,8 +32,10 @@ pub fn changes_are_earned()
 pub fn no_pass_is_idle()
     ensures copy { (u v : UnitForm) → PropagatesCopies u v → AllByRecursion HasNoCopies v.graphs }
     ensures dead { (u v : UnitForm) → RemovesDead u v → AllByRecursion HasNoDead v.graphs }
-    ensures left { (u v : UnitForm) → AreWellMarked u → MovesCode u v → AreLeftForBounds u.graphs v.graphs }
-    ensures again { (u v : UnitForm) → AreWellMarked u → MovesCode u v → ComputeNothingAgain u.graphs v.graphs }
+    ensures left { (u v : UnitForm) → AreWellMarked u → MovesCode u v
+        → AreLeftForBounds u.room u.graphs v.graphs }
+    ensures again { (u v : UnitForm) → AreWellMarked u → MovesCode u v
+        → ComputeNothingAgain u.room u.graphs v.graphs }
     ensures more { (u v : UnitForm) → AreWellMarked u → MovesCode u v → EachFunction DoesNoMore u.graphs v.graphs }
     ensures ahead { (u v : UnitForm) → AreWellMarked u → MovesCode u v → EachFunction IsOnceAhead u.graphs v.graphs }
 {}
@@ -43,7 +45,7 @@ pub fn no_pass_is_idle()
 /// as it was for a bound. What is optimal does nothing more often than before: one safe placement is to leave each
 /// computation where it stands.
 pub fn motion_is_optimal()
-    ensures optimal { (u v : UnitForm) → AreWellMarked u → MovesCode u v → AreOptimal u.graphs v.graphs }
+    ensures optimal { (u v : UnitForm) → AreWellMarked u → MovesCode u v → AreOptimal u.room u.graphs v.graphs }
     ensures more { (g h : Graph) → IsOptimal g h → DoesNoMore g h }
 {}
 

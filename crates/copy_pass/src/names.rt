@@ -1,6 +1,6 @@
 //! Names that are read at one point of both graphs.
 
-ghost use Rattle.std.specs.Prelude.{◌≡◌, ℕ, IfOk, IfSome, MatchOption, map, option_map, slice_get, true};
+ghost use Rattle.std.specs.Prelude.{◌≡◌, ℕ, MatchOption, OnOk, map, option_map, slice_get};
 ghost use Rattle.graph_core.specs.Graphs.{Scalar as ScalarOf, scalar_view};
 ghost use Rattle.graph_core.specs.Uses.{numbers};
 ghost use Rattle.debug_records.specs.declared.change.Var as declared-var;
@@ -52,23 +52,7 @@ fn variable_of(scalars: &[Scalar], name: u32) -> Option<Var>
     }
 }
 
-/// The case of an operand at a point, where its numbers are those of a case.
-fn case_of(place: Place, point: &Point, operand: usize, var: Var) -> Option<Case>
-    ensures { IfSome result (λ c. c ≡ record { place = place; block = point.now.block; index = point.now.index; operand = operand; var = var }) }
-{
-    if point.block > 0xffff_ffff || point.index > 0xffff_ffff || operand > 0xffff_ffff {
-        return None;
-    }
-    Some(Case {
-        place,
-        block: point.block as u32,
-        index: point.index as u32,
-        operand: operand as u32,
-        var,
-    })
-}
-
-/// Appends the case of an operand, if another name is read as it now. False where its numbers are too large.
+/// Appends the case of an operand, if another name is read as it now.
 fn add_operand(
     scalars: &[Scalar],
     point: &Point,
@@ -76,39 +60,40 @@ fn add_operand(
     was: &[Name],
     is: &[Name],
     cases: &mut Vec<Case>,
-) -> Result<bool, AllocError>
-    ensures { IfOk result (λ whole. whole ≡ true → Adds (Numbered (IsReplacedAt (map scalar_view scalars.now) (placed point.now.place) point.now.block point.now.index (numbers was.now) (numbers is.now)) (λ (c : declared-case.Case). c.operand) operand) cases.old.items cases.new.items) }
+) -> Result<(), AllocError>
+    ensures { OnOk result (Adds (Numbered (IsReplacedAt (map scalar_view scalars.now) (placed point.now.place) point.now.block point.now.index (numbers was.now) (numbers is.now)) (λ (c : declared-case.Case). c.operand) operand) cases.old.items cases.new.items) }
 {
     let Some(name) = replaced_name(was, is, operand) else {
-        return Ok(true);
+        return Ok(());
     };
     let Some(place) = point.place else {
-        return Ok(true);
+        return Ok(());
     };
     let Some(var) = variable_of(scalars, name) else {
-        return Ok(true);
+        return Ok(());
     };
-    let Some(case) = case_of(place, point, operand, var) else {
-        return Ok(false);
-    };
-    cases.push(case)?;
-    Ok(true)
+    cases.push(Case {
+        place,
+        block: point.block,
+        index: point.index,
+        operand,
+        var,
+    })?;
+    Ok(())
 }
 
-/// Appends the cases of what was read and is read at a point. False where their numbers are too large.
+/// Appends the cases of what was read and is read at a point.
 pub fn add_names(
     scalars: &[Scalar],
     point: &Point,
     was: &[Name],
     is: &[Name],
     cases: &mut Vec<Case>,
-) -> Result<bool, AllocError>
-    ensures { IfOk result (λ whole. whole ≡ true → Adds (IsReplacedAt (map scalar_view scalars.now) (placed point.now.place) point.now.block point.now.index (numbers was.now) (numbers is.now)) cases.old.items cases.new.items) }
+) -> Result<(), AllocError>
+    ensures { OnOk result (Adds (IsReplacedAt (map scalar_view scalars.now) (placed point.now.place) point.now.block point.now.index (numbers was.now) (numbers is.now)) cases.old.items cases.new.items) }
 {
     for operand in 0..was.len() {
-        if !add_operand(scalars, point, operand, was, is, cases)? {
-            return Ok(false);
-        }
+        add_operand(scalars, point, operand, was, is, cases)?;
     }
-    Ok(true)
+    Ok(())
 }

@@ -60,8 +60,7 @@ fn graphs_after(alloc: Global, graphs: &[Graph]) -> Result<Option<Vec<Graph>>, A
 /// reaches nothing changes. The log tells each read that became another by a change `Replaced` of the pass `copy`: of the place, and of the variable
 /// that was read before; in order of place, then of block, instruction and operand.
 ///
-/// None where the search for copies told others than those that the unit then makes, or a number of its blocks, instructions or changes is too large for the log,
-/// which no unit is known to meet. `AllocError` where memory was refused.
+/// None where the search for copies told others than those that the unit then makes, or there are too many changes for the log, which no unit is known to meet. `AllocError` where memory was refused.
 pub fn propagate_copies(alloc: Global, unit: &Unit) -> Result<Option<Unit>, AllocError>
     requires valid { IsValid (unit_view unit.now) }
     requires room { length (unit_view unit.now).log < 2 ^ 31 }
@@ -75,9 +74,7 @@ pub fn propagate_copies(alloc: Global, unit: &Unit) -> Result<Option<Unit>, Allo
     let Some(graphs) = graphs_after(alloc, &unit.graphs)? else {
         return Ok(None);
     };
-    let Some(mut cases) = replaced_reads(alloc, &unit.graphs, &graphs)? else {
-        return Ok(None);
-    };
+    let mut cases = replaced_reads(alloc, &unit.graphs, &graphs)?;
     let mut made = unit.duplicate(alloc)?;
     made.graphs = graphs;
     if !log_cases(&mut made.log, copy_name(), Kind::Replaced, &mut cases)? {

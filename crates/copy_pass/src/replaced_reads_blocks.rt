@@ -1,6 +1,6 @@
 //! What differs in a block.
 
-ghost use Rattle.std.specs.Prelude.{◌≡◌, IfOk, length, map, true};
+ghost use Rattle.std.specs.Prelude.{◌≡◌, OnOk, length, map};
 ghost use Rattle.graph_core.specs.Graphs.{block_view, end_view, instruction_view, scalar_view};
 ghost use Rattle.graph_core.specs.Uses.{reads_of, reads_of_end};
 ghost use Rattle.pass_law.specs.Changes.{Adds};
@@ -28,7 +28,7 @@ fn in_both(stood: Option<Place>, stands: Option<Place>) -> Option<Place>
     }
 }
 
-/// Appends the cases of an instruction at a point. False where their numbers are too large.
+/// Appends the cases of an instruction at a point.
 fn add_instruction(
     alloc: Global,
     scalars: &[Scalar],
@@ -36,15 +36,15 @@ fn add_instruction(
     was: &Instr,
     is: &Instr,
     cases: &mut Vec<Case>,
-) -> Result<bool, AllocError>
-    ensures { IfOk result (λ whole. whole ≡ true → Adds (IsReplacedAt (map scalar_view scalars.now) (placed point.now.place) point.now.block point.now.index (reads_of (instruction_view was.now)) (reads_of (instruction_view is.now))) cases.old.items cases.new.items) }
+) -> Result<(), AllocError>
+    ensures { OnOk result (Adds (IsReplacedAt (map scalar_view scalars.now) (placed point.now.place) point.now.block point.now.index (reads_of (instruction_view was.now)) (reads_of (instruction_view is.now))) cases.old.items cases.new.items) }
 {
     let read_before = was.reads(alloc)?;
     let read_now = is.reads(alloc)?;
     add_names(scalars, point, &read_before, &read_now, cases)
 }
 
-/// Appends the cases of the end of a block. False where their numbers are too large.
+/// Appends the cases of the end of a block.
 fn add_end(
     alloc: Global,
     scalars: &[Scalar],
@@ -52,15 +52,15 @@ fn add_end(
     was: &End,
     is: &End,
     cases: &mut Vec<Case>,
-) -> Result<bool, AllocError>
-    ensures { IfOk result (λ whole. whole ≡ true → Adds (IsReplacedAt (map scalar_view scalars.now) (placed point.now.place) point.now.block point.now.index (reads_of_end (end_view was.now)) (reads_of_end (end_view is.now))) cases.old.items cases.new.items) }
+) -> Result<(), AllocError>
+    ensures { OnOk result (Adds (IsReplacedAt (map scalar_view scalars.now) (placed point.now.place) point.now.block point.now.index (reads_of_end (end_view was.now)) (reads_of_end (end_view is.now))) cases.old.items cases.new.items) }
 {
     let read_before = was.reads(alloc)?;
     let read_now = is.reads(alloc)?;
     add_names(scalars, point, &read_before, &read_now, cases)
 }
 
-/// Appends the cases of a block, which has as many instructions as before. False where their numbers are too large.
+/// Appends the cases of a block, which has as many instructions as before.
 pub fn add_block(
     alloc: Global,
     scalars: &[Scalar],
@@ -68,9 +68,9 @@ pub fn add_block(
     was: &Block,
     is: &Block,
     cases: &mut Vec<Case>,
-) -> Result<bool, AllocError>
+) -> Result<(), AllocError>
     requires alike { length is.now.instructions.items ≡ length was.now.instructions.items }
-    ensures { IfOk result (λ whole. whole ≡ true → Adds (IsReplacedIn (map scalar_view scalars.now) number (block_view was.now) (block_view is.now)) cases.old.items cases.new.items) }
+    ensures { OnOk result (Adds (IsReplacedIn (map scalar_view scalars.now) number (block_view was.now) (block_view is.now)) cases.old.items cases.new.items) }
 {
     let mut stood = was.place;
     let mut stands = is.place;
@@ -82,9 +82,7 @@ pub fn add_block(
             block: number,
             index,
         };
-        if !add_instruction(alloc, scalars, &point, before, after, cases)? {
-            return Ok(false);
-        }
+        add_instruction(alloc, scalars, &point, before, after, cases)?;
         stood = before.marker().or(stood);
         stands = after.marker().or(stands);
     }

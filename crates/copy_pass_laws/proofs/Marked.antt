@@ -8,7 +8,7 @@ use Rattle.graph_core.specs.Uses.{reads_of, reads_of_end, targets_of}
 use Rattle.graph_core.specs.Paths.{History, Among, Path, place_of, is_call, called, written, unnoted, owed}
 use Rattle.graph_core.specs.Validity.{IsValid}
 use Rattle.graph_core.specs.Bounds.{most_words}
-use Rattle.graph_core.specs.WellMarked.{InPlace, ComesToMarker, IsVariable, IsLocal, WasRemoved, WrittenIn, IsRightNote, IsWellMarked, AreWellMarked}
+use Rattle.graph_core.specs.WellMarked.{InPlace, ComesToMarker, IsVariable, IsLocal, WasTaken, WrittenIn, IsRightNote, IsWellMarked, AreWellMarked}
 use Rattle.copy_pass_rule.specs.Alike.{IsReadFor, AreAlikeInstructions, AreAlikeBlocks, AreAlike}
 use Rattle.copy_pass_rule.proofs.Lists.{among_left}
 use Rattle.copy_pass_rule.proofs.Shapes.{same_targets}
@@ -20,8 +20,8 @@ use Rattle.copy_pass_laws.proofs.Ways.{path_to, path_to_same, path_to_end}
 use Rattle.copy_pass_laws.proofs.Standing.{block_turned, blocks_turned, in_place_alike, written_alike, comes_alike}
 
 -- What was removed by the log was removed by a longer one.
-removed_still : (log added : List Logged) (p variable : ℕ) → WasRemoved log p variable → WasRemoved (log ++ added) p variable
-removed_still log added p variable r = record { change = r.change; logged = among_left r.change log added r.logged; removed = r.removed; at = r.at; of = r.of }
+removed_still : (log added : List Logged) (p variable : ℕ) → WasTaken log p variable → WasTaken (log ++ added) p variable
+removed_still log added p variable r = record { change = r.change; logged = among_left r.change log added r.logged; taken = r.taken; at = r.at; of = r.of }
 
 -- A block that is alike to one that begins with a marker does so.
 begins_alike : (scalars entry other : ℕ) → other ≡ entry → (all rest : List Instruction) → Pairs (AreAlikeInstructions (IsReadFor scalars)) all (Marker entry ∷ rest) → (more : List Instruction) × (all ≡ Marker other ∷ more)
@@ -191,7 +191,7 @@ module _ (u v : UnitForm) (g h : Graph) (alike : AreAlike g h) (old : IsWellMark
     right_still : (p x variable : ℕ) (value : NoteValue) → IsRightNote u g p x variable value → IsRightNote v h p x variable value
     right_still p x variable value (inl own) = inl (own.0, written_still p x own.1)
     right_still p x variable value (inr gone) =
-        inr (gone.0, λ w. gone.1 (written_back p x w), subst (λ all. WasRemoved all p variable) (sym log) (removed_still u.log added p variable gone.2))
+        inr (gone.0, λ w. gone.1 (written_back p x w), subst (λ all. WasTaken all p variable) (sym log) (removed_still u.log added p variable gone.2))
 
     -- Each note that a path comes to is right.
     right : (hist : History) (n : ℕ) (p x variable : ℕ) (value : NoteValue) (rest : List Instruction) (e : End) → IsVariable h x variable → Path h hist n (Note x value ∷ rest) e → place_of hist ≡ Some p → IsRightNote v h p x variable value

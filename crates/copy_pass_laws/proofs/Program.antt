@@ -28,6 +28,7 @@ same_program u v alike = record {
   array_bytes = alike.shared.array_bytes;
   steps = alike.shared.steps;
   assignments = alike.shared.assignments;
+  room = alike.shared.room;
   added = alike.added;
   log = alike.log;
   functions = pairs_so AreAlike SameFunction same_function u.graphs v.graphs alike.functions;

@@ -13,7 +13,7 @@ use Rattle.copy_pass_rule.proofs.Naming.{with_graphs}
 
 -- A unit that shares what functions share with another one is that one with graphs and a log of its own.
 shared : (u v : UnitForm) → ShareTheSame u v → v ≡ with_graphs u v.graphs v.log
-shared u v s = rw (sym s.main, sym s.statics, sym s.array_bytes, sym s.steps, sym s.assignments) refl
+shared u v s = rw (sym s.main, sym s.statics, sym s.array_bytes, sym s.steps, sym s.assignments, sym s.room) refl
 
 -- A unit whose graphs are like those of a valid unit but for what they read is valid, if what functions share is the same and the log only grew.
 pub alike_valid : (u v : UnitForm) → IsValid u → ShareTheSame u v → Pairs AreAlike u.graphs v.graphs → length u.log ≤ length v.log → IsValid v

@@ -2,7 +2,7 @@
 
 ghost use Rattle.std.specs.Prelude.{◌≡◌, IfSome, map, true};
 ghost use Rattle.graph_core.specs.Graphs.{logged};
-ghost use Rattle.currency.specs.Named.{AreNamed, IsLogged, IsNamed, IsNumbered, IsRemoval};
+ghost use Rattle.currency.specs.Named.{AreNamed, IsLogged, IsNamed, IsNumbered, IsRemoval, IsTaking};
 
 use crate::verdict::{PlaceVerdict, Verdict};
 use debug_records::{Change, Kind, Place, Var};
@@ -27,13 +27,23 @@ fn is_logged(changes: &[Change], number: u32, kind: Kind, var: Var) -> bool
     }
 }
 
-/// Whether the change of a number removed an assignment of this variable in this place.
+/// Whether by the change of a number an assignment of this variable went.
+fn is_taking(changes: &[Change], number: u32, var: Var) -> bool
+    ensures { result ≡ true → IsTaking (map logged changes.now) number var.0 }
+{
+    match change_of(changes, number) {
+        Some(change) => change.kind.is_taken() && change.var.0 == var.0,
+        None => false,
+    }
+}
+
+/// Whether by the change of a number an assignment of this variable went from this place.
 fn is_removal(changes: &[Change], number: u32, var: Var, place: Place) -> bool
     ensures { result ≡ true → IsRemoval (map logged changes.now) number var.0 place.0 }
 {
     match change_of(changes, number) {
         Some(change) => {
-            change.kind == Kind::Removed && change.var.0 == var.0 && change.place.0 == place.0
+            change.kind.is_taken() && change.var.0 == var.0 && change.place.0 == place.0
         }
         None => false,
     }
@@ -45,7 +55,7 @@ fn is_named(changes: &[Change], var: Var, verdict: &Verdict) -> bool
 {
     match verdict {
         Verdict::Home => true,
-        Verdict::Recovered { change, .. } => is_logged(changes, *change, Kind::Removed, var),
+        Verdict::Recovered { change, .. } => is_taking(changes, *change, var),
         Verdict::Noncurrent {
             change,
             start,

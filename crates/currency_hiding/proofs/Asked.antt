@@ -24,8 +24,9 @@ use Rattle.currency_hiding.specs.declared.changes.Changes as declared-changes
 use Rattle.currency_hiding.specs.declared.function.Function as declared-function
 use Rattle.currency_writers.specs.Writers.{AreWriters, AreWritesBy, HaveOneHome, Writes, home_key}
 use Rattle.currency_writers.specs.Copies.{AreCopies}
-use Rattle.currency_hiding.specs.Changes.{AreFound, IsListed, log_of}
+use Rattle.currency_hiding.specs.Changes.{AreFound, IsListed, hides_as, log_of}
 use Rattle.currency_hiding.specs.Found.{AreForeign, IsCopied, IsForeign, IsFunction, IsHomeWritten, IsOn, IsOwn}
+use Rattle.currency_hiding.proofs.ByKind.{moved_by}
 use Rattle.currency_hiding.proofs.Listed.{listed_by, numbered}
 pub use Rattle.base_laws.proofs.Lists.{member_at}
 
@@ -74,14 +75,14 @@ module _ (c : declared-changes.Changes) (f : declared-function.Function) (variab
       let one = listed_by c temporary.change temporary.logged in
       let d : Change = one.1 in
       let same : logged d ≡ temporary.change = one.3 in
-      let among : Contains moved d = found.all one.0 d one.2 (ap (λ (z : Logged). z.variable) same ∙ temporary.of) (ap (λ (z : Logged). z.kind) same ∙ temporary.moved) in
+      let among : Contains moved d = found.all one.0 d one.2 (ap (λ (z : Logged). z.variable) same ∙ temporary.of) (ap (λ (z : Logged). hides_as z.kind) same ∙ ap hides_as temporary.moved) in
       All-contains (λ (d : Change). IsOwn f d.place.0) moved d marked among t scalar (ap (λ (z : Logged). first_copy z.place f.scalar (graph_view f.writers.graph.now).blocks) same ∙ temporary.copied) temporary.temporary
 
   only : AreFound c variable Moved moved → AreOwnOnly f moved → (t : ℕ) → mark_of f.own t ≢ 0 → IsTemporaryOf (log_of c) (graph_view f.writers.graph.now) f.scalar variable t
   only found marked t some =
       let one = marked t some in
-      let is = All-contains (λ (d : Change). IsListed c d.number d × (d.var.0 ≡ variable) × (d.kind ≡ Moved)) moved one.0 found.each one.1 in
-      record { change = logged one.0; logged = at_among (log_of c) (one.0.number - 1) (logged one.0) (numbered c one.0.number one.0 is.0).is; moved = is.2; of = is.1; copied = one.2.copied; temporary = one.2.temporary }
+      let is = All-contains (λ (d : Change). IsListed c d.number d × (d.var.0 ≡ variable) × (hides_as d.kind ≡ Moved)) moved one.0 found.each one.1 in
+      record { change = logged one.0; logged = at_among (log_of c) (one.0.number - 1) (logged one.0) (numbered c one.0.number one.0 is.0).is; moved = moved_by one.0.kind is.2; of = is.1; copied = one.2.copied; temporary = one.2.temporary }
 
   pub is_on : IsFunction f → f.scalar < length (graph_view f.writers.graph.now).scalars → AreFound c variable Moved moved → AreMarked f.writers f.scalar f.written → AreBare f.writers f.scalar f.written → All (λ (d : Change). IsOwn f d.place.0) moved → AreOwnOnly f moved → IsOn (log_of c) f variable
   is_on is scalar found places bare temporaries others = record { function = is; scalar = scalar; written = places; bare = bare; own = own scalar found temporaries; only = only found others }

@@ -6,7 +6,9 @@ use Rattle.std.proofs.lemmas.List.Elements.{All-contains, All-more, All-weaker}
 use Rattle.std.specs.List.Sorted.{IsPermutation}
 use Rattle.std.proofs.lemmas.List.Sorted.{Contains-permutation}
 use Rattle.std.proofs.lemmas.Option.{none-some, same_Some, slice_get-get_or, slice_get_within}
+use Rattle.places.specs.Path.{quest_by}
 use Rattle.debug_records.specs.declared.change.Change.{Change}
+use Rattle.debug_records.specs.Change.{is_taken}
 use Rattle.debug_records.specs.declared.change.Kind.TheVariants.{Moved, Removed}
 use Rattle.graph_core.specs.Graphs.{Logged, graph_view, logged}
 use Rattle.graph_core.specs.declared.graph.Graph as declared-graph
@@ -32,11 +34,12 @@ use Rattle.currency_hiding.specs.declared.causes.Found as declared-found
 use Rattle.currency_hiding.specs.declared.causes.Via as declared-via
 use Rattle.currency_hiding.specs.declared.causes.Causes as declared-causes
 use Rattle.currency_hiding.specs.declared.teller.Teller as declared-teller
-use Rattle.currency_hiding.specs.Changes.{AreFound, AreListed, IsListed, IsNumbered, IsSharing, log_of}
+use Rattle.currency_hiding.specs.Changes.{AreFound, AreListed, IsListed, IsNumbered, IsSharing, hides_as, log_of}
 use Rattle.currency_hiding.specs.First.{MayBeTold, order_of}
 use Rattle.currency_hiding.specs.Found.{AreAllFound, AreCauses, AreForeign, AreInOrder, AreMoreFound, AreMovesFound, AreSharesFound, HasNoneAt, HidesFrom, IsAsked, IsCovered, IsFirstAt, IsForeign, IsMovedTo, IsOfKind, IsReady, IsRemovalFound, IsToldBy, IsViaOf, IsViaTold, variable_of}
 use Rattle.currency_hiding.proofs.Asked.{member_at}
 use Rattle.currency_hiding.proofs.Found.{shared_back}
+use Rattle.currency_hiding.proofs.ByKind.{by_taken}
 use Rattle.currency_hiding.proofs.Listed.{listed_of, numbered, own_number}
 
 -- all of a list were looked at
@@ -97,25 +100,25 @@ module _ (l : declared-changes.Changes) (s : declared-search.Search) (f : declar
   may_be : (c : declared-cause.Cause) (via stop : ℕ) → HidesFrom l s f c via → ComesOn s.flow via stop → May stop via c
   may_be (cause.Removed c start) via stop hides comes =
       (let there : ComesOn s.flow start stop = subst (λ v. ComesOn s.flow v stop) (sym hides.0) comes in
-      let way = route_by (record { steps = s.flow.table.now.steps.items; assignments = s.flow.table.now.assignments.items; var = s.flow.var.0; start = start; via = start; stop = stop }) (inl refl) there in
+      let way = route_by (quest_by s.flow.table.now s.flow.var.0 start start stop) (inl refl) there in
       (hides.0, hides.1, record { path = way.0; route = way.1 }))
   may_be (cause.Moved c start w) via stop hides comes =
-      (let way = route_by (record { steps = s.flow.table.now.steps.items; assignments = s.flow.table.now.assignments.items; var = s.flow.var.0; start = start; via = via; stop = stop }) hides.1.by comes in
+      (let way = route_by (quest_by s.flow.table.now s.flow.var.0 start via stop) hides.1.by comes in
       (hides.0, hides.1.assigns, record { path = way.0; route = way.1 }))
   may_be (cause.Reused c start w) via stop hides comes =
-      (let way = route_by (record { steps = s.flow.table.now.steps.items; assignments = s.flow.table.now.assignments.items; var = s.flow.var.0; start = start; via = via; stop = stop }) hides.1.by comes in
+      (let way = route_by (quest_by s.flow.table.now s.flow.var.0 start via stop) hides.1.by comes in
       (hides.2, hides.0, hides.1.assigns, record { path = way.0; route = way.1 }))
 
   -- and the other way round
   may_from : (c : declared-cause.Cause) (via stop : ℕ) → May stop via c → HidesFrom l s f c via × ComesOn s.flow via stop
   may_from (cause.Removed c start) via stop may =
-      (let ways = ways_by (record { steps = s.flow.table.now.steps.items; assignments = s.flow.table.now.assignments.items; var = s.flow.var.0; start = start; via = start; stop = stop }) may.2.path may.2.route in
+      (let ways = ways_by (quest_by s.flow.table.now s.flow.var.0 start start stop) may.2.path may.2.route in
       ((may.0, may.1), subst (λ v. ComesOn s.flow v stop) may.0 ways.1))
   may_from (cause.Moved c start w) via stop may =
-      (let ways = ways_by (record { steps = s.flow.table.now.steps.items; assignments = s.flow.table.now.assignments.items; var = s.flow.var.0; start = start; via = via; stop = stop }) may.2.path may.2.route in
+      (let ways = ways_by (quest_by s.flow.table.now s.flow.var.0 start via stop) may.2.path may.2.route in
       ((may.0, record { assigns = may.1; by = ways.0 }), ways.1))
   may_from (cause.Reused c start w) via stop may =
-      (let ways = ways_by (record { steps = s.flow.table.now.steps.items; assignments = s.flow.table.now.assignments.items; var = s.flow.var.0; start = start; via = via; stop = stop }) may.3.path may.3.route in
+      (let ways = ways_by (quest_by s.flow.table.now s.flow.var.0 start via stop) may.3.path may.3.route in
       ((may.1, record { assigns = may.2; by = ways.0 }, may.0), ways.1))
 
   covered : (all : List declared-found.Found) → AreAllFound l s f all → (c : declared-cause.Cause) (via : ℕ) → HidesFrom l s f c via → IsCovered l s f all c via
@@ -219,14 +222,14 @@ module _ (l : declared-changes.Changes) (s : declared-search.Search) (f : declar
   removals_done all removed variable listed same found each number start via hides =
       let one = listed_of l number hides.1.change hides.1.is in
       let own : one.0.number ≡ number = own_number l number one.0 listed one.1 in
-      let there : Contains removed one.0 = found.all number one.0 one.1 (ap (λ (z : Logged). z.variable) one.2 ∙ hides.1.of ∙ sym same) (ap (λ (z : Logged). z.kind) one.2 ∙ hides.1.removed) in
+      let there : Contains removed one.0 = found.all number one.0 one.1 (ap (λ (z : Logged). z.variable) one.2 ∙ hides.1.of ∙ sym same) (by_taken one.0.kind (ap (λ (z : Logged). is_taken z.kind) one.2 ∙ hides.1.taken)) in
       subst (λ n. IsRemovalFound l s f all n) own (All-contains (λ (e : Change). IsRemovalFound l s f all e.number) removed one.0 each there) start via hides
 
   pub moves_done : (all : List declared-found.Found) (moved : List Change) (variable : ℕ) → AreListed l → variable ≡ variable_of l s f → AreFound l variable Moved moved → All (λ (e : Change). AreMovesFound l s f all e.number) moved → (number : ℕ) → AreMovesFound l s f all number
   moves_done all moved variable listed same found each number start via w hides =
       let one = listed_of l number hides.0.change hides.0.is in
       let own : one.0.number ≡ number = own_number l number one.0 listed one.1 in
-      let there : Contains moved one.0 = found.all number one.0 one.1 (ap (λ (z : Logged). z.variable) one.2 ∙ hides.0.of ∙ sym same) (ap (λ (z : Logged). z.kind) one.2 ∙ hides.0.moved) in
+      let there : Contains moved one.0 = found.all number one.0 one.1 (ap (λ (z : Logged). z.variable) one.2 ∙ hides.0.of ∙ sym same) (ap (λ (z : Logged). hides_as z.kind) one.2 ∙ ap hides_as hides.0.moved) in
       subst (λ n. AreMovesFound l s f all n) own (All-contains (λ (e : Change). AreMovesFound l s f all e.number) moved one.0 each there) start via w hides
 
   -- a write for a name was told, or an earlier one of its place

@@ -4,6 +4,7 @@ use Rattle.std.specs.Prelude.{slice_get, All}
 use Rattle.std.proofs.lemmas.List.{length-append}
 use Rattle.std.proofs.lemmas.List.Elements.{All-nil, All-push}
 use Rattle.std.proofs.lemmas.Option.{none-some, same_Some, slice_get-get_or, slice_get_within}
+use Rattle.places.specs.Path.{quest_by}
 use Rattle.debug_records.specs.declared.change.Change.{Change}
 use Rattle.debug_records.specs.declared.change.Kind.{Kind}
 use Rattle.debug_records.specs.declared.change.Kind.TheVariants.{Moved, Removed}
@@ -31,6 +32,7 @@ use Rattle.currency_writers.proofs.Indexed.{get_cases, get_kept, get_last}
 use Rattle.currency_hiding.specs.Changes.{AreFound, IsLastSharing, IsSharing, log_of}
 use Rattle.currency_hiding.specs.First.{IsLastShared, IsShared, order_of}
 use Rattle.currency_hiding.specs.Found.{AreCauses, AreInOrder, HidesAt, HidesFrom, IsAsked, IsForeign, IsMovedTo, IsOfKind, variable_of}
+use Rattle.currency_hiding.proofs.ByKind.{moved_by, taken_by}
 use Rattle.currency_hiding.proofs.Listed.{listed_of, numbered}
 
 module _ (l : declared-changes.Changes) (s : declared-search.Search) (f : declared-function.Function) where
@@ -46,7 +48,7 @@ module _ (l : declared-changes.Changes) (s : declared-search.Search) (f : declar
     record {
       change = logged d;
       is = numbered l d.number d is.is;
-      removed = is.of_kind;
+      taken = taken_by d.kind is.of_kind;
       of = is.of;
       at = refl;
       assigned = assigned;
@@ -56,7 +58,7 @@ module _ (l : declared-changes.Changes) (s : declared-search.Search) (f : declar
 
   pub moved_hides : (d : Change) (t via start : ℕ) (w : declared-writer.Writer) → IsMovedTo l s f d t → Writes f.writers via t w → IsStartBy s start via → HidesFrom l s f (cause.Moved d.number start w) via
   moved_hides d t via start w is writes from = (
-    record { change = logged d; is = numbered l d.number d is.change.is; moved = is.change.of_kind; of = is.change.of; t = t; copied = is.copied; temporary = is.temporary; writes = writes; shared = is.shared },
+    record { change = logged d; is = numbered l d.number d is.change.is; moved = moved_by d.kind is.change.of_kind; of = is.change.of; t = t; copied = is.copied; temporary = is.temporary; writes = writes; shared = is.shared },
     from,
   )
 
@@ -158,13 +160,13 @@ module _ (l : declared-changes.Changes) (s : declared-search.Search) (f : declar
   pub hides_at : (c : declared-cause.Cause) (via stop : ℕ) → HidesFrom l s f c via → ComesOn s.flow via stop → HidesAt l s f stop c
   hides_at (cause.Removed c start) via stop hides comes =
       (let there : ComesOn s.flow start stop = subst (λ v. ComesOn s.flow v stop) (sym hides.0) comes in
-      let way = route_by (record { steps = s.flow.table.now.steps.items; assignments = s.flow.table.now.assignments.items; var = s.flow.var.0; start = start; via = start; stop = stop }) (inl refl) there in
+      let way = route_by (quest_by s.flow.table.now s.flow.var.0 start start stop) (inl refl) there in
       (hides.1, record { path = way.0; route = way.1 }))
   hides_at (cause.Moved c start w) via stop hides comes =
-      (let way = route_by (record { steps = s.flow.table.now.steps.items; assignments = s.flow.table.now.assignments.items; var = s.flow.var.0; start = start; via = via; stop = stop }) hides.1.by comes in
+      (let way = route_by (quest_by s.flow.table.now s.flow.var.0 start via stop) hides.1.by comes in
       record { via = via; is = hides.0; assigned = hides.1.assigns; route = record { path = way.0; route = way.1 } })
   hides_at (cause.Reused c start w) via stop hides comes =
-      (let way = route_by (record { steps = s.flow.table.now.steps.items; assignments = s.flow.table.now.assignments.items; var = s.flow.var.0; start = start; via = via; stop = stop }) hides.1.by comes in
+      (let way = route_by (quest_by s.flow.table.now s.flow.var.0 start via stop) hides.1.by comes in
       record { via = via; is = hides.0; assigned = hides.1.assigns; route = record { path = way.0; route = way.1 } })
 
   -- what is told at a place hides the scalar there

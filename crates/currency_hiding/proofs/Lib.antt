@@ -1,3 +1,4 @@
+mod ByKind
 mod Listed
 mod Asked
 mod Found

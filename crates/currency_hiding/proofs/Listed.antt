@@ -13,7 +13,7 @@ use Rattle.graph_core.specs.Paths.{Among}
 use Rattle.currency_notes.proofs.Lists.{among_at, take_whole}
 use Rattle.currency_writers.specs.Lists.{entries_of}
 use Rattle.currency_hiding.specs.declared.changes.Changes as declared-changes
-use Rattle.currency_hiding.specs.Changes.{AreFound, AreListed, IsLastSharing, IsListed, IsNotBefore, IsNumbered, IsSharing, homes_name, log_of}
+use Rattle.currency_hiding.specs.Changes.{AreFound, AreListed, IsLastSharing, IsListed, IsNotBefore, IsNumbered, IsSharing, hides_as, homes_name, log_of}
 
 -- a change that is listed has its number in the log
 pub numbered : (c : declared-changes.Changes) (number : ℕ) (d : Change) → IsListed c number d → IsNumbered (log_of c) number (logged d)
@@ -49,21 +49,21 @@ in_list c number d variable all is of =
     subst (λ n. Contains (entries_of c.by_variable variable) n) same (subst (λ v. Contains (entries_of c.by_variable v) (number - 1 + 1)) of (all.listed (number - 1) d is.is)))
 
 -- what was found in the whole list
-pub found_all : (c : declared-changes.Changes) (variable : ℕ) (kind : Kind) (found : List Change) → AreListed c → All (λ (d : Change). IsListed c d.number d × (d.var.0 ≡ variable) × (d.kind ≡ kind)) found
-    → All (λ (n : ℕ). (d : Change) → IsListed c n d → d.var.0 ≡ variable → d.kind ≡ kind → Contains found d) (entries_of c.by_variable variable) → AreFound c variable kind found
+pub found_all : (c : declared-changes.Changes) (variable : ℕ) (kind : Kind) (found : List Change) → AreListed c → All (λ (d : Change). IsListed c d.number d × (d.var.0 ≡ variable) × (hides_as d.kind ≡ kind)) found
+    → All (λ (n : ℕ). (d : Change) → IsListed c n d → d.var.0 ≡ variable → hides_as d.kind ≡ kind → Contains found d) (entries_of c.by_variable variable) → AreFound c variable kind found
 found_all c variable kind found all each every = record {
   each = each;
-  all = λ number d is of same. All-contains (λ (n : ℕ). (d : Change) → IsListed c n d → d.var.0 ≡ variable → d.kind ≡ kind → Contains found d) (entries_of c.by_variable variable) number every (in_list c number d variable all is of) d is of same;
+  all = λ number d is of same. All-contains (λ (n : ℕ). (d : Change) → IsListed c n d → d.var.0 ≡ variable → hides_as d.kind ≡ kind → Contains found d) (entries_of c.by_variable variable) number every (in_list c number d variable all is of) d is of same;
 }
 
 -- one more number of a list was looked at
 pub found_next : (c : declared-changes.Changes) (variable : ℕ) (kind : Kind) (old new : List Change) (all : List ℕ) (k d : ℕ) → k < length all → ((e : Change) → Contains old e → Contains new e)
-    → ((e : Change) → IsListed c (get_or all k d) e → e.var.0 ≡ variable → e.kind ≡ kind → Contains new e)
-    → All (λ (n : ℕ). (e : Change) → IsListed c n e → e.var.0 ≡ variable → e.kind ≡ kind → Contains old e) (take k all)
-    → All (λ (n : ℕ). (e : Change) → IsListed c n e → e.var.0 ≡ variable → e.kind ≡ kind → Contains new e) (take (k + 1) all)
+    → ((e : Change) → IsListed c (get_or all k d) e → e.var.0 ≡ variable → hides_as e.kind ≡ kind → Contains new e)
+    → All (λ (n : ℕ). (e : Change) → IsListed c n e → e.var.0 ≡ variable → hides_as e.kind ≡ kind → Contains old e) (take k all)
+    → All (λ (n : ℕ). (e : Change) → IsListed c n e → e.var.0 ≡ variable → hides_as e.kind ≡ kind → Contains new e) (take (k + 1) all)
 found_next c variable kind old new all k d lt kept here before =
-    All-more (λ (n : ℕ). (e : Change) → IsListed c n e → e.var.0 ≡ variable → e.kind ≡ kind → Contains new e) all k d lt
-    (All-weaker (λ (n : ℕ). (e : Change) → IsListed c n e → e.var.0 ≡ variable → e.kind ≡ kind → Contains old e) (λ (n : ℕ). (e : Change) → IsListed c n e → e.var.0 ≡ variable → e.kind ≡ kind → Contains new e)
+    All-more (λ (n : ℕ). (e : Change) → IsListed c n e → e.var.0 ≡ variable → hides_as e.kind ≡ kind → Contains new e) all k d lt
+    (All-weaker (λ (n : ℕ). (e : Change) → IsListed c n e → e.var.0 ≡ variable → hides_as e.kind ≡ kind → Contains old e) (λ (n : ℕ). (e : Change) → IsListed c n e → e.var.0 ≡ variable → hides_as e.kind ≡ kind → Contains new e)
     (λ n f e is of same. kept e (f e is of same)) (take k all) before)
     here
 
@@ -73,27 +73,27 @@ by_own c number d all is = subst (λ n. IsListed c n d) (sym (own_number c numbe
 
 -- the change of one more number was found, or there is none
 pub found_more : (c : declared-changes.Changes) (variable : ℕ) (kind : Kind) (old new : List Change) (all : List ℕ) (k d : ℕ) (o : Option Change) → AreListed c → k < length all
-    → IfSome o (λ (e : Change). IsListed c (get_or all k d) e × (e.var.0 ≡ variable) × (e.kind ≡ kind))
-    → ((e : Change) → IsListed c (get_or all k d) e → e.var.0 ≡ variable → e.kind ≡ kind → o ≡ Some e) → ((o ≡ None) × (new ≡ old)) ⊎ ((e : Change) × (o ≡ Some e) × (new ≡ old ++ (e ∷ [])))
-    → All (λ (e : Change). IsListed c e.number e × (e.var.0 ≡ variable) × (e.kind ≡ kind)) old
-    → All (λ (n : ℕ). (e : Change) → IsListed c n e → e.var.0 ≡ variable → e.kind ≡ kind → Contains old e) (take k all)
-    → All (λ (e : Change). IsListed c e.number e × (e.var.0 ≡ variable) × (e.kind ≡ kind)) new × All (λ (n : ℕ). (e : Change) → IsListed c n e → e.var.0 ≡ variable → e.kind ≡ kind → Contains new e) (take (k + 1) all)
+    → IfSome o (λ (e : Change). IsListed c (get_or all k d) e × (e.var.0 ≡ variable) × (hides_as e.kind ≡ kind))
+    → ((e : Change) → IsListed c (get_or all k d) e → e.var.0 ≡ variable → hides_as e.kind ≡ kind → o ≡ Some e) → ((o ≡ None) × (new ≡ old)) ⊎ ((e : Change) × (o ≡ Some e) × (new ≡ old ++ (e ∷ [])))
+    → All (λ (e : Change). IsListed c e.number e × (e.var.0 ≡ variable) × (hides_as e.kind ≡ kind)) old
+    → All (λ (n : ℕ). (e : Change) → IsListed c n e → e.var.0 ≡ variable → hides_as e.kind ≡ kind → Contains old e) (take k all)
+    → All (λ (e : Change). IsListed c e.number e × (e.var.0 ≡ variable) × (hides_as e.kind ≡ kind)) new × All (λ (n : ℕ). (e : Change) → IsListed c n e → e.var.0 ≡ variable → hides_as e.kind ≡ kind → Contains new e) (take (k + 1) all)
 found_more c variable kind old new all k d o listed lt some every (inl none) each before = (
-  subst (λ (l : List Change). All (λ (e : Change). IsListed c e.number e × (e.var.0 ≡ variable) × (e.kind ≡ kind)) l) (sym none.1) each,
+  subst (λ (l : List Change). All (λ (e : Change). IsListed c e.number e × (e.var.0 ≡ variable) × (hides_as e.kind ≡ kind)) l) (sym none.1) each,
   found_next c variable kind old new all k d lt (λ e there. subst (λ (l : List Change). Contains l e) (sym none.1) there) (λ e is of same. absurd (none-some e (sym none.0 ∙ every e is of same))) before,
 )
 found_more c variable kind old new all k d o listed lt some every (inr one) each before = (
-  subst (λ (l : List Change). All (λ (e : Change). IsListed c e.number e × (e.var.0 ≡ variable) × (e.kind ≡ kind)) l) (sym one.2)
-      (All-push (λ (e : Change). IsListed c e.number e × (e.var.0 ≡ variable) × (e.kind ≡ kind)) old one.0 each (let is = subst (λ (p : Option Change). IfSome p (λ (e : Change). IsListed c (get_or all k d) e × (e.var.0 ≡ variable) × (e.kind ≡ kind))) one.1 some in (by_own c (get_or all k d) one.0 listed is.0, is.1, is.2))),
+  subst (λ (l : List Change). All (λ (e : Change). IsListed c e.number e × (e.var.0 ≡ variable) × (hides_as e.kind ≡ kind)) l) (sym one.2)
+      (All-push (λ (e : Change). IsListed c e.number e × (e.var.0 ≡ variable) × (hides_as e.kind ≡ kind)) old one.0 each (let is = subst (λ (p : Option Change). IfSome p (λ (e : Change). IsListed c (get_or all k d) e × (e.var.0 ≡ variable) × (hides_as e.kind ≡ kind))) one.1 some in (by_own c (get_or all k d) one.0 listed is.0, is.1, is.2))),
   found_next c variable kind old new all k d lt (λ e there. subst (λ (l : List Change). Contains l e) (sym one.2) (Contains-append_left old (one.0 ∷ []) e there))
       (λ e is of same. subst (λ (l : List Change). Contains l e) (sym one.2) (subst (λ (z : Change). Contains (old ++ (one.0 ∷ [])) z) (same_Some one.0 e (sym one.1 ∙ every e is of same)) (Contains-push old one.0))) before,
 )
 
 -- all numbers of a list were looked at
-pub found_done : (c : declared-changes.Changes) (variable : ℕ) (kind : Kind) (found : List Change) (all : List ℕ) (k : ℕ) → AreListed c → length all ≤ k → all ≡ entries_of c.by_variable variable → All (λ (e : Change). IsListed c e.number e × (e.var.0 ≡ variable) × (e.kind ≡ kind)) found
-    → All (λ (n : ℕ). (e : Change) → IsListed c n e → e.var.0 ≡ variable → e.kind ≡ kind → Contains found e) (take k all) → AreFound c variable kind found
+pub found_done : (c : declared-changes.Changes) (variable : ℕ) (kind : Kind) (found : List Change) (all : List ℕ) (k : ℕ) → AreListed c → length all ≤ k → all ≡ entries_of c.by_variable variable → All (λ (e : Change). IsListed c e.number e × (e.var.0 ≡ variable) × (hides_as e.kind ≡ kind)) found
+    → All (λ (n : ℕ). (e : Change) → IsListed c n e → e.var.0 ≡ variable → hides_as e.kind ≡ kind → Contains found e) (take k all) → AreFound c variable kind found
 found_done c variable kind found all k listed le same each before =
-    found_all c variable kind found listed each (subst (λ (l : List ℕ). All (λ (n : ℕ). (e : Change) → IsListed c n e → e.var.0 ≡ variable → e.kind ≡ kind → Contains found e) l) (take_whole all k le ∙ same) before)
+    found_all c variable kind found listed each (subst (λ (l : List ℕ). All (λ (n : ℕ). (e : Change) → IsListed c n e → e.var.0 ≡ variable → hides_as e.kind ≡ kind → Contains found e) l) (take_whole all k le ∙ same) before)
 
 pub not_before_on : (n : ℕ) (o p : Option ℕ) → ((m : ℕ) → o ≡ Some m → IsNotBefore m p) → IsNotBefore n o → IsNotBefore n p
 not_before_on n o p more is = (let one = more is.last is.is in let below = is.le in let above = one.le in record { last = one.last; is = one.is; le = omega (arith, below, above) })

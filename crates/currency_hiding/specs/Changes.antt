@@ -3,7 +3,7 @@ use Rattle.std.specs.Prelude.{◌≡◌, ℕ, ◌+◌, ◌-◌, ◌≤◌, Optio
 use Rattle.debug_records.specs.declared.change.Change.{Change}
 use Rattle.debug_records.specs.Change.{letters}
 use Rattle.debug_records.specs.declared.change.Kind.{Kind}
-use Rattle.debug_records.specs.declared.change.Kind.TheVariants.{Reused}
+use Rattle.debug_records.specs.declared.change.Kind.TheVariants.{Removed, Moved, Reused, Replaced, Sunk}
 use Rattle.graph_core.specs.Graphs.{Logged, logged}
 use Rattle.currency_writers.specs.Lists.{entries_of}
 use Rattle.currency_hiding.specs.declared.changes.Changes as declared-changes
@@ -27,10 +27,18 @@ pub record IsListed (c : declared-changes.Changes) (number : ℕ) (d : Change) :
   pub some : 1 ≤ number
   pub is : slice_get c.all.now (number - 1) ≡ Some d
 
--- These are the changes of a variable of one kind: each is one, with its number, and all are among them.
+-- The kind by whose evidence a change hides a variable: where an assignment sank from, it is missing as where one was removed.
+abbrev pub hides_as : Kind → Kind
+hides_as Removed = Removed
+hides_as Moved = Moved
+hides_as Reused = Reused
+hides_as Replaced = Replaced
+hides_as Sunk = Removed
+
+-- These are the changes of a variable that hide it as those of one kind do: each is one, with its number, and all are among them.
 pub record AreFound (c : declared-changes.Changes) (variable : ℕ) (kind : Kind) (found : List Change) : Type 0 where
-  pub each : All (λ (d : Change). IsListed c d.number d × (d.var.0 ≡ variable) × (d.kind ≡ kind)) found
-  pub all : (number : ℕ) (d : Change) → IsListed c number d → d.var.0 ≡ variable → d.kind ≡ kind → Contains found d
+  pub each : All (λ (d : Change). IsListed c d.number d × (d.var.0 ≡ variable) × (hides_as d.kind ≡ kind)) found
+  pub all : (number : ℕ) (d : Change) → IsListed c number d → d.var.0 ≡ variable → hides_as d.kind ≡ kind → Contains found d
 
 -- the name by which the assignment of homes logs its changes: homes
 abbrev pub homes_name : List ℕ

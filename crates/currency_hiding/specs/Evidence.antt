@@ -2,8 +2,9 @@
 use Rattle.std.specs.Prelude.{◌≡◌, ◌≢◌, ℕ, ◌≤◌, true, Some, List, length}
 use Rattle.places.specs.declared.flow.FlowTable.{FlowTable}
 use Rattle.places.specs.Flow.{assigns}
-use Rattle.places.specs.Path.{IsRoute}
-use Rattle.debug_records.specs.declared.change.Kind.TheVariants.{Removed, Moved, Reused}
+use Rattle.places.specs.Path.{IsRoute, quest_by}
+use Rattle.debug_records.specs.declared.change.Kind.TheVariants.{Moved, Reused}
+use Rattle.debug_records.specs.Change.{is_taken}
 use Rattle.graph_homes.specs.declared.home.Home.{Home}
 use Rattle.graph_homes.specs.Homes.{is_same_home}
 use Rattle.graph_homes.specs.Reused.{IsTemporaryOf, first_copy}
@@ -20,11 +21,11 @@ module _ (log : List Logged) (flow : FlowTable) (home : ℕ → Home) (f : ℕ) 
   abbrev pub HasHomeOf : (y : ℕ) → Type 0
   HasHomeOf y = is_same_home (home y) (home x) ≡ true
 
-  -- A change removed an assignment of the variable in a place that assigns it, and no code of the place writes the scalar's home.
+  -- By a change an assignment of the variable went from a place that assigns it, and no code of the place writes the scalar's home.
   pub record IsBareRemoval (number place : ℕ) : Type 0 where
     pub change : Logged
     pub is : IsNumbered log number change
-    pub removed : change.kind ≡ Removed
+    pub taken : is_taken change.kind ≡ true
     pub of : change.variable ≡ variable
     pub at : change.place ≡ place
     pub assigned : assigns flow.assignments.items place variable ≡ true
@@ -57,7 +58,7 @@ module _ (log : List Logged) (flow : FlowTable) (home : ℕ → Home) (f : ℕ) 
   -- There is a path from a start by way of a place to a stop, on which nothing between its ends assigns the variable.
   pub record HasRoute (start via stop : ℕ) : Type 0 where
     pub path : List ℕ
-    pub route : IsRoute (record { steps = flow.steps.items; assignments = flow.assignments.items; var = variable; start = start; via = via; stop = stop }) path
+    pub route : IsRoute (quest_by flow variable start via stop) path
 
   -- A change and a write hide the scalar on a way by a place, that begins where the variable is assigned.
   pub record HidesBy (IsWrite : (via : ℕ) → Type 0) (start stop : ℕ) : Type 0 where
@@ -66,7 +67,7 @@ module _ (log : List Logged) (flow : FlowTable) (home : ℕ → Home) (f : ℕ) 
     pub assigned : assigns flow.assignments.items start variable ≡ true
     pub route : HasRoute start via stop
 
-  -- EVIDENCE that the scalar's home may not hold its value at a place: an assignment was removed, from whose place a way leads there; or a moved computation, or another name,
+  -- EVIDENCE that the scalar's home may not hold its value at a place: an assignment went, from whose place a way leads there; or a moved computation, or another name,
   -- writes its home on a way there from a place that assigns it.
   abbrev pub Hides : (stop : ℕ) → declared-cause.Cause → Type 0
   Hides stop (cause.Removed c start) = IsBareRemoval c start × HasRoute start start stop

@@ -25,7 +25,7 @@ use Rattle.currency_hiding.specs.declared.causes.Causes as declared-causes
 use Rattle.currency_writers.specs.Order.{IsNoLater}
 use Rattle.currency_writers.specs.Writers.{AreWriters, HaveOneHome, Writes}
 use Rattle.currency_writers.specs.Copies.{AreCopies}
-use Rattle.currency_hiding.specs.Changes.{AreListed, IsListed, log_of}
+use Rattle.currency_hiding.specs.Changes.{AreListed, IsListed, hides_as, log_of}
 use Rattle.currency_hiding.specs.Evidence.{Hides, IsBareRemoval, IsMovedWrite, IsReusedWrite}
 use Rattle.currency_hiding.specs.First.{HasNone, IsFirst, IsLastShared, Tells, order_of}
 
@@ -111,11 +111,11 @@ module _ (l : declared-changes.Changes) (s : declared-search.Search) (f : declar
     pub search : IsTurned s
     pub on : IsOn (log_of l) f variable_of
 
-  -- A change is one of those of this kind, on the variable in question.
+  -- A change is one of those that hide as this kind does, on the variable in question.
   pub record IsOfKind (kind : Kind) (d : Change) : Type 0 where
     pub is : IsListed l d.number d
     pub of : d.var.0 ≡ variable_of
-    pub of_kind : d.kind ≡ kind
+    pub of_kind : hides_as d.kind ≡ kind
 
   -- A change moved a computation of the variable's value, and this temporary keeps it, in the scalar's home.
   pub record IsMovedTo (d : Change) (t : ℕ) : Type 0 where

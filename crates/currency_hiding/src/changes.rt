@@ -3,7 +3,7 @@
 ghost use Rattle.std.specs.Prelude.{◌≡◌, ◌≤◌, ◌↔◌, All, Contains, IfOk, IfSome, MatchOption, ℕ, Some, false, true};
 ghost use Rattle.debug_records.specs.declared.change.Change as declared-change;
 ghost use Rattle.debug_records.specs.Change.{letters};
-ghost use Rattle.currency_hiding.specs.Changes.{AreFound, AreListed, IsLastSharing, IsListed, IsNotBefore, IsSharing, homes_name};
+ghost use Rattle.currency_hiding.specs.Changes.{AreFound, AreListed, IsLastSharing, IsListed, IsNotBefore, IsSharing, hides_as, homes_name};
 
 use currency_writers::Lists;
 use debug_records::{Change, Kind, Var};
@@ -35,6 +35,18 @@ fn is_not_below(found: Option<u32>, number: u32) -> bool
     match found {
         Some(first) => number <= first,
         None => false,
+    }
+}
+
+/// The kind by whose evidence a change of this kind hides a variable.
+fn hides_as(kind: Kind) -> Kind
+    ensures { result ≡ hides_as kind }
+{
+    match kind {
+        Kind::Removed | Kind::Sunk => Kind::Removed,
+        Kind::Moved => Kind::Moved,
+        Kind::Reused => Kind::Reused,
+        Kind::Replaced => Kind::Replaced,
     }
 }
 
@@ -79,13 +91,13 @@ impl<'a> Changes<'a> {
         Some(self.all[number as usize - 1])
     }
 
-    /// The change of a number, if it is of this variable and kind.
+    /// The change of a number, if it is of this variable and hides it as one of this kind does.
     fn get_of(&self, number: u32, var: Var, kind: Kind) -> Option<Change>
-        ensures some { IfSome result (λ change. IsListed self.now number change × (change.var.0 ≡ var.0) × (change.kind ≡ kind)) }
-        ensures all { (change : declared-change.Change) → IsListed self.now number change → change.var.0 ≡ var.0 → change.kind ≡ kind → result ≡ Some change }
+        ensures some { IfSome result (λ change. IsListed self.now number change × (change.var.0 ≡ var.0) × (hides_as change.kind ≡ kind)) }
+        ensures all { (change : declared-change.Change) → IsListed self.now number change → change.var.0 ≡ var.0 → hides_as change.kind ≡ kind → result ≡ Some change }
     {
         let change = self.get(number)?;
-        if change.kind != kind {
+        if hides_as(change.kind) != kind {
             return None;
         }
         if change.var.0 != var.0 {
@@ -94,7 +106,7 @@ impl<'a> Changes<'a> {
         Some(change)
     }
 
-    /// The changes of a variable of this kind, in order.
+    /// The changes of a variable that hide it as those of this kind do, in order.
     pub fn of(&self, alloc: Global, var: Var, kind: Kind) -> Result<Vec<Change>, AllocError>
         requires { AreListed self.now }
         ensures { IfOk result (λ found. AreFound self.now var.0 kind found.items) }
@@ -110,6 +122,7 @@ impl<'a> Changes<'a> {
     }
 
     /// Whether by the change of a number the assignment of homes gave the register of a variable to other names too.
+    #[tactic(auto, using(crate::proofs::ByKind::reused_by))]
     fn is_sharing(&self, number: u32, var: Var) -> bool
         ensures { (result ≡ true) ↔ IsSharing self.now var.0 number }
     {

@@ -1,17 +1,17 @@
 -- From a start by way of a place to a stop there is a route.
 use Rattle.std.proofs.Common.{◌≡◌, inl, inr, ℕ, Bool, true, false, List, [], ◌∷◌, refl, sym, ap, subst, ◌∙◌, eq-eqb, eqb-true}
 use Rattle.std.specs.Prelude.{◌⊎◌, ◌==◌, ◌||◌}
-use Rattle.places.specs.Flow.{can_go, assigns}
+use Rattle.places.specs.Flow.{can_go}
 use Rattle.places.specs.Path.{Quest, LeadOn, IsRoute}
 use Rattle.currency_writers.specs.Ways.{Comes, at_once, on}
 use Rattle.base_laws.proofs.Booleans.{or_true}
 
 module _ (q : Quest) where
   abbrev Comes_from : (from p : ℕ) → Type 0
-  Comes_from from p = Comes q.steps q.assignments q.var from p
+  Comes_from from p = Comes q.steps q.blocked from p
 
   abbrev is_free : ℕ → Bool
-  is_free p = assigns q.assignments p q.var
+  is_free p = q.blocked p
 
   -- behind a place that was come to
   lead_one : (b : Bool) (from p : ℕ) (rest : List ℕ) → can_go q.steps from p ≡ true → is_free p ≡ false → LeadOn q (b || p == q.via) p rest → LeadOn q b from (p ∷ rest)
@@ -43,7 +43,7 @@ module _ (q : Quest) where
           let way = lead_by q.start c.0 c.1 rest one in
           (q.start ∷ way.0, record { rest = way.0; begins = refl; leads = way.1 (q.start == q.via) })
 
-  -- a place is another one, or was come to from there and does not assign the variable
+  -- a place is another one, or was come to from there and is not blocked
   abbrev pub Is_ahead : (from p : ℕ) → Type 0
   Is_ahead from p = (p ≡ from) ⊎ (Comes_from from p × (is_free p ≡ false))
 

@@ -27,7 +27,7 @@ module _ (f : declared-flow.Flow) where
 
   -- Execution may come from a place to another one with nothing between them that assigns the variable in question.
   abbrev pub ComesOn : (from p : ℕ) → Type 0
-  ComesOn from p = Comes f.table.now.steps.items f.table.now.assignments.items f.var.0 from p
+  ComesOn from p = Comes f.table.now.steps.items (λ q. assigns f.table.now.assignments.items q f.var.0) from p
 
   -- The lists are those of the flow.
   pub record IsFlow : Type 0 where

@@ -11,7 +11,7 @@ use Rattle.graph_core.specs.Histories.{name_by, values_behind}
 use Rattle.graph_core.specs.Validity.{AreAllDifferent, IsGraph, markers_of_blocks}
 use Rattle.graph_core.specs.Values.{operate, truncate}
 use Rattle.graph_core.specs.Runs.{value}
-use Rattle.graph_core.specs.WellMarked.{IsVariable, WasRemoved, IsWellMarked}
+use Rattle.graph_core.specs.WellMarked.{IsVariable, WasTaken, IsWellMarked}
 use Rattle.dead_pass_rule.specs.Idle.{is_computed_next, Goes}
 use Rattle.dead_pass_rule.specs.Removing.{IsReduced}
 use Rattle.dead_pass_notes.specs.Said.{IsDropped, SaysWhatItShall}
@@ -37,7 +37,7 @@ pub record IsTaken (u : UnitForm) (log : List Logged) (g : Graph) (blocks : List
   pub different : AreAllDifferent (markers_of_blocks g.blocks)
   pub reduced : IsReduced g (reduced_graph g blocks)
   pub said : SaysWhatItShall log g (reduced_graph g blocks)
-  pub older : (p variable : ℕ) → WasRemoved u.log p variable → HasRemoval log p variable
+  pub older : (p variable : ℕ) → WasTaken u.log p variable → HasRemoval log p variable
   pub newer : (p x variable : ℕ) → IsVariable g x variable → IsDropped g p x → HasRemoval log p variable
 
 -- A value is what an instruction computes of names and constants, if it is a move, an operation or a truncation.

@@ -7,7 +7,7 @@ use Rattle.debug_records.specs.declared.change.Kind.TheVariants.{Removed}
 use Rattle.dead_pass.specs.Notes.{SayWhatTheyShall}
 use Rattle.graph_core.specs.Graphs.{Graph, UnitForm}
 use Rattle.graph_core.specs.Validity.{IsValid}
-use Rattle.graph_core.specs.WellMarked.{WasRemoved, IsWellMarked, AreWellMarked}
+use Rattle.graph_core.specs.WellMarked.{WasTaken, IsWellMarked, AreWellMarked}
 use Rattle.pass_law.specs.Changes.{AddsChangesOf, logged_as}
 use Rattle.pass_law.specs.Kept.{EachFunction, ShareTheSame}
 use Rattle.dead_pass_rule.specs.Removing.{IsReduced}
@@ -22,10 +22,10 @@ use Rattle.dead_pass_laws.proofs.Program.{removed_program}
 
 module _ (u v : UnitForm) (marked : AreWellMarked u) (shared : ShareTheSame u v) (pass : PassName) (adds : AddsChangesOf pass Removed (λ before after. IsRemovedWrite before) u v) where
   -- What a change of the log before removed, one of the log after did.
-  removed_still : (p variable : ℕ) → WasRemoved u.log p variable → WasRemoved v.log p variable
+  removed_still : (p variable : ℕ) → WasTaken u.log p variable → WasTaken v.log p variable
   removed_still p variable r =
-      subst (λ l. WasRemoved l p variable) (sym adds.log)
-      (record { change = r.change; logged = among_left r.change u.log (map (logged_as pass Removed) adds.cases) r.logged; removed = r.removed; at = r.at; of = r.of })
+      subst (λ l. WasTaken l p variable) (sym adds.log)
+      (record { change = r.change; logged = among_left r.change u.log (map (logged_as pass Removed) adds.cases) r.logged; taken = r.taken; at = r.at; of = r.of })
 
   -- What is made of a function is well marked.
   function_marked : (f : ℕ) (g h : Graph) → slice_get u.graphs f ≡ Some g → slice_get v.graphs f ≡ Some h → IsReduced g h → SaysWhatItShall v.log g h → IsWellMarked v h

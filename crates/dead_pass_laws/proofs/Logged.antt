@@ -6,7 +6,7 @@ use Rattle.debug_records.specs.declared.change.PassName.{PassName}
 use Rattle.debug_records.specs.declared.change.Kind.TheVariants.{Removed}
 use Rattle.graph_core.specs.Graphs.{Graph, UnitForm}
 use Rattle.graph_core.specs.Paths.{Among, front, behind}
-use Rattle.graph_core.specs.WellMarked.{IsVariable, WasRemoved}
+use Rattle.graph_core.specs.WellMarked.{IsVariable, WasTaken}
 use Rattle.pass_law.specs.declared.cases.Case.{Case}
 use Rattle.pass_law.specs.Changes.{IsCaseOf, AddsChangesOf, logged_as}
 use Rattle.dead_pass_notes.specs.Said.{IsDropped}
@@ -37,11 +37,11 @@ behind_at (y ∷ xs) ys k x at = (let later = behind_at xs ys k x at in (suc lat
 
 module _ (u v : UnitForm) (pass : PassName) (adds : AddsChangesOf pass Removed (λ before after. IsRemovedWrite before) u v) where
   -- Of an assignment that went before some change tells.
-  pub older_told : (p variable : ℕ) → WasRemoved u.log p variable → HasRemoval v.log p variable
+  pub older_told : (p variable : ℕ) → WasTaken u.log p variable → HasRemoval v.log p variable
   older_told p variable was =
       let k = among_at u.log was.change was.logged in
       let at : slice_get v.log k.0 ≡ Some was.change = ap (λ l. slice_get l k.0) adds.log ∙ front_at u.log (map (logged_as pass Removed) adds.cases) k.0 was.change k.1 in
-      (k.0 + 1, record { k = k.0; change = was.change; counted = refl; is = at; removed = was.removed; in_place = was.at; of = was.of })
+      (k.0 + 1, record { k = k.0; change = was.change; counted = refl; is = at; taken = was.taken; in_place = was.at; of = was.of })
 
   -- And of one that goes now.
   pub newer_told : (f : ℕ) (g h : Graph) → slice_get u.graphs f ≡ Some g → slice_get v.graphs f ≡ Some h → (p x variable : ℕ) → IsVariable g x variable → IsDropped g p x → HasRemoval v.log p variable
@@ -55,4 +55,4 @@ module _ (u v : UnitForm) (pass : PassName) (adds : AddsChangesOf pass Removed (
       let change : slice_get (map (logged_as pass Removed) adds.cases) has.0 ≡ Some (logged_as pass Removed c) = mapped_at (logged_as pass Removed) adds.cases has.0 c case in
       let k = behind_at u.log (map (logged_as pass Removed) adds.cases) has.0 (logged_as pass Removed c) change in
       let at : slice_get v.log k.0 ≡ Some (logged_as pass Removed c) = ap (λ l. slice_get l k.0) adds.log ∙ k.1 in
-      (k.0 + 1, record { k = k.0; change = logged_as pass Removed c; counted = refl; is = at; removed = refl; in_place = refl; of = refl })
+      (k.0 + 1, record { k = k.0; change = logged_as pass Removed c; counted = refl; is = at; taken = refl; in_place = refl; of = refl })

@@ -7,7 +7,7 @@ use Rattle.graph_core.specs.Graphs.{Operand, NoteValue, Instruction, Marker, Not
 use Rattle.graph_core.specs.Paths.{History, Among, Path, place_of, is_call, called, written, unnoted, owed}
 use Rattle.graph_core.specs.Points.{ReadsNext}
 use Rattle.graph_core.specs.Uses.{reads_of, reads_of_end, targets_of, is_computation}
-use Rattle.graph_core.specs.WellMarked.{InPlace, IsVariable, IsLocal, WasRemoved, WrittenIn, IsWellMarked}
+use Rattle.graph_core.specs.WellMarked.{InPlace, IsVariable, IsLocal, WasTaken, WrittenIn, IsWellMarked}
 use Rattle.pass_law.specs.Kept.{ShareTheSame}
 use Rattle.graph_core_weights.proofs.Standing.{in_place}
 use Rattle.dead_pass_rule.specs.Idle.{is_computed_next, Goes}
@@ -21,7 +21,7 @@ use Rattle.dead_pass_laws.proofs.Standing.{StoodBefore, stood_before}
 use Rattle.dead_pass_laws.proofs.Ways.{ComesNext, ComesLast, path_next, path_last, was_block}
 use Rattle.dead_pass_laws.proofs.Written.{written_before}
 
-module _ (u v : UnitForm) (shared : ShareTheSame u v) (g : Graph) (blocks : List Block) (taken : IsTaken u v.log g blocks) (longer : (p variable : ℕ) → WasRemoved u.log p variable → WasRemoved v.log p variable) where
+module _ (u v : UnitForm) (shared : ShareTheSame u v) (g : Graph) (blocks : List Block) (taken : IsTaken u v.log g blocks) (longer : (p variable : ℕ) → WasTaken u.log p variable → WasTaken v.log p variable) where
   -- the graph after
   abbrev made : Graph
   made = reduced_graph g blocks

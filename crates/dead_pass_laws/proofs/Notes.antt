@@ -6,7 +6,7 @@ use Rattle.graph_core.specs.Graphs.{Operand, Name, Recipe, Of, NoteValue, Is, Go
 use Rattle.graph_core.specs.Paths.{History, Path, place_of, written}
 use Rattle.graph_core.specs.Points.{StandsWith}
 use Rattle.graph_core.specs.Validity.{IsInstruction, IsBlock}
-use Rattle.graph_core.specs.WellMarked.{IsVariable, WasRemoved, WrittenIn, instruction, IsRightNote}
+use Rattle.graph_core.specs.WellMarked.{IsVariable, WasTaken, WrittenIn, instruction, IsRightNote}
 use Rattle.graph_core_weights.proofs.Standing.{in_place}
 use Rattle.dead_pass_notes.specs.Said.{IsDropped, IsRecipe, constant, address, name, moved, truncated, operated, IsRightSide, moved as made_moved, truncated as made_truncated, operated as made_operated, IsRecipeOf, IsLost, WasNeverRemoved, IsSaid, recipe, gone, unlogged, lost, unlost, stays, noted, unreached, other}
 use Rattle.dead_pass_notes.specs.Stale.{ComesStale}
@@ -25,8 +25,8 @@ use Rattle.graph_core.proofs.Among.{at_among}
 -- ---- The log
 
 -- What some change of the log removed was removed.
-removal_was : (log : List Logged) (p variable : ℕ) → HasRemoval log p variable → WasRemoved log p variable
-removal_was log p variable has = (let r = has.1 in record { change = r.change; logged = at_among log r.k r.change r.is; removed = r.removed; at = r.in_place; of = r.of })
+removal_was : (log : List Logged) (p variable : ℕ) → HasRemoval log p variable → WasTaken log p variable
+removal_was log p variable has = (let r = has.1 in record { change = r.change; logged = at_among log r.k r.change r.is; taken = r.taken; at = r.in_place; of = r.of })
 
 -- ---- Values of notes
 
@@ -58,7 +58,7 @@ module _ (g : Graph) (p k : ℕ) (note : List Instruction) (last : End) (x : ℕ
   recipe_other : (y : ℕ) (r : Recipe) → IsRecipeOf g p k note last y r → r ≡ Of (Name x) → ⊥
   recipe_other y r is own = (let d = is.dropped in side_other d.n d.rest d.end d.instruction r is.right own)
 
-module _ (u v : UnitForm) (g : Graph) (blocks : List Block) (taken : IsTaken u v.log g blocks) (longer : (p variable : ℕ) → WasRemoved u.log p variable → WasRemoved v.log p variable) where
+module _ (u v : UnitForm) (g : Graph) (blocks : List Block) (taken : IsTaken u v.log g blocks) (longer : (p variable : ℕ) → WasTaken u.log p variable → WasTaken v.log p variable) where
   module _ (hist after : History) (n p x variable : ℕ) (value : NoteValue) (rest : List Instruction) (e : End) (is_variable : IsVariable g x variable) (along : Path g hist n (Note x value ∷ rest) e) (place : place_of hist ≡ Some p)
       (followed : IsFollowed u v.log g blocks taken hist after n (Note x value ∷ rest) e) where
     -- the note, and what stands behind it
@@ -108,7 +108,7 @@ module _ (u v : UnitForm) (g : Graph) (blocks : List Block) (taken : IsTaken u v
       dropped_unwritten w = dropped_none g p x d (written_stays u v.log g blocks taken p x w)
 
       -- and the log tells of it.
-      dropped_removed : WasRemoved v.log p variable
+      dropped_removed : WasTaken v.log p variable
       dropped_removed = removal_was v.log p variable (taken.newer p x variable is_variable d)
 
       -- So what says another value is right.
@@ -124,7 +124,7 @@ module _ (u v : UnitForm) (g : Graph) (blocks : List Block) (taken : IsTaken u v
     module _ (l : IsLost v.log g n note e x value) where
       -- so the note was not of the scalar itself
       abbrev WasAnother : Type 0
-      WasAnother = (value ≢ Is (Of (Name x))) × (WrittenIn g p x → ⊥) × WasRemoved u.log p variable
+      WasAnother = (value ≢ Is (Of (Name x))) × (WrittenIn g p x → ⊥) × WasTaken u.log p variable
 
       -- it was another
       lost_another : WasAnother
@@ -139,7 +139,7 @@ module _ (u v : UnitForm) (g : Graph) (blocks : List Block) (taken : IsTaken u v
       lost_logged never = (let told = taken.older p variable lost_another.2 in never variable told.0 is_variable told.1)
 
     -- What was not written in the place is not written there after, and what was removed was.
-    another_still : (w : NoteValue) → w ≢ Is (Of (Name x)) → (WrittenIn g p x → ⊥) → WasRemoved u.log p variable → IsRightNote v (reduced_graph g blocks) p x variable w
+    another_still : (w : NoteValue) → w ≢ Is (Of (Name x)) → (WrittenIn g p x → ⊥) → WasTaken u.log p variable → IsRightNote v (reduced_graph g blocks) p x variable w
     another_still w another none removed = inr (another, λ it. none (written_before u v.log g blocks taken p x it), longer p variable removed)
 
     -- A note that says what it said is right where the assignment of its scalar did not go.

@@ -76,6 +76,7 @@ removed_program u v shared pass adds made = record {
   array_bytes = shared.array_bytes;
   steps = shared.steps;
   assignments = shared.assignments;
+  room = shared.room;
   added = map (logged_as pass Removed) adds.cases;
   log = adds.log;
   functions = same_functions u.graphs v.graphs made;

@@ -17,7 +17,7 @@ use Rattle.dead_pass_notes.proofs.Removing.{graphs_thinned}
 
 -- A unit that shares what functions share with another one is that one with graphs and a log of its own.
 shared : (u v : UnitForm) → ShareTheSame u v → v ≡ with_graphs u v.graphs v.log
-shared u v s = rw (sym s.main, sym s.statics, sym s.array_bytes, sym s.steps, sym s.assignments) refl
+shared u v s = rw (sym s.main, sym s.statics, sym s.array_bytes, sym s.steps, sym s.assignments, sym s.room) refl
 
 -- A unit whose graphs are those of a valid unit without some of their writes is valid, if what functions share is the same, the log only grew, and what notes say now names what there is.
 pub thinned_valid : (u v : UnitForm) → IsValid u → ShareTheSame u v → Pairs (IsThinned (MayBeSaid u v.log)) u.graphs v.graphs → length u.log ≤ length v.log → IsValid v

@@ -1,6 +1,6 @@
 //! What goes of a block.
 
-ghost use Rattle.std.specs.Prelude.{◌≡◌, IfOk, map, true};
+ghost use Rattle.std.specs.Prelude.{OnOk, map};
 ghost use Rattle.graph_core.specs.Graphs.{block_view, scalar_view};
 ghost use Rattle.pass_law.specs.Changes.{Adds};
 ghost use Rattle.dead_pass_rule.specs.Asking.{is_going};
@@ -13,15 +13,15 @@ use graph_core::{Block, Scalar};
 use pass_law::Case;
 use std::alloc::AllocError;
 
-/// Appends the cases of a block. False where their numbers are too large.
+/// Appends the cases of a block.
 pub fn add_block(
     scalars: &[Scalar],
     turns: &[Vec<u32>],
     number: u32,
     block: &Block,
     cases: &mut Vec<Case>,
-) -> Result<bool, AllocError>
-    ensures { IfOk result (λ whole. whole ≡ true → Adds (IsRemovedIn (map scalar_view scalars.now) (is_going (turn_of turns.now) number) number (block_view block.now)) cases.old.items cases.new.items) }
+) -> Result<(), AllocError>
+    ensures { OnOk result (Adds (IsRemovedIn (map scalar_view scalars.now) (is_going (turn_of turns.now) number) number (block_view block.now)) cases.old.items cases.new.items) }
 {
     let mut place = block.place;
     for index in 0..block.instructions.len() {
@@ -33,10 +33,8 @@ pub fn add_block(
             index,
             goes: turn_at(turns, number, left) != 0,
         };
-        if !add_write(scalars, &point, instruction.target(), cases)? {
-            return Ok(false);
-        }
+        add_write(scalars, &point, instruction.target(), cases)?;
         place = instruction.marker().or(place);
     }
-    Ok(true)
+    Ok(())
 }

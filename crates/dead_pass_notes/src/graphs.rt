@@ -15,7 +15,7 @@ use std::alloc::AllocError;
 
 /// Appends the cases of a function: the assignments of scalars that go, as their turns say. They come block by block.
 ///
-/// False where a block or an instruction has a number of 2^32 or more. `AllocError` where memory was refused.
+/// False where a block has a number of 2^32 or more. `AllocError` where memory was refused.
 pub fn removed_writes(
     graph: &Graph,
     turns: &[Vec<u32>],
@@ -29,9 +29,7 @@ pub fn removed_writes(
     }
     for number in 0..graph.blocks.len() as u32 {
         let block = &graph.blocks[number as usize];
-        if !add_block(&graph.scalars, turns, number, block, cases)? {
-            return Ok(false);
-        }
+        add_block(&graph.scalars, turns, number, block, cases)?;
     }
     Ok(true)
 }

@@ -1,6 +1,6 @@
 //! What is written at one point of a graph, and goes.
 
-ghost use Rattle.std.specs.Prelude.{◌≡◌, IfOk, map, option_map, true};
+ghost use Rattle.std.specs.Prelude.{◌≡◌, OnOk, map, option_map};
 ghost use Rattle.graph_core.specs.declared.name.Name as declared-name;
 ghost use Rattle.graph_core.specs.Graphs.{scalar_view};
 ghost use Rattle.debug_records.specs.declared.change.Var as declared-var;
@@ -31,36 +31,33 @@ fn variable_of(scalars: &[Scalar], name: Name) -> Option<Var>
     }
 }
 
-/// Appends the case of what a point writes, if it goes and is a scalar. False where its number is too large.
+/// Appends the case of what a point writes, if it goes and is a scalar.
 pub fn add_write(
     scalars: &[Scalar],
     point: &Point,
     target: Option<Name>,
     cases: &mut Vec<Case>,
-) -> Result<bool, AllocError>
-    ensures { IfOk result (λ whole. whole ≡ true → Adds (IsRemovedAt (map scalar_view scalars.now) point.now.goes (placed point.now.place) point.now.block point.now.index (option_map (λ (n : declared-name.Name). n.0) target)) cases.old.items cases.new.items) }
+) -> Result<(), AllocError>
+    ensures { OnOk result (Adds (IsRemovedAt (map scalar_view scalars.now) point.now.goes (placed point.now.place) point.now.block point.now.index (option_map (λ (n : declared-name.Name). n.0) target)) cases.old.items cases.new.items) }
 {
     if !point.goes {
-        return Ok(true);
+        return Ok(());
     }
     let Some(name) = target else {
-        return Ok(true);
+        return Ok(());
     };
     let Some(place) = point.place else {
-        return Ok(true);
+        return Ok(());
     };
     let Some(var) = variable_of(scalars, name) else {
-        return Ok(true);
+        return Ok(());
     };
-    if point.index > 0xffff_ffff {
-        return Ok(false);
-    }
     cases.push(Case {
         place,
-        block: point.block,
-        index: point.index as u32,
+        block: point.block as usize,
+        index: point.index,
         operand: 0,
         var,
     })?;
-    Ok(true)
+    Ok(())
 }

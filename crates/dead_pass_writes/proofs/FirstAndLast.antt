@@ -3,20 +3,13 @@ use Rattle.std.proofs.Common.{◌≡◌, ℕ, zero, suc, ◌+◌, ◌≤◌, ◌
 use Rattle.std.specs.Prelude.{◌==◌, ◌&&◌, slice_get}
 use Rattle.std.proofs.lemmas.Bool.{cases_eq, and_parts, and_from, eq-eqb, eqb-true}
 use Rattle.std.proofs.lemmas.Option.{none-some, same_Some, slice_get_within}
-use Rattle.debug_records.specs.declared.change.Kind.{Kind}
-use Rattle.debug_records.specs.declared.change.Kind.TheVariants.{Removed, Moved, Reused, Replaced}
+use Rattle.debug_records.specs.Change.{is_taken}
 use Rattle.graph_core.specs.Graphs.{Logged}
 use Rattle.dead_pass_writes.proofs.Steps.{ahead_is, none_ahead}
 use Rattle.dead_pass_writes.specs.declared.removed.Removals.{Removals}
 use Rattle.dead_pass_writes.specs.declared.removed.RemovedChanges.{RemovedChanges}
 use Rattle.dead_pass_writes.specs.Removals.{IsRemoval, IsFirstRemoval, IsLastRemoval}
-use Rattle.dead_pass_writes.specs.RemovedChangesTelling.{told, is_removal, with_removal, first_with, removals_by, first_of, last_of}
-
-removal_kind : (k : Kind) → is_removal k ≡ true → k ≡ Removed
-removal_kind Removed e = refl
-removal_kind Moved e = absurd (true≢false (sym e))
-removal_kind Reused e = absurd (true≢false (sym e))
-removal_kind Replaced e = absurd (true≢false (sym e))
+use Rattle.dead_pass_writes.specs.RemovedChangesTelling.{told, with_removal, first_with, removals_by, first_of, last_of}
 
 get_at : {A : Type 0} (xs : List A) (a : A) (ys : List A) → slice_get (xs ++ a ∷ ys) (length xs) ≡ Some a
 get_at [] a ys = refl
@@ -24,7 +17,7 @@ get_at (x ∷ xs) a ys = get_at xs a ys
 
 module _ (log : List Logged) (p v : ℕ) where
   abbrev IsOne : Logged → Bool
-  IsOne c = is_removal c.kind && (c.place == p && c.variable == v)
+  IsOne c = is_taken c.kind && (c.place == p && c.variable == v)
 
   -- so it is told of the first so many
   data IsTold (count : ℕ) : Option Removals → Type 0 where
@@ -33,14 +26,14 @@ module _ (log : List Logged) (p v : ℕ) where
 
   one_here : (k : ℕ) (c : Logged) → slice_get log k ≡ Some c → IsOne c ≡ true → IsRemoval log p v (k + 1)
   one_here k c is e =
-      let both = and_parts (is_removal c.kind) (c.place == p && c.variable == v) e in
+      let both = and_parts (is_taken c.kind) (c.place == p && c.variable == v) e in
       let rest = and_parts (c.place == p) (c.variable == v) both.1 in
-      record { k = k; change = c; counted = refl; is = is; removed = removal_kind c.kind both.0; in_place = eqb-true c.place p rest.0; of = eqb-true c.variable v rest.1 }
+      record { k = k; change = c; counted = refl; is = is; taken = both.0; in_place = eqb-true c.place p rest.0; of = eqb-true c.variable v rest.1 }
 
   only_here : (k number : ℕ) (c : Logged) → slice_get log k ≡ Some c → IsOne c ≡ false → IsRemoval log p v number → number ≤ k + 1 → number ≤ k
   only_here k number c is e r le = elim (cases_eq r.k k) [
     | inl q ↦ (let same : r.change ≡ c = same_Some r.change c (sym r.is ∙ ap (slice_get log) q ∙ is) in
-        absurd (true≢false (sym (and_from (is_removal c.kind) (c.place == p && c.variable == v) (ap is_removal (ap (λ (z : Logged). z.kind) (sym same) ∙ r.removed))
+        absurd (true≢false (sym (and_from (is_taken c.kind) (c.place == p && c.variable == v) (ap is_taken (ap (λ (z : Logged). z.kind) (sym same)) ∙ r.taken)
         (and_from (c.place == p) (c.variable == v) (eq-eqb c.place p (ap (λ (z : Logged). z.place) (sym same) ∙ r.in_place)) (eq-eqb c.variable v (ap (λ (z : Logged). z.variable) (sym same) ∙ r.of)))) ∙ e)))
     | inr ne ↦ (let counted = r.counted in omega (arith, counted, ne, le))
   ]
@@ -128,10 +121,10 @@ told_same w p x q y e =
 
 -- one change more
 pub change_step : {A : Type 0} (view : A → Logged) (ahead : List A) (item : A) (p v n next : ℕ) (was now whole : Option Removals) → 1 ≤ length ahead → item ≡ get_or ahead 0 item → next ≡ n + 1
-    → now ≡ with_removal (is_removal (view item).kind && ((view item).place == p && (view item).variable == v)) next was → removals_by p v was n (map view ahead) ≡ whole → removals_by p v now next (map view (take (length ahead - 1) (drop 1 ahead))) ≡ whole
+    → now ≡ with_removal (is_taken (view item).kind && ((view item).place == p && (view item).variable == v)) next was → removals_by p v was n (map view ahead) ≡ whole → removals_by p v now next (map view (take (length ahead - 1) (drop 1 ahead))) ≡ whole
 change_step view ahead item p v n next was now whole le e counts grown so_far =
     let rest = map view (take (length ahead - 1) (drop 1 ahead)) in
-    let test = is_removal (view item).kind && ((view item).place == p && (view item).variable == v) in
+    let test = is_taken (view item).kind && ((view item).place == p && (view item).variable == v) in
     ap (λ w. removals_by p v w next rest) grown ∙ ap (λ k. removals_by p v (with_removal test k was) k rest) counts ∙ ap (removals_by p v was n) (sym (ahead_is view ahead item le e)) ∙ so_far
 
 pub change_done : {A : Type 0} (view : A → Logged) (ahead : List A) (p v n : ℕ) (was whole : Option Removals) → length ahead < 1 → removals_by p v was n (map view ahead) ≡ whole → was ≡ whole

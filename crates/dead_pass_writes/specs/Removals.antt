@@ -1,15 +1,15 @@
 -- Changes of a log by which assignments went.
-use Rattle.std.specs.Prelude.{◌≡◌, ℕ, ◌+◌, ◌≤◌, Some, List, slice_get}
-use Rattle.debug_records.specs.declared.change.Kind.TheVariants.{Removed}
+use Rattle.std.specs.Prelude.{◌≡◌, ℕ, ◌+◌, ◌≤◌, true, Some, List, slice_get}
+use Rattle.debug_records.specs.Change.{is_taken}
 use Rattle.graph_core.specs.Graphs.{Logged}
 
--- A change of a log, by its number from 1 on, removed an assignment of a variable in a place.
+-- By a change of a log, of this number from 1 on, an assignment of a variable went from a place.
 pub record IsRemoval (log : List Logged) (p variable number : ℕ) : Type 0 where
   pub k : ℕ
   pub change : Logged
   pub counted : number ≡ k + 1
   pub is : slice_get log k ≡ Some change
-  pub removed : change.kind ≡ Removed
+  pub taken : is_taken change.kind ≡ true
   pub in_place : change.place ≡ p
   pub of : change.variable ≡ variable
 

@@ -1,8 +1,7 @@
 -- What is told of the changes of a log by which assignments went.
-use Rattle.std.specs.Prelude.{◌≡◌, ℕ, ◌+◌, ◌==◌, ◌&&◌, Bool, true, false, if◌then◌else◌, Option, Some, None, List, [], ◌∷◌}
+use Rattle.std.specs.Prelude.{◌≡◌, ℕ, ◌+◌, ◌==◌, ◌&&◌, Bool, if◌then◌else◌, Option, Some, None, List, [], ◌∷◌}
 use Rattle.std.specs.BTreeMap as tree
-use Rattle.debug_records.specs.declared.change.Kind.{Kind}
-use Rattle.debug_records.specs.declared.change.Kind.TheVariants.{Removed}
+use Rattle.debug_records.specs.Change.{is_taken}
 use Rattle.graph_core.specs.Graphs.{Logged}
 use Rattle.dead_pass_writes.specs.Telling.{pair_cmp}
 use Rattle.dead_pass_writes.specs.declared.removed.Removals.{Removals}
@@ -11,11 +10,6 @@ use Rattle.dead_pass_writes.specs.declared.removed.RemovedChanges.{RemovedChange
 -- what is told of a variable in a place
 abbrev pub told : RemovedChanges → (p v : ℕ) → Option Removals
 told removed p v = tree.get pair_cmp removed.all (p, v)
-
--- by a change of this kind an assignment went
-abbrev pub is_removal : Kind → Bool
-is_removal Removed = true
-is_removal _ = false
 
 -- the first of them, where one of this number is behind it, or is the first
 abbrev pub first_with : Option Removals → (number : ℕ) → ℕ
@@ -29,7 +23,7 @@ with_removal is_one number was = if is_one then Some (record { first = first_wit
 -- what is told behind changes, where so many came before them
 abbrev pub removals_by : (p v : ℕ) → Option Removals → (count : ℕ) → List Logged → Option Removals
 removals_by p v was count [] = was
-removals_by p v was count (c ∷ more) = removals_by p v (with_removal (is_removal c.kind && (c.place == p && c.variable == v)) (count + 1) was) (count + 1) more
+removals_by p v was count (c ∷ more) = removals_by p v (with_removal (is_taken c.kind && (c.place == p && c.variable == v)) (count + 1) was) (count + 1) more
 
 -- The changes of a log are told.
 abbrev pub AreToldOf : List Logged → RemovedChanges → Type 0

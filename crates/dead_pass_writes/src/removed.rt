@@ -1,11 +1,12 @@
 //! The changes of a log by which assignments went.
 
 ghost use Rattle.std.specs.Prelude.{◌≡◌, ◌&&◌, ◌==◌, ℕ, IfOk, IfSome, OnOk, None, List, map};
+ghost use Rattle.debug_records.specs.Change.{is_taken};
 ghost use Rattle.graph_core.specs.Graphs.{Logged, logged};
 ghost use Rattle.dead_pass_writes.specs.Removals.{IsFirstRemoval, IsLastRemoval, IsRemoval};
-ghost use Rattle.dead_pass_writes.specs.RemovedChangesTelling.{AreToldOf, first_with, is_removal, told, with_removal};
+ghost use Rattle.dead_pass_writes.specs.RemovedChangesTelling.{AreToldOf, first_with, told, with_removal};
 
-use debug_records::{Change, Kind, Place, Var};
+use debug_records::{Change, Place, Var};
 use std::alloc::{AllocError, Global};
 use std::collections::BTreeMap;
 
@@ -20,16 +21,6 @@ pub struct Removals {
 #[derive(Drop)]
 pub struct RemovedChanges {
     all: BTreeMap<(u32, u32), Removals>,
-}
-
-/// Whether a change is of an assignment that went.
-fn is_removed(kind: Kind) -> bool
-    ensures { result ≡ is_removal kind }
-{
-    match kind {
-        Kind::Removed => true,
-        Kind::Moved | Kind::Reused | Kind::Replaced => false,
-    }
 }
 
 impl RemovedChanges {
@@ -60,9 +51,9 @@ impl RemovedChanges {
 
     /// The change of a number may be one by which an assignment went.
     fn add_change(&mut self, change: &Change, number: u32) -> Result<(), AllocError>
-        ensures { OnOk result ((p v : ℕ) → told self.new p v ≡ with_removal (is_removal change.now.kind && (change.now.place.0 == p && change.now.var.0 == v)) number (told self.old p v)) }
+        ensures { OnOk result ((p v : ℕ) → told self.new p v ≡ with_removal (is_taken change.now.kind && (change.now.place.0 == p && change.now.var.0 == v)) number (told self.old p v)) }
     {
-        if is_removed(change.kind) {
+        if change.kind.is_taken() {
             self.add(change.place.0, change.var.0, number)?;
         }
         Ok(())

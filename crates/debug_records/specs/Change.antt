@@ -1,8 +1,10 @@
 -- The names of passes, and the changes that they made.
-use Rattle.std.specs.Prelude.{◌≡◌, ◌≤◌, ◌-◌, ◌++◌, ◌&&◌, ℕ, nat_le, Bool, true, List, replicate, take, length}
+use Rattle.std.specs.Prelude.{◌≡◌, ◌≤◌, ◌-◌, ◌++◌, ◌&&◌, ℕ, nat_le, Bool, true, false, List, replicate, take, length}
 use Rattle.std.specs.List.{list_all}
 use Rattle.debug_records.specs.declared.change.Change.{Change}
 use Rattle.debug_records.specs.declared.change.ChangeLog.{ChangeLog}
+use Rattle.debug_records.specs.declared.change.Kind.{Kind}
+use Rattle.debug_records.specs.declared.change.Kind.TheVariants.{Removed, Moved, Reused, Replaced, Sunk}
 use Rattle.debug_records.specs.declared.change.PassName.{PassName}
 
 -- the ASCII code of a letter from a to z
@@ -26,3 +28,11 @@ pass_name bytes = record { padded = bytes ++ replicate (16 - length bytes) 0; le
 -- the changes of a log, in order
 abbrev pub changes : ChangeLog → List Change
 changes log = log.changes.items
+
+-- By a change of this kind an assignment went from its place.
+abbrev pub is_taken : Kind → Bool
+is_taken Removed = true
+is_taken Moved = false
+is_taken Reused = false
+is_taken Replaced = false
+is_taken Sunk = true

@@ -2,7 +2,7 @@
 
 ghost use Rattle.std.specs.Prelude.{◌≡◌, ◌≢◌, ◌≤◌, ◌<◌, ◌+◌, ◌++◌, [], ◌∷◌, IfOk, IfSome, MatchOption, OnErr, length, true};
 ghost use Rattle.std.specs.List.{list_all};
-ghost use Rattle.debug_records.specs.Change.{changes, is_lower_case, IsPassName, letters, pass_name};
+ghost use Rattle.debug_records.specs.Change.{changes, is_lower_case, is_taken, IsPassName, letters, pass_name};
 
 use std::alloc::{AllocError, Global};
 
@@ -78,6 +78,20 @@ pub enum Kind {
     Reused,
     /// A variable is read in place of another one.
     Replaced,
+    /// An assignment went to where its value is still wanted.
+    Sunk,
+}
+
+impl Kind {
+    /// Whether the assignment went from its place.
+    pub fn is_taken(self) -> bool
+        ensures { result ≡ is_taken self }
+    {
+        match self {
+            Kind::Removed | Kind::Sunk => true,
+            Kind::Moved | Kind::Reused | Kind::Replaced => false,
+        }
+    }
 }
 
 /// A change that a pass made.

@@ -16,6 +16,8 @@ pub enum Letter {
     S,
     /// A rule of images.
     I,
+    /// A rule of transcripts.
+    A,
 }
 
 impl fmt::Display for Letter {
@@ -27,6 +29,7 @@ impl fmt::Display for Letter {
             Letter::L => "L",
             Letter::S => "S",
             Letter::I => "I",
+            Letter::A => "A",
         })
     }
 }
@@ -147,6 +150,18 @@ impl Code {
         number: 29,
     };
 
+    /// E30: a member is none of its structure, or the size of a type is wanted that is not complete.
+    pub const UNKNOWN_MEMBER: Code = Code {
+        letter: Letter::E,
+        number: 30,
+    };
+
+    /// E31: a tag or a member is repeated.
+    pub const REPEATED_MEMBER: Code = Code {
+        letter: Letter::E,
+        number: 31,
+    };
+
     /// L01: the text has over 1,048,576 bytes.
     pub const TEXT_SIZE: Code = Code {
         letter: Letter::L,
@@ -199,6 +214,18 @@ impl Code {
     pub const NAME_SIZE: Code = Code {
         letter: Letter::L,
         number: 9,
+    };
+
+    /// L10: there are over 1,000,000 pairs of a call and a visible variable.
+    pub const CALL_PAIRS: Code = Code {
+        letter: Letter::L,
+        number: 10,
+    };
+
+    /// L11: a structure takes over 4,092 bytes.
+    pub const STRUCTURE_SIZE: Code = Code {
+        letter: Letter::L,
+        number: 11,
     };
 
     /// S01: a line of a script is no command, or has words too many.
@@ -296,6 +323,48 @@ impl Code {
         letter: Letter::I,
         number: 12,
     };
+
+    /// I13: a call row or a member breaks a rule.
+    pub const CALLS_AND_MEMBERS: Code = Code {
+        letter: Letter::I,
+        number: 13,
+    };
+
+    /// A01: the tables of an image are not those of the program.
+    pub const TABLES: Code = Code {
+        letter: Letter::A,
+        number: 1,
+    };
+
+    /// A02: a line of a transcript is none that a session prints.
+    pub const TRANSCRIPT_LINE: Code = Code {
+        letter: Letter::A,
+        number: 2,
+    };
+
+    /// A03: a line tells of a stop that is no reached place of that line and function.
+    pub const STOP: Code = Code {
+        letter: Letter::A,
+        number: 3,
+    };
+
+    /// A04: a verdict stands where no stop is, or its path ends elsewhere.
+    pub const STRAY_VERDICT: Code = Code {
+        letter: Letter::A,
+        number: 4,
+    };
+
+    /// A05: no row of the image has the variable, the verdict and the change.
+    pub const NO_ROW: Code = Code {
+        letter: Letter::A,
+        number: 5,
+    };
+
+    /// A06: the path of a verdict is of another form, or nothing bears out its change.
+    pub const EVIDENCE: Code = Code {
+        letter: Letter::A,
+        number: 6,
+    };
 }
 
 impl fmt::Display for Code {
@@ -329,6 +398,8 @@ pub fn codes_in_use()
     ensures initializer { code_text Code.INITIALIZER ≡ codes "E27" }
     ensures repeated_label { code_text Code.REPEATED_LABEL ≡ codes "E28" }
     ensures no_main { code_text Code.NO_MAIN ≡ codes "E29" }
+    ensures unknown_member { code_text Code.UNKNOWN_MEMBER ≡ codes "E30" }
+    ensures repeated_member { code_text Code.REPEATED_MEMBER ≡ codes "E31" }
     ensures text_size { code_text Code.TEXT_SIZE ≡ codes "L01" }
     ensures nesting { code_text Code.NESTING ≡ codes "L02" }
     ensures function_weight { code_text Code.FUNCTION_WEIGHT ≡ codes "L03" }
@@ -338,6 +409,8 @@ pub fn codes_in_use()
     ensures function_count { code_text Code.FUNCTION_COUNT ≡ codes "L07" }
     ensures visible_pairs { code_text Code.VISIBLE_PAIRS ≡ codes "L08" }
     ensures name_size { code_text Code.NAME_SIZE ≡ codes "L09" }
+    ensures call_pairs { code_text Code.CALL_PAIRS ≡ codes "L10" }
+    ensures structure_size { code_text Code.STRUCTURE_SIZE ≡ codes "L11" }
     ensures unknown_command { code_text Code.UNKNOWN_COMMAND ≡ codes "S01" }
     ensures line_number { code_text Code.LINE_NUMBER ≡ codes "S02" }
     ensures command_name { code_text Code.COMMAND_NAME ≡ codes "S03" }
@@ -354,4 +427,11 @@ pub fn codes_in_use()
     ensures changes { code_text Code.CHANGES ≡ codes "I10" }
     ensures pairs_and_rows { code_text Code.PAIRS_AND_ROWS ≡ codes "I11" }
     ensures nodes_and_names { code_text Code.NODES_AND_NAMES ≡ codes "I12" }
+    ensures calls_and_members { code_text Code.CALLS_AND_MEMBERS ≡ codes "I13" }
+    ensures tables { code_text Code.TABLES ≡ codes "A01" }
+    ensures transcript_line { code_text Code.TRANSCRIPT_LINE ≡ codes "A02" }
+    ensures stop { code_text Code.STOP ≡ codes "A03" }
+    ensures stray_verdict { code_text Code.STRAY_VERDICT ≡ codes "A04" }
+    ensures no_row { code_text Code.NO_ROW ≡ codes "A05" }
+    ensures evidence { code_text Code.EVIDENCE ≡ codes "A06" }
 {}

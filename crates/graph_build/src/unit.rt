@@ -20,7 +20,7 @@ use c_places::places_of_program;
 use c_tree::Program;
 use debug_records::ChangeLog;
 use graph_build_statements::Source;
-use graph_core::{Graph, Unit};
+use graph_core::{Graph, Room, Unit};
 use std::alloc::{AllocError, Global};
 
 /// The positions of a program's places, in order.
@@ -69,5 +69,6 @@ pub fn build(alloc: Global, program: &Program) -> Result<Unit, AllocError>
         array_bytes: array_bytes_of(alloc, program)?,
         flow,
         log: ChangeLog::new(alloc),
+        room: Room::Small,
     })
 }

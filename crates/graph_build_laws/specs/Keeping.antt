@@ -26,7 +26,7 @@ pub record KeepsBounds (g : Graph) : Type 0 where
 -- The counts of a unit are within the bounds of valid units: of functions, instructions, blocks, arguments of calls, and in each graph of instructions, names, scalars and parameters.
 pub record KeepBounds (u : UnitForm) : Type 0 where
   pub functions : length u.graphs ≤ most_functions
-  pub instructions : total instructions_of u.graphs ≤ most_instructions
-  pub blocks : total (λ (g : Graph). length g.blocks) u.graphs ≤ most_blocks
-  pub arguments : total arguments_of u.graphs ≤ most_arguments
+  pub instructions : total instructions_of u.graphs ≤ most_instructions u.room
+  pub blocks : total (λ (g : Graph). length g.blocks) u.graphs ≤ most_blocks u.room
+  pub arguments : total arguments_of u.graphs ≤ most_arguments u.room
   pub graphs : (k : ℕ) (g : Graph) → slice_get u.graphs k ≡ Some g → KeepsBounds g

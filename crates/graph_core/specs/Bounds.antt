@@ -1,5 +1,7 @@
--- How much a valid unit, and a run of it, may have. What is said "of a function" is asked of each.
+-- How much a valid unit, and a run of it, may have. What is said "of a function" is asked of each; what all functions together may have goes by the unit's room.
 use Rattle.std.specs.Prelude.{ℕ}
+use Rattle.memory_map.specs.declared.map.Room.{Room}
+use Rattle.memory_map.specs.declared.map.Room.TheVariants.{Small, Large}
 
 -- functions
 abbrev pub most_functions : ℕ
@@ -18,20 +20,24 @@ abbrev pub most_instructions_of_function : ℕ
 most_instructions_of_function = 6000
 
 -- instructions of all functions that are neither markers nor notes
-abbrev pub most_instructions : ℕ
-most_instructions = 8000
+abbrev pub most_instructions : Room → ℕ
+most_instructions Small = 8000
+most_instructions Large = 80000
 
 -- blocks of all functions
-abbrev pub most_blocks : ℕ
-most_blocks = 12000
+abbrev pub most_blocks : Room → ℕ
+most_blocks Small = 12000
+most_blocks Large = 120000
 
 -- markers of all functions
-abbrev pub most_markers : ℕ
-most_markers = 4000
+abbrev pub most_markers : Room → ℕ
+most_markers Small = 4000
+most_markers Large = 40000
 
 -- arguments of all calls
-abbrev pub most_arguments : ℕ
-most_arguments = 4000
+abbrev pub most_arguments : Room → ℕ
+most_arguments Small = 4000
+most_arguments Large = 40000
 
 -- bytes that the automatic objects of a function take
 abbrev pub most_bytes_of_function : ℕ

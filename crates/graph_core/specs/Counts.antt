@@ -30,8 +30,8 @@ count_in_graphs counted graphs = total (λ (g : Graph). count_in_blocks counted 
 -- The counts of a unit are within their bounds.
 pub record KeepsCounts (u : UnitForm) : Type 0 where
   pub functions : length u.graphs ≤ most_functions
-  pub instructions : total instructions_of u.graphs ≤ most_instructions
-  pub blocks : total (λ (g : Graph). length g.blocks) u.graphs ≤ most_blocks
-  pub markers : length (markers_of u.graphs) ≤ most_markers
-  pub arguments : total arguments_of u.graphs ≤ most_arguments
+  pub instructions : total instructions_of u.graphs ≤ most_instructions u.room
+  pub blocks : total (λ (g : Graph). length g.blocks) u.graphs ≤ most_blocks u.room
+  pub markers : length (markers_of u.graphs) ≤ most_markers u.room
+  pub arguments : total arguments_of u.graphs ≤ most_arguments u.room
   pub statics : total (λ o. taken_by (static_bytes o)) u.statics + total (λ (b : List ℕ). taken_by (length b)) u.array_bytes ≤ most_static_bytes

@@ -1,5 +1,6 @@
 -- Units and their graphs as contracts see them, without where they lie in memory.
 use Rattle.std.specs.Prelude.{ℕ, List, Option, map, option_map}
+use Rattle.memory_map.specs.declared.map.Room.{Room}
 use Rattle.debug_records.specs.declared.change.PassName.{PassName}
 use Rattle.debug_records.specs.declared.change.Kind as declared-kind
 use Rattle.debug_records.specs.declared.change.Change as declared-change
@@ -122,7 +123,7 @@ pub record Logged : Type 0 where
   pub variable : ℕ
 
 -- A unit: a graph for each function, the number of main, what is in static storage, the bytes that initialise arrays, the flow of the program from place to place with what the places
--- assign, and the changes that passes made.
+-- assign, the changes that passes made, and the room.
 pub record UnitForm : Type 0 where
   pub graphs : List Graph
   pub main : ℕ
@@ -131,6 +132,7 @@ pub record UnitForm : Type 0 where
   pub steps : List FlowStep
   pub assignments : List Assignment
   pub log : List Logged
+  pub room : Room
 
 -- the operand that the code has
 abbrev pub operand_view : declared-operand.Operand → Operand
@@ -224,4 +226,5 @@ unit_view u = record {
   steps = u.flow.steps.items;
   assignments = u.flow.assignments.items;
   log = map logged (changes u.log);
+  room = u.room;
 }

@@ -1,6 +1,8 @@
 -- What instructions read and write.
-use Rattle.std.specs.Prelude.{ℕ, Bool, true, false, Option, Some, None, List, [], ◌∷◌, ◌++◌, map}
+use Rattle.std.specs.Prelude.{ℕ, Bool, true, false, Option, Some, None, List, [], ◌∷◌, ◌++◌, map, take}
+use Rattle.graph_core.specs.declared.name.Label.{Label}
 use Rattle.graph_core.specs.declared.name.Name as declared-name
+use Rattle.graph_core.specs.declared.uses.Targets.{Targets}
 use Rattle.graph_core.specs.Graphs.{Operand, Name, Constant, StaticAddress, Recipe, Of, Truncated, Operated, Location, Automatic, Static, At, Instruction, Marker, Note, Move, Operate, Truncate, Same, Address, Load, Store, Zero, CopyWords, Call, End, Jump, Branch, Return}
 
 -- the numbers of names
@@ -90,6 +92,10 @@ abbrev pub is_of_two : Instruction → Bool
 is_of_two (Operate x o a b) = true
 is_of_two (Same x a b) = true
 is_of_two _ = false
+
+-- the blocks that the code tells of an end
+abbrev pub labels_in : Targets → List Label
+labels_in t = take t.count t.labels
 
 -- the blocks to which an end leads
 abbrev pub targets_of : End → List ℕ

@@ -226,10 +226,10 @@ module _ (u : UnitForm) where
     pub functions : length u.graphs ≤ most_functions
     -- main is called with no argument
     pub main : HasParameters (slice_get u.graphs u.main) 0
-    pub instructions : total instructions_of u.graphs ≤ most_instructions
-    pub blocks : total (λ (g : Graph). length g.blocks) u.graphs ≤ most_blocks
-    pub markers : length (markers_of u.graphs) ≤ most_markers
-    pub arguments : total arguments_of u.graphs ≤ most_arguments
+    pub instructions : total instructions_of u.graphs ≤ most_instructions u.room
+    pub blocks : total (λ (g : Graph). length g.blocks) u.graphs ≤ most_blocks u.room
+    pub markers : length (markers_of u.graphs) ≤ most_markers u.room
+    pub arguments : total arguments_of u.graphs ≤ most_arguments u.room
     -- what the static objects and the bytes that initialise arrays take
     pub statics : total (λ o. taken_by (static_bytes o)) u.statics + total (λ (b : List ℕ). taken_by (length b)) u.array_bytes ≤ most_static_bytes
     pub relocations : AllByRecursion (λ (o : StaticObject). AreRelocations u.statics o.relocations) u.statics

@@ -1,7 +1,7 @@
 -- Well marked units: markers follow the flow of the program, and notes say what becomes of each scalar.
 use Rattle.std.specs.Prelude.{◌≡◌, ◌≢◌, ℕ, ◌<◌, ◌≤◌, ◌⊎◌, true, false, Option, Some, option_map, List, [], ◌∷◌, length, slice_get}
 use Rattle.places.specs.Flow.{can_go, assigns}
-use Rattle.debug_records.specs.declared.change.Kind.TheVariants.{Removed}
+use Rattle.debug_records.specs.Change.{is_taken}
 use Rattle.graph_core.specs.Graphs.{Operand, Name, Of, Scalar, NoteValue, Is, Instruction, Marker, Note, Zero, CopyWords, End, Return, Block, Graph, Logged, UnitForm}
 use Rattle.graph_core.specs.Uses.{reads_of, reads_of_end, targets_of}
 use Rattle.graph_core.specs.Paths.{History, Among, Path, place_of, writes, is_call, called, is_bound, written, unnoted, owed}
@@ -36,11 +36,11 @@ pub record IsLocal (g : Graph) (t : ℕ) : Type 0 where
   pub temporary : length g.scalars ≤ t
   pub not_moved : t < g.first_moved
 
--- the log has a change that removed an assignment of a variable in a place
-pub record WasRemoved (log : List Logged) (place variable : ℕ) : Type 0 where
+-- the log has a change by which an assignment of a variable went from a place
+pub record WasTaken (log : List Logged) (place variable : ℕ) : Type 0 where
   pub change : Logged
   pub logged : Among change log
-  pub removed : change.kind ≡ Removed
+  pub taken : is_taken change.kind ≡ true
   pub at : change.place ≡ place
   pub of : change.variable ≡ variable
 
@@ -50,10 +50,10 @@ pub data WrittenIn (g : Graph) (p x : ℕ) : Type 0 where
   bound : p ≡ g.entry → is_bound x g.parameters ≡ true → WrittenIn g p x
 
 module _ (u : UnitForm) (g : Graph) where
-  -- A note is that of the scalar itself, in a place that writes it; or it stands in the place of a removed assignment of its variable, which does not write it any more.
+  -- A note is that of the scalar itself, in a place that writes it; or it stands in the place of an assignment of its variable that went, and does not write it any more.
   abbrev pub IsRightNote : (p x variable : ℕ) → NoteValue → Type 0
   IsRightNote p x variable v =
-      ((v ≡ Is (Of (Name x))) × WrittenIn g p x) ⊎ ((v ≢ Is (Of (Name x))) × (WrittenIn g p x → ⊥) × WasRemoved u.log p variable)
+      ((v ≡ Is (Of (Name x))) × WrittenIn g p x) ⊎ ((v ≢ Is (Of (Name x))) × (WrittenIn g p x → ⊥) × WasTaken u.log p variable)
 
   -- A graph is well marked.
   pub record IsWellMarked : Type 0 where

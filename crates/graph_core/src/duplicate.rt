@@ -251,6 +251,7 @@ impl Unit {
                 assignments: Vec::from_slice(alloc, &self.flow.assignments)?,
             },
             log: self.log.duplicate(alloc)?,
+            room: self.room,
         })
     }
 }

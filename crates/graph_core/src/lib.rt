@@ -16,13 +16,15 @@ mod value;
 
 pub use block::{Block, Comparison, End};
 pub use bounds::{
-    MAX_ACTIVATIONS, MAX_ARGUMENTS, MAX_BLOCKS, MAX_FUNCTION_BYTES, MAX_FUNCTION_INSTRUCTIONS,
-    MAX_FUNCTIONS, MAX_INSTRUCTIONS, MAX_MARKERS, MAX_NAMES, MAX_PARAMETERS, MAX_RECIPE_DEPTH,
-    MAX_STATIC_BYTES,
+    MAX_ACTIVATIONS, MAX_FUNCTION_BYTES, MAX_FUNCTION_INSTRUCTIONS, MAX_FUNCTIONS, MAX_NAMES,
+    MAX_PARAMETERS, MAX_RECIPE_DEPTH, MAX_STATIC_BYTES, max_arguments, max_blocks,
+    max_instructions, max_markers,
 };
 pub use graph::{Binding, Graph, MemoryObject, Scalar};
 pub use instruction::{Callee, Element, Instr, Location};
+pub use memory_map::Room;
 pub use name::{Label, Name, Operand};
 pub use recipe::{NoteValue, Recipe};
 pub use unit::{Bytes, Relocation, StaticObject, Unit};
+pub use uses::Targets;
 pub use value::{Owner, Shadow, Value};

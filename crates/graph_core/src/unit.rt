@@ -3,6 +3,7 @@
 use crate::graph::Graph;
 use crate::instruction::Element;
 use debug_records::ChangeLog;
+use memory_map::Room;
 use places::FlowTable;
 
 /// The address that an element of a static object holds as a run begins: that of a static object, so many bytes on.
@@ -51,4 +52,6 @@ pub struct Unit {
     pub flow: FlowTable,
     /// What the passes changed.
     pub log: ChangeLog,
+    /// How much it may have.
+    pub room: Room,
 }

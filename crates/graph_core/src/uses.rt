@@ -1,11 +1,11 @@
 //! What instructions read and write.
 
-ghost use Rattle.std.specs.Prelude.{◌≡◌, IfOk, OnOk, ◌++◌, map, option_map};
+ghost use Rattle.std.specs.Prelude.{◌≡◌, IfOk, OnOk, [], ◌∷◌, ◌++◌, map, option_map, take};
 ghost use Rattle.graph_core.specs.Graphs.{end_view, instruction_view, location_view, operand_view};
 ghost use Rattle.graph_core.specs.declared.name.Name as declared-name;
 ghost use Rattle.graph_core.specs.declared.name.Label as declared-label;
 ghost use Rattle.debug_records.specs.declared.change.Place as declared-place;
-ghost use Rattle.graph_core.specs.Uses.{names_of, names_of_all, names_of_location, marker_of, names_of_some, numbers, reads_of, reads_of_end, target_of, targets_of};
+ghost use Rattle.graph_core.specs.Uses.{labels_in, names_of, names_of_all, names_of_location, marker_of, names_of_some, numbers, reads_of, reads_of_end, target_of, targets_of};
 
 use crate::block::End;
 use crate::instruction::{Instr, Location};
@@ -106,6 +106,32 @@ fn push_all(operands: &[Operand], names: &mut Vec<Name>) -> Result<(), AllocErro
     Ok(())
 }
 
+/// The blocks to which the end of a block leads: at most two.
+#[derive(Clone, Copy)]
+pub struct Targets {
+    labels: [Label; 2],
+    count: usize,
+}
+
+impl Targets {
+    /// So many of two blocks.
+    fn of(first: Label, second: Label, count: usize) -> Targets
+        ensures { labels_in result ≡ take count (first ∷ second ∷ []) }
+    {
+        Targets {
+            labels: [first, second],
+            count,
+        }
+    }
+
+    /// The blocks, in order.
+    pub fn as_slice(&self) -> &[Label]
+        ensures { result.now ≡ labels_in self.entry.now }
+    {
+        &self.labels[..self.count.min(2)]
+    }
+}
+
 impl End {
     /// The names that the end of a block reads, in order.
     pub fn reads(&self, alloc: Global) -> Result<Vec<Name>, AllocError>
@@ -123,23 +149,18 @@ impl End {
         Ok(names)
     }
 
-    /// The blocks to which the end leads.
-    pub fn targets(&self, alloc: Global) -> Result<Vec<Label>, AllocError>
-        ensures { IfOk result (λ v. map (λ (l : declared-label.Label). l.0) v.items ≡ targets_of (end_view self.now)) }
+    /// The blocks to which the end leads, in order. It takes no memory.
+    pub fn targets(&self) -> Targets
+        ensures { map (λ (l : declared-label.Label). l.0) (labels_in result) ≡ targets_of (end_view self.now) }
     {
-        let mut labels = Vec::new(alloc);
         match self {
-            End::Return(_) => {}
-            End::Jump(label) => labels.push(*label)?,
+            End::Return(_) => Targets::of(Label(0), Label(0), 0),
+            End::Jump(label) => Targets::of(*label, Label(0), 1),
             End::Branch {
                 then,
                 otherwise,
                 ..
-            } => {
-                labels.push(*then)?;
-                labels.push(*otherwise)?;
-            }
+            } => Targets::of(*then, *otherwise, 2),
         }
-        Ok(labels)
     }
 }

@@ -7,6 +7,7 @@ ghost use Rattle.debug_records.specs.declared.change.Place as declared-place;
 ghost use Rattle.graph_core.specs.Graphs.{binding_view, block_view, bytes_view, end_view, graph_view, instruction_view, location_view, note_view, operand_view, recipe_view, static_view, unit_view};
 ghost use Rattle.graph_core.specs.Uses.{targets_of};
 ghost use Rattle.graph_core.specs.Memory.{static_bytes};
+ghost use Rattle.memory_map.specs.declared.map.Room.TheVariants.{Large};
 ghost use Rattle.graph_core.specs.Bounds.{most_markers};
 ghost use Rattle.graph_core.specs.Counts.{KeepsCounts, count_in_blocks, count_in_graphs, share};
 ghost use Rattle.graph_core.specs.PlaceTables.{IsTableOf};
@@ -14,8 +15,8 @@ ghost use Rattle.graph_core.specs.Validity.{AreAllDifferent, AreEdges, AreOperan
 
 use crate::block::{Block, End};
 use crate::bounds::{
-    MAX_ARGUMENTS, MAX_BLOCKS, MAX_FUNCTION_BYTES, MAX_FUNCTION_INSTRUCTIONS, MAX_FUNCTIONS,
-    MAX_INSTRUCTIONS, MAX_MARKERS, MAX_NAMES, MAX_PARAMETERS, MAX_RECIPE_DEPTH, MAX_STATIC_BYTES,
+    MAX_FUNCTION_BYTES, MAX_FUNCTION_INSTRUCTIONS, MAX_FUNCTIONS, MAX_NAMES, MAX_PARAMETERS,
+    MAX_RECIPE_DEPTH, MAX_STATIC_BYTES, max_arguments, max_blocks, max_instructions, max_markers,
 };
 use crate::graph::{Binding, Graph, MemoryObject};
 use crate::instruction::{Callee, Instr, Location};
@@ -490,7 +491,7 @@ fn are_bindings(graph: &Graph, bindings: &[Binding]) -> bool
 
 /// Whether a graph is valid. The table then lists the places that it begins.
 fn is_graph(unit: &Unit, graph: &Graph, begun: &mut PlaceTable) -> bool
-    requires { length (markers_of_blocks (graph_view graph.now).blocks) ≤ most_markers }
+    requires { length (markers_of_blocks (graph_view graph.now).blocks) ≤ most_markers Large }
     ensures { IsTrue result ↔ IsGraph (unit_view unit.now) (graph_view graph.now) }
 {
     if MAX_FUNCTION_INSTRUCTIONS < count_in_blocks(Counted::Instructions, &graph.blocks) {
@@ -516,7 +517,7 @@ fn is_graph(unit: &Unit, graph: &Graph, begun: &mut PlaceTable) -> bool
 }
 
 fn are_graphs(unit: &Unit, graphs: &[Graph], begun: &mut PlaceTable) -> bool
-    requires { length (markers_of (map graph_view graphs.now)) ≤ most_markers }
+    requires { length (markers_of (map graph_view graphs.now)) ≤ most_markers Large }
     ensures { IsTrue result ↔ AllByRecursion (IsGraph (unit_view unit.now)) (map graph_view graphs.now) }
 {
     let mut left = graphs;
@@ -547,7 +548,7 @@ fn have_relocations(unit: &Unit, objects: &[StaticObject]) -> bool
 
 /// Whether no place has two markers in graphs.
 fn are_marked_once(graphs: &[Graph], begun: &mut PlaceTable) -> bool
-    requires { length (markers_of (map graph_view graphs.now)) ≤ most_markers }
+    requires { length (markers_of (map graph_view graphs.now)) ≤ most_markers Large }
     ensures { IsTrue result ↔ AreAllDifferent (markers_of (map graph_view graphs.now)) }
 {
     begun.list_graphs(graphs);
@@ -559,16 +560,19 @@ impl Unit {
     fn keeps_counts(&self) -> bool
         ensures { IsTrue result ↔ KeepsCounts (unit_view self.now) }
     {
-        if MAX_FUNCTIONS < self.graphs.len() || MAX_BLOCKS < count_blocks(&self.graphs) {
+        if MAX_FUNCTIONS < self.graphs.len() {
             return false;
         }
-        if MAX_INSTRUCTIONS < count_in_graphs(Counted::Instructions, &self.graphs) {
+        if max_blocks(self.room) < count_blocks(&self.graphs) {
             return false;
         }
-        if MAX_MARKERS < count_in_graphs(Counted::Markers, &self.graphs) {
+        if max_instructions(self.room) < count_in_graphs(Counted::Instructions, &self.graphs) {
             return false;
         }
-        if MAX_ARGUMENTS < count_in_graphs(Counted::Arguments, &self.graphs) {
+        if max_markers(self.room) < count_in_graphs(Counted::Markers, &self.graphs) {
+            return false;
+        }
+        if max_arguments(self.room) < count_in_graphs(Counted::Arguments, &self.graphs) {
             return false;
         }
         taken_by_statics(&self.statics).saturating_add(taken_by_bytes(&self.array_bytes))

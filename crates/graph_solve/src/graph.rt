@@ -27,11 +27,11 @@ fn returns(end: &End) -> bool
 }
 
 /// Appends the edges from a block with this end.
-fn push_edges(alloc: Global, from: u32, end: &End, edges: &mut Vec<Edge>) -> Result<(), AllocError>
+fn push_edges(from: u32, end: &End, edges: &mut Vec<Edge>) -> Result<(), AllocError>
     ensures { OnOk result (edges.new.items ≡ edges.old.items ++ map (edge_from from) (targets_of (end_view end.now))) }
 {
-    let targets = end.targets(alloc)?;
-    for target in &targets {
+    let targets = end.targets();
+    for target in targets.as_slice() {
         edges.push(Edge { from, to: target.0 })?;
     }
     Ok(())
@@ -47,7 +47,7 @@ pub fn flow_graph(alloc: Global, graph: &Graph) -> Result<FlowGraph, AllocError>
     let mut edges = Vec::new(alloc);
     for (from, block) in graph.blocks.iter().enumerate() {
         ends.push(returns(&block.end))?;
-        push_edges(alloc, from as u32, &block.end, &mut edges)?;
+        push_edges(from as u32, &block.end, &mut edges)?;
     }
     Ok(FlowGraph { ends, edges })
 }

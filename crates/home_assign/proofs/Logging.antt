@@ -6,7 +6,7 @@ use Rattle.std.specs.Option.{option_map_or}
 use Rattle.std.proofs.lemmas.Bool.{eq-eqb, eqb-true, or_cases, or_left, or_right, and_from, and_parts, false_from_ne_true}
 use Rattle.std.proofs.lemmas.Option.{slice_get_within}
 use Rattle.debug_records.specs.declared.change.Kind.{Kind}
-use Rattle.debug_records.specs.declared.change.Kind.TheVariants.{Removed, Moved, Reused, Replaced}
+use Rattle.debug_records.specs.declared.change.Kind.TheVariants.{Removed, Moved, Reused, Replaced, Sunk}
 use Rattle.debug_records.specs.declared.change.PassName.{PassName}
 use Rattle.graph_core.specs.Graphs.{Graph, Logged, Scalar}
 use Rattle.graph_core.specs.Paths.{Among, front, behind}
@@ -37,6 +37,7 @@ moved_is Removed e = absurd (true≢false (sym e))
 moved_is Moved e = refl
 moved_is Reused e = absurd (true≢false (sym e))
 moved_is Replaced e = absurd (true≢false (sym e))
+moved_is Sunk e = absurd (true≢false (sym e))
 
 home_there : (o : Option Home) (r : ℕ) → option_map_or (λ home. home) o (Slot 0) ≡ Register r → o ≡ Some (Register r)
 home_there None r e = absurd (let no : Slot 0 ≡ Register r = e in cc)

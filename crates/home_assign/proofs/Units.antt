@@ -7,6 +7,7 @@ use Rattle.graph_homes.specs.Reused.{IsReused}
 use Rattle.std.specs.Prelude.{slice_get}
 use Rattle.std.specs.Option.{option_map_or}
 use Rattle.std.proofs.lemmas.Option.{same_Some, slice_get-get_or, slice_get_within}
+use Rattle.graph_core.proofs.Rooms.{blocks_in}
 use Rattle.graph_core.specs.Graphs.{Graph, Logged, UnitForm}
 use Rattle.graph_core.specs.Bounds.{most_blocks}
 use Rattle.graph_core.specs.Validity.{IsGraph, IsValid, total}
@@ -25,10 +26,10 @@ use Rattle.home_assign.proofs.Numbers.{all_at}
 use Rattle.home_assign.proofs.Sharings.{IsOf, all_told, ordered_pairs}
 use Rattle.base_laws.proofs.Lists.{append_nil, rest_is}
 
-all_may : (u : UnitForm) (gs : List Graph) → total (λ (g : Graph). length g.blocks) gs ≤ most_blocks → AllByRecursion (IsGraph u) gs → AllByRecursion IsHomeable gs
+all_may : (u : UnitForm) (gs : List Graph) → total (λ (g : Graph). length g.blocks) gs ≤ most_blocks u.room → AllByRecursion (IsGraph u) gs → AllByRecursion IsHomeable gs
 all_may u [] few all = tt
 all_may u (g ∷ gs) few all = (
-  record { may = record { names = all.0.names; blocks = omega arith; within = valid_targets u g all.0 }; scalars = omega (arith, all.0.scalars, all.0.temporaries) },
+  record { may = record { names = all.0.names; blocks = omega (arith, blocks_in u.room); within = valid_targets u g all.0 }; scalars = omega (arith, all.0.scalars, all.0.temporaries) },
   all_may u gs (omega arith) all.1,
 )
 

@@ -1,6 +1,7 @@
 -- Names that interfere.
 use Rattle.std.specs.Prelude.{◌≡◌, ◌≢◌, ◌⊎◌, ℕ, ◌==◌, ◌≤◌, Bool, true, false, Option, Some, None, List, [], ◌∷◌, length, slice_get}
 use Rattle.std.specs.Option.{option_map_or}
+use Rattle.memory_map.specs.declared.map.Room.TheVariants.{Large}
 use Rattle.graph_core.specs.Graphs.{Instruction, Move, Name, Operand, End, Block, Graph}
 use Rattle.graph_core.specs.Bounds.{most_blocks, most_names}
 use Rattle.graph_core.specs.Paths.{writes, is_bound}
@@ -11,7 +12,7 @@ use Rattle.graph_solve.specs.GraphFlow.{AreTargetsWithin}
 -- A graph's names can have homes: there are not too many names and blocks, and its blocks lead to blocks of it.
 pub record MayHaveHomes (g : Graph) : Type 0 where
   pub names : g.name_count ≤ most_names
-  pub blocks : length g.blocks ≤ most_blocks
+  pub blocks : length g.blocks ≤ most_blocks Large
   pub within : AreTargetsWithin g
 
 -- the instruction does not copy the one name to the other

@@ -5,12 +5,13 @@ use Rattle.std.specs.Option.{option_map_or}
 use Rattle.std.proofs.lemmas.Bool.{le-leb, eq-eqb, and_from}
 use Rattle.std.proofs.lemmas.List.{length-map}
 use Rattle.debug_records.specs.declared.change.Kind.{Kind}
-use Rattle.debug_records.specs.declared.change.Kind.TheVariants.{Moved, Removed, Reused}
+use Rattle.debug_records.specs.declared.change.Kind.TheVariants.{Moved, Reused}
+use Rattle.debug_records.specs.Change.{is_taken}
 use Rattle.places.specs.declared.flow.Assignment.{Assignment}
 use Rattle.places.specs.declared.flow.FlowStep.{FlowStep}
 use Rattle.places.specs.declared.flow.FlowTable.{FlowTable}
 use Rattle.places.specs.Flow.{assigns}
-use Rattle.places.specs.Path.{IsLeastRoute, IsRoute, Quest}
+use Rattle.places.specs.Path.{IsLeastRoute, IsRoute, Quest, quest_by}
 use Rattle.places.proofs.LeastByPlaces.{route_there}
 use Rattle.c_tree.specs.Programs.{ProgramTree}
 use Rattle.graph_core.specs.Graphs.{Logged}
@@ -84,14 +85,14 @@ module _ (p : ProgramTree) (h : HomedForm) (m : Form) (made : IsMadeOf p h m) (i
 
   -- By a path by the flow of the unit there is one by that of the image, so the path that is printed is one.
   printed_by : (variable change start stop via : ℕ) (writer : Option ℕ) (path : List ℕ) → via_of m change writer ≡ via
-      → IsRoute (record { steps = flow.steps.items; assignments = flow.assignments.items; var = variable; start = start; via = via; stop = stop }) path
+      → IsRoute (quest_by flow variable start via stop) path
       → IsLeastRoute (row_quest m variable change start writer stop) (row_path m variable change start writer stop)
   printed_by variable change start stop via writer path at route =
       let quest : Quest = row_quest m variable change start writer stop in
       let there : IsRoute quest path =
-      subst (λ v. IsRoute (record { steps = map step_of m.flow; assignments = map assignment_of m.assigned; var = variable; start = start; via = v; stop = stop }) path) (sym at)
-      (subst (λ all. IsRoute (record { steps = map step_of m.flow; assignments = all; var = variable; start = start; via = via; stop = stop }) path) (sym same_assignments)
-      (subst (λ ss. IsRoute (record { steps = ss; assignments = flow.assignments.items; var = variable; start = start; via = via; stop = stop }) path) (sym same_steps) route)) in
+      subst (λ v. IsRoute (record { steps = map step_of m.flow; blocked = λ p. assigns (map assignment_of m.assigned) p variable; start = start; via = v; stop = stop }) path) (sym at)
+      (subst (λ all. IsRoute (record { steps = map step_of m.flow; blocked = λ p. assigns all p variable; start = start; via = via; stop = stop }) path) (sym same_assignments)
+      (subst (λ ss. IsRoute (record { steps = ss; blocked = λ p. assigns flow.assignments.items p variable; start = start; via = via; stop = stop }) path) (sym same_steps) route)) in
       let many : length (map step_of m.flow) ≡ length m.flow = length-map m.flow step_of in
       let few = few_steps m image.sizes.whole in
       let found = route_there quest path (steps_in_order m.flow image.flow.ascend) (omega (arith, many, few)) there in
@@ -100,14 +101,14 @@ module _ (p : ProgramTree) (h : HomedForm) (m : Form) (made : IsMadeOf p h m) (i
   assigned_by : (start variable : ℕ) → assigns flow.assignments.items start variable ≡ true → assigns (map assignment_of m.assigned) start variable ≡ true
   assigned_by start variable is = ap (λ all. assigns all start variable) same_assignments ∙ is
 
-  removed : (v stop change start : ℕ) → WasRemoved h made.emits.code.arrangement made.emitted flow v stop change start → IsExplained m stop v Removed change start None
+  removed : (v stop change start : ℕ) → WasRemoved h made.emits.code.arrangement made.emitted flow v stop change start → IsExplained m stop v (λ k. is_taken k ≡ true) change start None
   removed v stop change start was =
       let r = was.removed in
       let logged : numbered m.changes change ≡ Some (change_record r.change) = change_at h.unit.log m.changes change r.change made.changes r.is in
       record {
         logged = change_record r.change;
         change_is = logged;
-        kind_is = r.kind;
+        kind_is = r.taken;
         concerns = r.of;
         assigned = assigned_by start v was.assigned;
         path = printed_by v change start stop start None was.path.path (ap (λ o. via_by o) logged ∙ r.at) was.path.route;
@@ -116,7 +117,7 @@ module _ (p : ProgramTree) (h : HomedForm) (m : Form) (made : IsMadeOf p h m) (i
       via_by : Option Change → ℕ
       via_by o = option_map_or (λ (c : Change). c.place) o 0
 
-  written : (kind : Kind) (v stop change start address : ℕ) → WasWritten h made.emits.code.arrangement made.emitted flow kind v stop change start address → IsExplained m stop v kind change start (Some address)
+  written : (kind : Kind) (v stop change start address : ℕ) → WasWritten h made.emits.code.arrangement made.emitted flow kind v stop change start address → IsExplained m stop v (λ k. k ≡ kind) change start (Some address)
   written kind v stop change start address was =
       let l = was.logged in
       let w = was.word in

@@ -1,7 +1,7 @@
 -- Units that are as they were built, in slots: they are well marked, their slots show all variables, and their tables keep every rule of images.
-use Rattle.std.proofs.Common.{◌≡◌, ◌≢◌, ℕ, ◌^◌, ◌+◌, ◌<◌, ◌≤◌, ◌++◌, List, [], ◌∷◌, length, map, refl, sym, ap, ◌∙◌, subst, arith}
+use Rattle.std.proofs.Common.{◌≡◌, ◌≢◌, ℕ, ◌^◌, ◌+◌, ◌<◌, ◌≤◌, ◌++◌, false, List, [], ◌∷◌, length, map, refl, sym, ap, ◌∙◌, subst, arith}
 use Rattle.std.specs.List.{AllByRecursion}
-use Rattle.debug_records.specs.declared.change.Kind.TheVariants.{Removed}
+use Rattle.debug_records.specs.Change.{is_taken}
 use Rattle.places.specs.declared.table.PlaceTable.{PlaceTable}
 use Rattle.c_tree.specs.Programs.{ProgramTree}
 use Rattle.c_type_laws.specs.Laws.{IsWellFormed}
@@ -89,7 +89,7 @@ plain_of p u h built same changes slots =
 
 -- ---- What is shown
 
-nothing_removed : (log : List Logged) → log ≡ [] → (change : Logged) → Among change log → change.kind ≢ Removed
+nothing_removed : (log : List Logged) → log ≡ [] → (change : Logged) → Among change log → is_taken change.kind ≡ false
 nothing_removed [] is change among = elim among [ ]
 nothing_removed (c ∷ log) is change among = cc
 

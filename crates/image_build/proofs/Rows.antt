@@ -1,10 +1,10 @@
--- Where each variable is said to be shown by its home, that is borne out by a well marked unit of which no assignment was removed, with a slot of its own for each name.
-use Rattle.std.proofs.Common.{◌≡◌, ◌≢◌, ℕ, zero, suc, ◌+◌, ◌≤◌, ◌<◌, inl, inr, Some, List, [], ◌∷◌, length, map, slice_get, refl, sym, ap, ◌∙◌, subst, arith}
+-- Where each variable is said to be shown by its home, that is borne out by a well marked unit of which no assignment went, with a slot of its own for each name.
+use Rattle.std.proofs.Common.{◌≡◌, ◌≢◌, ℕ, zero, suc, ◌+◌, ◌≤◌, ◌<◌, inl, inr, true, false, true≢false, Some, List, [], ◌∷◌, length, map, slice_get, refl, sym, ap, ◌∙◌, subst, arith}
 use Rattle.std.specs.Prelude.{option_map}
 use Rattle.std.proofs.Math.Nat.{min-eq_left}
 use Rattle.std.proofs.lemmas.Option.{none-some, slice_get-map}
 use Rattle.debug_records.specs.declared.change.Var as declared-var
-use Rattle.debug_records.specs.declared.change.Kind.TheVariants.{Removed}
+use Rattle.debug_records.specs.Change.{is_taken}
 use Rattle.places.specs.declared.flow.FlowTable.{FlowTable}
 use Rattle.places.specs.declared.table.PlaceRow as declared-place
 use Rattle.c_tree.specs.Programs.{TypedFunctionTree, ProgramTree}
@@ -16,7 +16,7 @@ use Rattle.graph_core.specs.declared.recipe.Recipe as declared-recipe
 use Rattle.graph_core.specs.Graphs.{Graph, Logged, Name, Of}
 use Rattle.graph_core.specs.Paths.{Among, front, behind}
 use Rattle.graph_core.specs.Validity.{IsGraph}
-use Rattle.graph_core.specs.WellMarked.{AreWellMarked, IsVariable, WasRemoved}
+use Rattle.graph_core.specs.WellMarked.{AreWellMarked, IsVariable, WasTaken}
 use Rattle.graph_homes.specs.Homed.{HomedForm, home_of}
 use Rattle.home_assign.specs.Rule.{HaveSlots}
 use Rattle.currency.specs.declared.verdict.Verdict as declared-verdict
@@ -71,9 +71,9 @@ mapped f (y ∷ xs) x (behind a) = behind (mapped f xs x a)
 
 -- ---- What is said is so
 
--- No change of a log removed an assignment.
+-- By no change of a log an assignment went.
 abbrev pub HasNoRemovals : List Logged → Type 0
-HasNoRemovals log = (change : Logged) → Among change log → change.kind ≢ Removed
+HasNoRemovals log = (change : Logged) → Among change log → is_taken change.kind ≡ false
 
 -- the place of a graph's entry
 abbrev pub entry_of_graph : Graph → ℕ
@@ -83,7 +83,7 @@ entry_of_graph g = g.entry
 abbrev pub entry_of_function : ProgramTree → TypedFunctionTree → ℕ
 entry_of_function p f = number_at (places_of_program p) f.spot.at
 
--- A unit with homes is well marked, none of its changes removed an assignment, each of its names has a slot of its own, and its flow and the entries of its graphs are a program's.
+-- A unit with homes is well marked, by none of its changes an assignment went, each of its names has a slot of its own, and its flow and the entries of its graphs are a program's.
 pub record IsPlainUnitOf (p : ProgramTree) (h : HomedForm) : Type 0 where
   pub marked : AreWellMarked h.unit
   pub unremoved : HasNoRemovals h.unit.log
@@ -105,8 +105,8 @@ module _ (p : ProgramTree) (formed : IsWellFormed p) (h : HomedForm) (plain : Is
       rest_same : {a b : ℕ} {xs ys : List ℕ} → a ∷ xs ≡ b ∷ ys → xs ≡ ys
       rest_same e = cc
 
-  kept : (place variable : ℕ) → WasRemoved h.unit.log place variable → ⊥
-  kept place variable w = plain.unremoved w.change w.logged w.removed
+  kept : (place variable : ℕ) → WasTaken h.unit.log place variable → ⊥
+  kept place variable w = true≢false (sym w.taken ∙ plain.unremoved w.change w.logged)
 
   -- A scalar's own value holds on all paths to each place where its variable is known.
   pub known_holds : (f x variable q : ℕ) (g : Graph) → slice_get h.unit.graphs f ≡ Some g → IsVariable g x variable → IsKnown p q variable → HoldsOnAllPaths (home_of h f) g q x (Of (Name x))

@@ -13,7 +13,7 @@ use Rattle.graph_core.specs.Graphs.{Name, Of, NoteValue, Is, Instruction, Marker
 use Rattle.graph_core.specs.Uses.{target_of}
 use Rattle.graph_core.specs.Paths.{Among, front, behind, Passed, History, Path, place_by, place_of, writes, is_marker, notes, is_bound, bound_at, written, owed, owed_by, note_by, last_note}
 use Rattle.graph_core.specs.Validity.{IsBinding, IsGraph}
-use Rattle.graph_core.specs.WellMarked.{IsVariable, IsWellMarked, WasRemoved}
+use Rattle.graph_core.specs.WellMarked.{IsVariable, IsWellMarked, WasTaken}
 use Rattle.graph_core_weights.proofs.Standing.{IsMarked}
 use Rattle.image_build.proofs.Passing.{Before, Kind, IsPlain, marks, noting, plain, Stands, kind_of, path_before, passed_valid, some_same, stands, target_low}
 use Rattle.base_laws.proofs.Booleans.{neither as or_none}
@@ -33,7 +33,7 @@ either false = inr refl
 
 -- ---- A scalar and its slot
 
-module _ (u : UnitForm) (g : Graph) (marked : IsWellMarked u g) (valid : IsGraph u g) (kept : (place variable : ℕ) → WasRemoved u.log place variable → ⊥) (home : ℕ → Home) (slots : (y : ℕ) → y < g.name_count → home y ≡ Slot y)
+module _ (u : UnitForm) (g : Graph) (marked : IsWellMarked u g) (valid : IsGraph u g) (kept : (place variable : ℕ) → WasTaken u.log place variable → ⊥) (home : ℕ → Home) (slots : (y : ℕ) → y < g.name_count → home y ≡ Slot y)
     (x variable : ℕ) (is : IsVariable g x variable) where
   low : x < g.name_count
   low = by_scalar (slice_get g.scalars x) refl is

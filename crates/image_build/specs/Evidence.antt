@@ -2,7 +2,7 @@
 use Rattle.std.specs.Prelude.{◌≡◌, ◌≢◌, ℕ, ◌<◌, ◌≤◌, true, Some, None, List, slice_get, slice_index}
 use Rattle.places.specs.declared.flow.FlowTable.{FlowTable}
 use Rattle.places.specs.Flow.{assigns}
-use Rattle.places.specs.Path.{IsRoute}
+use Rattle.places.specs.Path.{IsRoute, quest_by}
 use Rattle.debug_records.specs.declared.change.Kind.{Kind}
 use Rattle.debug_records.specs.declared.change.Kind.TheVariants.{Moved, Reused}
 use Rattle.graph_core.specs.Graphs.{Graph}
@@ -22,7 +22,7 @@ use Rattle.image_form.specs.declared.verdicts.VisibleRow.{VisibleRow}
 -- There is a path by the flow from a start by way of a place to a stop, on which no place between its ends assigns the variable.
 pub record HasPath (flow : FlowTable) (variable start via stop : ℕ) : Type 0 where
   pub path : List ℕ
-  pub route : IsRoute (record { steps = flow.steps.items; assignments = flow.assignments.items; var = variable; start = start; via = via; stop = stop }) path
+  pub route : IsRoute (quest_by flow variable start via stop) path
 
 -- given: a unit with homes, its code, and where the parts of that stand
 module _ (h : HomedForm) (a : Arrangement) (e : EmittedForm) where
@@ -47,7 +47,7 @@ module _ (h : HomedForm) (a : Arrangement) (e : EmittedForm) where
 
   -- given: the flow of its program
   module _ (flow : FlowTable) where
-    -- EVIDENCE THAT AN ASSIGNMENT WAS REMOVED: a change removed it in the place where the path begins, which assigns the variable, and no word of this place writes the variable's home.
+    -- EVIDENCE THAT AN ASSIGNMENT WENT: by a change it went from the place where the path begins, which assigns the variable, and no word of this place writes the variable's home.
     pub record WasRemoved (variable stop change start : ℕ) : Type 0 where
       pub scalar : IsScalar variable
       pub removed : IsRemoval h.unit.log change variable start

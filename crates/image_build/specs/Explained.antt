@@ -1,7 +1,8 @@
 -- Why a row of an image shows nothing, in words of the image alone.
 use Rattle.std.specs.Prelude.{◌≡◌, ℕ, true, Option, Some, None, map}
 use Rattle.debug_records.specs.declared.change.Kind.{Kind}
-use Rattle.debug_records.specs.declared.change.Kind.TheVariants.{Removed, Moved, Reused}
+use Rattle.debug_records.specs.declared.change.Kind.TheVariants.{Moved, Reused}
+use Rattle.debug_records.specs.Change.{is_taken}
 use Rattle.places.specs.Flow.{assigns}
 use Rattle.places.specs.Path.{IsLeastRoute}
 use Rattle.graph_core.specs.Paths.{Among}
@@ -12,24 +13,24 @@ use Rattle.image_form.specs.declared.verdicts.Verdict.TheVariants as verdict
 use Rattle.image_form.specs.declared.verdicts.VisibleRow.{VisibleRow}
 use Rattle.stop_engine_view.specs.Evidence.{assignment_of, row_path, row_quest}
 
--- WHAT HIDES A VARIABLE IS EXPLAINED by the image: the change that is named stands in its table, is of this kind and concerns the variable; the place at which the path begins assigns the variable; and the path that is printed leads
+-- WHAT HIDES A VARIABLE IS EXPLAINED by the image: the change that is named stands in its table, is of such a kind and concerns the variable; the place at which the path begins assigns the variable; and the path that is printed leads
 -- from there by the flow, by way of the place of the change or of the word that wrote, to the stop, with no assignment of the variable between its ends, and is the least that does. So a path is printed, and it is one.
-pub record IsExplained (m : Form) (stop variable : ℕ) (kind : Kind) (change start : ℕ) (writer : Option ℕ) : Type 0 where
+pub record IsExplained (m : Form) (stop variable : ℕ) (IsOfKind : Kind → Type 0) (change start : ℕ) (writer : Option ℕ) : Type 0 where
   pub logged : Change
   pub change_is : numbered m.changes change ≡ Some logged
-  pub kind_is : logged.kind ≡ kind
+  pub kind_is : IsOfKind logged.kind
   pub concerns : logged.variable ≡ variable
   pub assigned : assigns (map assignment_of m.assigned) start variable ≡ true
   pub path : IsLeastRoute (row_quest m variable change start writer stop) (row_path m variable change start writer stop)
 
--- What a verdict says to hide a variable is explained: an assignment of it was removed, a computation of its value was moved and something wrote its home, or its register was another name's.
+-- What a verdict says to hide a variable is explained: an assignment of it went, a computation of its value was moved and something wrote its home, or its register was another name's.
 abbrev pub IsExplainedBy : Form → (stop variable : ℕ) → Verdict → Type 0
 IsExplainedBy m p v verdict.Home = Unit {0}
 IsExplainedBy m p v (verdict.Recovered change node) = Unit {0}
-IsExplainedBy m p v (verdict.Noncurrent change start None) = IsExplained m p v Removed change start None
-IsExplainedBy m p v (verdict.Noncurrent change start (Some address)) = IsExplained m p v Moved change start (Some address)
+IsExplainedBy m p v (verdict.Noncurrent change start None) = IsExplained m p v (λ k. is_taken k ≡ true) change start None
+IsExplainedBy m p v (verdict.Noncurrent change start (Some address)) = IsExplained m p v (λ k. k ≡ Moved) change start (Some address)
 IsExplainedBy m p v (verdict.Nonresident change start None) = ⊥
-IsExplainedBy m p v (verdict.Nonresident change start (Some address)) = IsExplained m p v Reused change start (Some address)
+IsExplainedBy m p v (verdict.Nonresident change start (Some address)) = IsExplained m p v (λ k. k ≡ Reused) change start (Some address)
 
 -- Whatever the rows of an image say to hide variables is explained by it.
 abbrev pub ExplainsAll : Form → Type 0

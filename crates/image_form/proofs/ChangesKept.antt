@@ -1,5 +1,5 @@
 -- Changes and pairs keep their rules where their rows keep their tests.
-use Rattle.std.proofs.Common.{◌≡◌, ℕ, zero, suc, ◌<◌, true, length, Some, refl, arith}
+use Rattle.std.proofs.Common.{◌≡◌, ◌≢◌, ℕ, zero, suc, ◌<◌, Bool, true, false, true≢false, length, Some, refl, sym, ap, ◌∙◌, arith}
 use Rattle.std.specs.Prelude.{slice_get, nat_le}
 use Rattle.std.specs.List.{AllByRecursion}
 use Rattle.std.proofs.lemmas.Bool.Decides.{nat_tests}
@@ -9,24 +9,41 @@ use Rattle.image_form.specs.declared.tables.AssignedPair.{AssignedPair}
 use Rattle.image_form.specs.declared.tables.Change.{Change}
 use Rattle.image_form.specs.declared.tables.FlowPair.{FlowPair}
 use Rattle.debug_records.specs.declared.change.Kind.{Kind}
-use Rattle.debug_records.specs.declared.change.Kind.TheVariants.{Removed, Moved, Reused, Replaced}
+use Rattle.debug_records.specs.declared.change.Kind.TheVariants.{Removed, Moved, Reused, Replaced, Sunk}
 use Rattle.image_form.specs.Decoding.{sections_of}
 use Rattle.image_form.specs.Form.{Form}
 use Rattle.image_form.specs.Numbers.{place_numbers, variable_numbers, kind_number, change_numbers, flow_numbers, assigned_numbers}
 use Rattle.image_form.specs.RulesOfChanges.{IsChange, IsPairBefore, FlowRules, AssignedRules}
 use Rattle.image_form.specs.RulesOfFunctions.{IsPlaceNumber}
-use Rattle.image_form_sections.specs.TestsOfChanges.{change_tests, flow_tests, assigned_tests}
+use Rattle.image_form_sections.specs.TestsOfChanges.{change_tests, is_kind, flow_tests, assigned_tests}
 use Rattle.image_form_sections.specs.TestsOfTables.{is_place, is_not_below, is_pair_above}
 use Rattle.image_form.proofs.Kept.{AllTrue, row_is, next_from, next_at, before_at, at_each}
+use Rattle.image_form_sections.specs.Versions.{has_quiet}
+use Rattle.image_form_sections.specs.declared.version.Version.{Version}
+use Rattle.image_form.proofs.VersionLaws.{version_back}
 use Rattle.image_form.proofs.TableLaws.{each_at, each_from}
 
-kind_small : (k : Kind) → nat_le (kind_number k) 3 ≡ true
-kind_small Removed = refl
-kind_small Moved = refl
-kind_small Reused = refl
-kind_small Replaced = refl
+some_true : (b : Bool) → (b ≡ false → ⊥) → b ≡ true
+some_true true none = refl
+some_true false none = absurd (none refl)
 
 module _ (f : Form) where
+  kind_complete : (k : Kind) → (has_quiet f.version.level ≡ false → k ≢ Sunk) → is_kind (sections_of f) (kind_number k) ≡ true
+  unfolding is_kind
+  kind_complete Removed none = refl
+  kind_complete Moved none = refl
+  kind_complete Reused none = refl
+  kind_complete Replaced none = refl
+  kind_complete Sunk none = ap (λ (v : Version). has_quiet v.level) (version_back f.version) ∙ some_true (has_quiet f.version.level) (λ plain. none plain refl)
+
+  kind_sound : (k : Kind) → is_kind (sections_of f) (kind_number k) ≡ true → has_quiet f.version.level ≡ false → k ≢ Sunk
+  unfolding is_kind
+  kind_sound Removed kept plain = λ e. absurd cc
+  kind_sound Moved kept plain = λ e. absurd cc
+  kind_sound Reused kept plain = λ e. absurd cc
+  kind_sound Replaced kept plain = λ e. absurd cc
+  kind_sound Sunk kept plain = absurd (true≢false (sym kept ∙ ap (λ (v : Version). has_quiet v.level) (version_back f.version) ∙ plain))
+
   abbrev pub ChangesKept : Type 0
   ChangesKept = (i : ℕ) → i < length f.changes → AllTrue (change_tests (sections_of f) i)
 
@@ -39,6 +56,7 @@ module _ (f : Form) where
         short_name = grind (arith, nat_tests, k.0);
         at_place = grind (arith, nat_tests, k.1.1.0);
         of_variable = grind (arith, nat_tests, k.1.1.1.0);
+        none_sunk = kind_sound c.kind k.1.0;
       }
 
   pub changes_sound : ChangesKept → AllByRecursion (IsChange f) f.changes
@@ -49,7 +67,7 @@ module _ (f : Form) where
   change_complete i c at is =
       rw (row_is change_numbers f.changes i c at, length-map f.places place_numbers, length-map f.variables variable_numbers) (
         grind (arith, nat_tests, is.named, is.short_name),
-        (kind_small c.kind, (grind (arith, nat_tests, is.at_place), (grind (arith, nat_tests, is.of_variable), (refl, tt)))),
+        (kind_complete c.kind is.none_sunk, (grind (arith, nat_tests, is.at_place), (grind (arith, nat_tests, is.of_variable), (refl, tt)))),
       )
 
   pub changes_complete : AllByRecursion (IsChange f) f.changes → ChangesKept

@@ -13,7 +13,7 @@ use Rattle.word_base.specs.declared.operation.Truncation.{Truncation}
 use Rattle.word_base.specs.declared.operation.Truncation.TheVariants.{Unsigned8, Signed16, Unsigned16, Signed8}
 use Rattle.image_form.specs.declared.tables.Change.{Change}
 use Rattle.debug_records.specs.declared.change.Kind.{Kind}
-use Rattle.debug_records.specs.declared.change.Kind.TheVariants.{Removed, Moved, Reused, Replaced}
+use Rattle.debug_records.specs.declared.change.Kind.TheVariants.{Removed, Moved, Reused, Replaced, Sunk}
 use Rattle.image_form.specs.declared.variables.ElementType.{ElementType}
 use Rattle.image_form.specs.declared.variables.ElementType.TheVariants.{U8, I8, U16, I16, U32, I32, Pointer}
 use Rattle.image_form.specs.declared.variables.Storage.{Storage}
@@ -68,6 +68,7 @@ kind_back Removed = refl
 kind_back Moved = refl
 kind_back Reused = refl
 kind_back Replaced = refl
+kind_back Sunk = refl
 
 pub change_back : (c : Change) → change_of (change_numbers c) ≡ c
 change_back c = ap (λ (k : Kind). let r : Change = record c { kind = k } in r) (kind_back c.kind)

@@ -1,5 +1,5 @@
 -- Visible rows keep their rules where their numbers keep their tests.
-use Rattle.std.proofs.Common.{◌≡◌, ◌≢◌, ℕ, zero, suc, ◌-◌, ◌<◌, Bool, true, false, ◌&&◌, List, [], ◌∷◌, length, get_or, Option, Some, None, refl, ap, arith}
+use Rattle.std.proofs.Common.{◌≡◌, ◌≢◌, ℕ, zero, suc, ◌-◌, ◌<◌, Bool, true, false, ◌&&◌, List, [], ◌∷◌, length, get_or, Option, Some, None, true≢false, refl, sym, ap, arith}
 use Rattle.std.specs.Prelude.{map, slice_get, unwrap_or, ◌==◌, ◌||◌, nat_le, nat_lt, if◌then◌else◌}
 use Rattle.std.specs.List.{AllByRecursion}
 use Rattle.std.proofs.lemmas.Bool.{eq-eqb, ne_eqb, eqb-true, and_parts, and_from}
@@ -8,7 +8,7 @@ use Rattle.std.proofs.lemmas.List.{length-map}
 use Rattle.std.proofs.lemmas.Option.{slice_get_within, slice_get-get_or}
 use Rattle.image_form.specs.declared.tables.Change.{Change}
 use Rattle.debug_records.specs.declared.change.Kind.{Kind}
-use Rattle.debug_records.specs.declared.change.Kind.TheVariants.{Removed, Moved, Reused, Replaced}
+use Rattle.debug_records.specs.declared.change.Kind.TheVariants.{Removed, Moved, Reused, Replaced, Sunk}
 use Rattle.image_form.specs.declared.tables.Place.{Place}
 use Rattle.image_form.specs.declared.variables.ElementType.TheVariants.{U8}
 use Rattle.image_form.specs.declared.variables.Storage.TheVariants.{Static}
@@ -25,7 +25,7 @@ use Rattle.image_form.specs.RulesOfPlaces.{IsPlace, PlaceRules}
 use Rattle.image_form.specs.RulesOfRows.{IsVisible, IsWriter, IsVerdict, IsQuietStart, RowRules}
 use Rattle.image_form_sections.specs.Versions.{has_quiet}
 use Rattle.image_form_sections.specs.Sections.{cell}
-use Rattle.image_form_sections.specs.TestsOfChanges.{is_visible, is_change, is_node_or_start, is_writer, is_quiet_start, row_tests}
+use Rattle.image_form_sections.specs.TestsOfChanges.{is_visible, is_change, is_node_or_start, is_taking, is_writer, is_quiet_start, row_tests}
 use Rattle.image_form_sections.specs.TestsOfTables.{within, is_place, is_not_below, is_pair_above, is_code_address}
 use Rattle.image_form.proofs.Kept.{AllTrue, row_is, next_from, next_at, before_at, at_each}
 use Rattle.image_form.proofs.RecordsBack.{some_and, number_there}
@@ -127,26 +127,30 @@ module _ (f : Form) where
   place_complete n is = rw (length-map f.places place_numbers) (grind (arith, nat_tests, is))
 
   -- The writer of a change.
-  writer_sound : (kind : Kind) (writer : Option ℕ) → writer ≢ Some 0 → (if kind_number kind == 0 then unwrap_or writer 0 == 0 else is_code_address (sections_of f) (unwrap_or writer 0)) ≡ true → IsWriter f kind writer
+  writer_sound : (kind : Kind) (writer : Option ℕ) → writer ≢ Some 0 → (if is_taking (kind_number kind) then unwrap_or writer 0 == 0 else is_code_address (sections_of f) (unwrap_or writer 0)) ≡ true → IsWriter f kind writer
   unfolding code_start
   writer_sound Removed None told kept = refl
   writer_sound Removed (Some a) told kept = absurd (told (ap Some (eqb-true a 0 kept)))
   writer_sound Moved None told kept = absurd (let a = code_sound 0 kept in omega (arith, a.1))
-  writer_sound Moved (Some a) told kept = ((λ e. absurd cc), code_sound a kept)
+  writer_sound Moved (Some a) told kept = (refl, code_sound a kept)
   writer_sound Reused None told kept = absurd (let a = code_sound 0 kept in omega (arith, a.1))
-  writer_sound Reused (Some a) told kept = ((λ e. absurd cc), code_sound a kept)
+  writer_sound Reused (Some a) told kept = (refl, code_sound a kept)
   writer_sound Replaced None told kept = absurd (let a = code_sound 0 kept in omega (arith, a.1))
-  writer_sound Replaced (Some a) told kept = ((λ e. absurd cc), code_sound a kept)
+  writer_sound Replaced (Some a) told kept = (refl, code_sound a kept)
+  writer_sound Sunk None told kept = refl
+  writer_sound Sunk (Some a) told kept = absurd (told (ap Some (eqb-true a 0 kept)))
 
-  writer_complete : (kind : Kind) (writer : Option ℕ) → IsWriter f kind writer → (if kind_number kind == 0 then unwrap_or writer 0 == 0 else is_code_address (sections_of f) (unwrap_or writer 0)) ≡ true
+  writer_complete : (kind : Kind) (writer : Option ℕ) → IsWriter f kind writer → (if is_taking (kind_number kind) then unwrap_or writer 0 == 0 else is_code_address (sections_of f) (unwrap_or writer 0)) ≡ true
   writer_complete Removed None is = refl
-  writer_complete Removed (Some a) is = absurd (is.0 refl)
-  writer_complete Moved None is = absurd cc
+  writer_complete Removed (Some a) is = absurd (true≢false is.0)
+  writer_complete Moved None is = absurd (true≢false (sym is))
   writer_complete Moved (Some a) is = code_complete a is.1
-  writer_complete Reused None is = absurd cc
+  writer_complete Reused None is = absurd (true≢false (sym is))
   writer_complete Reused (Some a) is = code_complete a is.1
-  writer_complete Replaced None is = absurd cc
+  writer_complete Replaced None is = absurd (true≢false (sym is))
   writer_complete Replaced (Some a) is = code_complete a is.1
+  writer_complete Sunk None is = refl
+  writer_complete Sunk (Some a) is = absurd (true≢false is.0)
 
   -- What a verdict may name.
   verdict_sound : (i place variable : ℕ) (v : Verdict) (more : List ℕ) → get_or (map (row_numbers f.version.level) f.rows) i [] ≡ place ∷ variable ∷ verdict_then v more → TellsWriter v

@@ -1,13 +1,13 @@
 -- Rows that keep their tests are what their records' numbers say.
 use Rattle.std.proofs.Common.{◌≡◌, ◌≢◌, ℕ, zero, suc, ◌+◌, ◌-◌, ◌*◌, ◌/◌, ◌<◌, ◌≤◌, Bool, true, false, List, [], ◌∷◌, length, get_or, drop, Some, None, refl, sym, ◌∙◌, arith, subst, inl, inr}
-use Rattle.std.specs.Prelude.{map, slice_get, unwrap_or, ◌==◌, nat_lt, if◌then◌else◌}
+use Rattle.std.specs.Prelude.{map, slice_get, unwrap_or, ◌==◌, ◌&&◌, ◌||◌, nat_le, nat_lt, if◌then◌else◌}
 use Rattle.std.proofs.lemmas.Bool.{eq-eqb, true≢false, eqb-true, leb-true, and_parts, cases_Bool}
 use Rattle.std.proofs.lemmas.Bool.Decides.{nat_tests}
 use Rattle.std.proofs.lemmas.Option.{slice_get_within, get_or_from_slice_get, same_Some}
 use Rattle.image_form.specs.Decoding.{mode_of, owner_of, element_of, storage_of, variable_of, kind_of, change_of, writer_of, quiet_of, function_of, row_of, operation_of, truncation_of, node_of}
 use Rattle.image_form.specs.Numbers.{mode_number, no_function, element_number, storage_number, storage_value, variable_numbers, kind_number, change_numbers, function_numbers, row_numbers, operation_number, truncation_number, node_numbers}
 use Rattle.image_form_sections.specs.Sections.{number_at, numbers_at, rows_at, cell, Sections}
-use Rattle.image_form_sections.specs.TestsOfChanges.{change_tests, row_tests, is_change, is_node_or_start, is_writer}
+use Rattle.image_form_sections.specs.TestsOfChanges.{change_tests, row_tests, is_change, is_kind, is_node_or_start, is_writer}
 use Rattle.image_form_sections.specs.TestsOfNodes.{node_tests, is_right, is_operand, is_new_node}
 use Rattle.image_form_sections.specs.TestsOfTables.{within}
 use Rattle.image_form_sections.specs.TestsOfVariables.{variable_tests, is_storage}
@@ -15,7 +15,7 @@ use Rattle.image_form_sections.specs.declared.section.Section.TheVariants.{Funct
 use Rattle.image_form_sections.specs.declared.version.Level.{Level}
 use Rattle.image_form_sections.specs.declared.version.Level.TheVariants.{Plain, Quiet, Callers}
 use Rattle.image_form_sections.specs.Order.{record_size}
-use Rattle.image_form_sections.specs.Versions.{has_quiet, has_callers}
+use Rattle.image_form_sections.specs.Versions.{has_quiet, has_callers, level_of}
 use Rattle.image_form.proofs.Kept.{AllTrue}
 
 -- A row is some numbers of the bytes.
@@ -106,12 +106,22 @@ storage_told (suc (suc zero)) value le = (refl, refl)
 storage_told (suc (suc (suc zero))) value le = (refl, refl)
 storage_told (suc (suc (suc (suc n)))) value le = absurd (omega (arith, le))
 
-kind_told : (n : ℕ) → n ≤ 3 → kind_number (kind_of n) ≡ n
+kind_told : (n : ℕ) → n ≤ 4 → kind_number (kind_of n) ≡ n
 kind_told zero le = refl
 kind_told (suc zero) le = refl
 kind_told (suc (suc zero)) le = refl
 kind_told (suc (suc (suc zero))) le = refl
-kind_told (suc (suc (suc (suc n)))) le = absurd (omega (arith, le))
+kind_told (suc (suc (suc (suc zero)))) le = refl
+kind_told (suc (suc (suc (suc (suc n))))) le = absurd (omega (arith, le))
+
+-- The numbers of kinds are 0 to 4.
+kind_few : (s : Sections) (n : ℕ) → is_kind s n ≡ true → n ≤ 4
+unfolding is_kind
+kind_few s n is = by (nat_le n 3) refl is
+  where
+    by : (low : Bool) → nat_le n 3 ≡ low → (low || n == 4 && has_quiet (level_of s.version)) ≡ true → n ≤ 4
+    by true low is = let small = leb-true n 3 low in omega (arith, small)
+    by false low is = let four = eqb-true n 4 (and_parts (n == 4) (has_quiet (level_of s.version)) is).0 in omega (arith, four)
 
 operation_told : (n : ℕ) → n ≤ 14 → operation_number (operation_of (n + 3)) ≡ n + 3
 operation_told zero le = refl
@@ -167,7 +177,7 @@ module _ (s : Sections) where
   change_told : (i : ℕ) (b : List ℕ) → get_or s.changes i [] ≡ numbers_at 5 0 b → AllTrue (change_tests s i) → change_numbers (change_of (numbers_at 5 0 b)) ≡ numbers_at 5 0 b
   change_told i b row kept =
       let k = rw row at kept in
-      let kind = leb-true (number_at b 4) 3 k.1.0 in
+      let kind = kind_few s (number_at b 4) k.1.0 in
       let zero_is = eqb-true (number_at b 16) 0 k.1.1.1.1.0 in
       rw (kind_told (number_at b 4) kind, zero_is) refl
 

@@ -54,11 +54,18 @@ number_small Two Callers = omega arith
 pub version_small : (v : Version) → version_number v ≤ 6
 version_small v = number_small v.map v.level
 
+few_no_calls : (n : ℕ) → n ≤ 4 → has_callers (level_of n) ≡ false
+few_no_calls zero low = refl
+few_no_calls (suc zero) low = refl
+few_no_calls (suc (suc zero)) low = refl
+few_no_calls (suc (suc (suc zero))) low = refl
+few_no_calls (suc (suc (suc (suc zero)))) low = refl
+few_no_calls (suc (suc (suc (suc (suc n))))) low = absurd (omega (arith, low))
+
 -- No version that is read has rows of calls: with the first that has, what a row must be takes the place of this law.
 pub read_no_calls : (n : ℕ) → is_read n ≡ true → has_callers (level_of n) ≡ false
 unfolding is_read greatest_version
-read_no_calls zero read = absurd cc
-read_no_calls (suc zero) read = refl
-read_no_calls (suc (suc n)) read =
-    let last = leb-true (suc (suc n)) greatest_version (and_parts (nat_le 1 (suc (suc n))) (nat_le (suc (suc n)) greatest_version) read).1 in
-    absurd (omega (arith, last))
+read_no_calls n read =
+    let parts = and_parts (nat_le 1 n) (nat_le n greatest_version) read in
+    let last = leb-true n greatest_version parts.1 in
+    few_no_calls n (omega (arith, last))

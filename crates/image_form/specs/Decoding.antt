@@ -13,7 +13,7 @@ use Rattle.image_form.specs.declared.tables.Change.{Change}
 use Rattle.image_form.specs.declared.tables.FlowPair.{FlowPair}
 use Rattle.image_form.specs.declared.tables.Function.{Function}
 use Rattle.debug_records.specs.declared.change.Kind.{Kind}
-use Rattle.debug_records.specs.declared.change.Kind.TheVariants.{Removed, Moved, Reused, Replaced}
+use Rattle.debug_records.specs.declared.change.Kind.TheVariants.{Removed, Moved, Reused, Replaced, Sunk}
 use Rattle.image_form.specs.declared.tables.Place.{Place}
 use Rattle.image_form.specs.declared.variables.ElementType.{ElementType}
 use Rattle.image_form.specs.declared.variables.ElementType.TheVariants.{U8, I8, U16, I16, U32, I32, Pointer}
@@ -79,7 +79,7 @@ variable_of ns = record {
 
 -- The kind of a change, of its number.
 abbrev pub kind_of : ℕ → Kind
-kind_of n = slice_index_or (Removed ∷ Moved ∷ Reused ∷ []) n Replaced
+kind_of n = slice_index_or (Removed ∷ Moved ∷ Reused ∷ Replaced ∷ []) n Sunk
 
 -- The change of five numbers.
 abbrev pub change_of : List ℕ → Change

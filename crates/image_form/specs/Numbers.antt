@@ -13,7 +13,7 @@ use Rattle.image_form.specs.declared.tables.Change.{Change}
 use Rattle.image_form.specs.declared.tables.FlowPair.{FlowPair}
 use Rattle.image_form.specs.declared.tables.Function.{Function}
 use Rattle.debug_records.specs.declared.change.Kind.{Kind}
-use Rattle.debug_records.specs.declared.change.Kind.TheVariants.{Removed, Moved, Reused, Replaced}
+use Rattle.debug_records.specs.declared.change.Kind.TheVariants.{Removed, Moved, Reused, Replaced, Sunk}
 use Rattle.image_form.specs.declared.tables.Place.{Place}
 use Rattle.image_form.specs.declared.variables.ElementType.{ElementType}
 use Rattle.image_form.specs.declared.variables.ElementType.TheVariants.{U8, I8, U16, I16, U32, I32, Pointer}
@@ -82,6 +82,7 @@ kind_number Removed = 0
 kind_number Moved = 1
 kind_number Reused = 2
 kind_number Replaced = 3
+kind_number Sunk = 4
 
 -- The numbers of a change.
 abbrev pub change_numbers : Change → List ℕ

@@ -1,16 +1,20 @@
 -- The rules of changes and of the tables of flow and assignments.
-use Rattle.std.specs.Prelude.{◌≡◌, ℕ, ◌<◌, ◌≤◌, ◌⊎◌, length}
+use Rattle.std.specs.Prelude.{◌≡◌, ◌≢◌, ℕ, ◌<◌, ◌≤◌, ◌⊎◌, false, length}
 use Rattle.std.specs.List.{AllByRecursion}
+use Rattle.debug_records.specs.declared.change.Kind.TheVariants.{Sunk}
 use Rattle.image_form.specs.declared.tables.Change.{Change}
 use Rattle.image_form.specs.Form.{Form}
 use Rattle.image_form.specs.Lists.{EachToNext}
 use Rattle.image_form.specs.RulesOfFunctions.{IsPlaceNumber}
+use Rattle.image_form_sections.specs.Versions.{has_quiet}
 
 pub record IsChange (f : Form) (c : Change) : Type 0 where
   pub named : 1 ≤ c.pass_length
   pub short_name : c.pass_length ≤ 16
   pub at_place : IsPlaceNumber f c.place
   pub of_variable : c.variable < length f.variables
+  -- that an assignment sank is said in versions with quiet paths alone
+  pub none_sunk : has_quiet f.version.level ≡ false → c.kind ≢ Sunk
 
 -- The pair (a, b) comes before the pair (c, d): by the first number, then by the second.
 abbrev pub IsPairBefore : ℕ → ℕ → ℕ → ℕ → Type 0

@@ -1,8 +1,8 @@
 -- The rules of visible rows.
-use Rattle.std.specs.Prelude.{◌≡◌, ◌≢◌, ℕ, ◌<◌, false, Option, Some, None, slice_get, IsSomeAnd, length, ⊤}
+use Rattle.std.specs.Prelude.{◌≡◌, ℕ, ◌<◌, true, false, Option, Some, None, slice_get, IsSomeAnd, length, ⊤}
 use Rattle.std.specs.List.{AllByRecursion}
 use Rattle.debug_records.specs.declared.change.Kind.{Kind}
-use Rattle.debug_records.specs.declared.change.Kind.TheVariants.{Removed}
+use Rattle.debug_records.specs.Change.{is_taken}
 use Rattle.image_form.specs.declared.verdicts.Verdict.{Verdict}
 use Rattle.image_form.specs.declared.verdicts.Verdict.TheVariants.{Home, Recovered, Noncurrent, Nonresident}
 use Rattle.image_form.specs.Form.{Form, numbered}
@@ -16,10 +16,10 @@ abbrev pub IsVisible : Form → ℕ → ℕ → Type 0
 IsVisible f place variable =
     IsSomeAnd (numbered f.places place) (λ p. IsSomeAnd (slice_get f.variables variable) (λ v. v.function ≡ Some p.function))
 
--- The writer of a change of this kind: none where an assignment was removed, else the address of a code word.
+-- The writer of a change of this kind: none where an assignment went, else the address of a code word.
 abbrev pub IsWriter : Form → Kind → Option ℕ → Type 0
-IsWriter f kind None = kind ≡ Removed
-IsWriter f kind (Some address) = (kind ≢ Removed) × IsCodeAddress f address
+IsWriter f kind None = is_taken kind ≡ true
+IsWriter f kind (Some address) = (is_taken kind ≡ false) × IsCodeAddress f address
 
 -- A change of the variable, a start place, and a writer that fits the change.
 abbrev pub IsEvidence : Form → ℕ → ℕ → ℕ → Option ℕ → Type 0

@@ -444,6 +444,7 @@ fn kind_number(kind: Kind) -> u32
         Kind::Moved => 1,
         Kind::Reused => 2,
         Kind::Replaced => 3,
+        Kind::Sunk => 4,
     }
 }
 
@@ -533,7 +534,8 @@ fn kind_of(number: u32) -> Kind
         0 => Kind::Removed,
         1 => Kind::Moved,
         2 => Kind::Reused,
-        _ => Kind::Replaced,
+        3 => Kind::Replaced,
+        _ => Kind::Sunk,
     }
 }
 

@@ -1,12 +1,21 @@
 -- The tests of changes, of the pairs of flow and assignments, and of visible rows.
 use Rattle.std.specs.Prelude.{ℕ, ◌-◌, Bool, ◌&&◌, ◌||◌, ◌==◌, nat_lt, nat_le, if◌then◌else◌, List, [], ◌∷◌, length}
 use Rattle.image_form_sections.specs.Sections.{Sections, cell}
+use Rattle.image_form_sections.specs.Versions.{has_quiet, level_of}
 use Rattle.image_form_sections.specs.TestsOfTables.{within, is_not_below, is_pair_above, is_place, is_code_address}
+
+-- The number is that of a kind. That an assignment sank is said in versions with quiet paths alone.
+unfoldable pub is_kind : Sections → ℕ → Bool
+is_kind s n = nat_le n 3 || n == 4 && has_quiet (level_of s.version)
+
+-- By a change of the kind of this number an assignment went from its place: it was removed, or it sank.
+abbrev pub is_taking : ℕ → Bool
+is_taking n = n == 0 || n == 4
 
 -- The pass name's length, the kind, the place, the variable and the zero of the i-th change.
 abbrev pub change_tests : Sections → ℕ → List Bool
 change_tests s i =
-    within 1 16 (cell s.changes i 0) ∷ nat_le (cell s.changes i 1) 3 ∷ is_place s (cell s.changes i 2)
+    within 1 16 (cell s.changes i 0) ∷ is_kind s (cell s.changes i 1) ∷ is_place s (cell s.changes i 2)
     ∷ nat_lt (cell s.changes i 3) (length s.variables) ∷ (cell s.changes i 4 == 0) ∷ []
 
 -- The two places of the i-th flow pair.
@@ -42,7 +51,7 @@ is_node_or_start s i =
 unfoldable pub is_writer : Sections → ℕ → Bool
 is_writer s i =
     if nat_lt (cell s.rows i 2) 2 then cell s.rows i 5 == 0
-    else (if cell s.changes (cell s.rows i 3 - 1) 1 == 0 then cell s.rows i 5 == 0 else is_code_address s (cell s.rows i 5))
+    else (if is_taking (cell s.changes (cell s.rows i 3 - 1) 1) then cell s.rows i 5 == 0 else is_code_address s (cell s.rows i 5))
 
 -- The place at which a quiet path begins: 0 where there is none, and where a value is shown.
 unfoldable pub is_quiet_start : Sections → ℕ → Bool

@@ -2,10 +2,11 @@
 
 ghost use Rattle.std.specs.Prelude.{◌≡◌, ⊤};
 ghost use Rattle.image_form_sections.specs.Layouts.{rows_in, sections_in};
-ghost use Rattle.image_form_sections.specs.TestsOfChanges.{assigned_tests, change_tests, flow_tests, is_change, is_node_or_start, is_quiet_start, is_visible, is_writer, row_tests};
+ghost use Rattle.image_form_sections.specs.TestsOfChanges.{assigned_tests, change_tests, flow_tests, is_change, is_kind, is_node_or_start, is_quiet_start, is_taking, is_visible, is_writer, row_tests};
 
 use crate::layout::Layout;
 use crate::rule::{Rule, is_code_address, is_not_below, is_pair_above, is_place};
+use crate::version::level_of;
 
 /// The rule of changes.
 #[derive(Clone, Copy)]
@@ -23,7 +24,7 @@ impl Rule for ChangeRule<'_, '_> {
         let length = changes.number(row, 0);
         if length < 1 || length > 16 {
             Some(0)
-        } else if changes.number(row, 1) > 3 {
+        } else if !is_kind(self.layout, changes.number(row, 1)) {
             Some(1)
         } else if !is_place(self.layout, changes.number(row, 2)) {
             Some(2)
@@ -35,6 +36,21 @@ impl Rule for ChangeRule<'_, '_> {
             None
         }
     }
+}
+
+/// Whether a number is that of a kind of the image's version.
+#[tactic(auto, unfolding(crate::specs::TestsOfChanges::is_kind))]
+fn is_kind(layout: &Layout<'_>, number: u32) -> bool
+    ensures { result ≡ is_kind (sections_in layout.now) number }
+{
+    number <= 3 || (number == 4 && level_of(layout.version).has_quiet())
+}
+
+/// Whether an assignment went by changes of the kind of a number.
+fn is_taking(number: u32) -> bool
+    ensures { result ≡ is_taking number }
+{
+    number == 0 || number == 4
 }
 
 /// The rule of flow pairs.
@@ -165,7 +181,7 @@ fn is_writer(layout: &Layout<'_>, row: usize) -> bool
     let writer = layout.rows.number(row, 5);
     if layout.rows.number(row, 2) < 2 {
         writer == 0
-    } else if layout.changes.number(change.saturating_sub(1), 1) == 0 {
+    } else if is_taking(layout.changes.number(change.saturating_sub(1), 1)) {
         writer == 0
     } else {
         is_code_address(layout, writer)

@@ -237,7 +237,7 @@ module _ (h : HomedForm) (valid : IsValid h.unit) (e : EmittedForm) (emitted : I
       by_laid : LaidAt h emitted.statics all 0 f g → BeginsWith g.entry l.sequence.pieces
       by_laid laid =
           let same : laid.laid ≡ l = same_Some laid.laid l (sym laid.there ∙ at) in
-          let blocks : length g.blocks ≤ 12000 = blocks_few h.unit valid f g is in
+          let blocks : length g.blocks ≤ 120000 = blocks_few h.unit valid f g is in
           let ground = ground_for emitted.statics g (homes_in h (0 + f)) laid.laid in
           let sequence : IsSequenceOf ground g (0 + f == h.unit.main) laid.laid.sequence = laid.is.sequence (omega (arith, blocks)) in
           subst (λ (x : LaidForm). BeginsWith g.entry x.sequence.pieces) same

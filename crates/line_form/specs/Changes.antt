@@ -1,7 +1,7 @@
 -- How changes are shown, and the values that they hide or that are recovered.
 use Rattle.std.specs.Prelude.{ℕ, List, [], ◌∷◌, ◌++◌, codes}
 use Rattle.debug_records.specs.declared.change.Kind.{Kind}
-use Rattle.debug_records.specs.declared.change.Kind.TheVariants.{Removed, Moved, Reused, Replaced}
+use Rattle.debug_records.specs.declared.change.Kind.TheVariants.{Removed, Moved, Reused, Replaced, Sunk}
 use Rattle.line_form.specs.Decimal.{decimal}
 use Rattle.line_form.specs.Lines.{spaced, value_line}
 
@@ -11,6 +11,7 @@ kind_word Removed = codes "removed"
 kind_word Moved = codes "moved"
 kind_word Reused = codes "reused"
 kind_word Replaced = codes "replaced"
+kind_word Sunk = codes "sunk"
 
 -- NUMBER PASS KIND PLACE, of a change
 unfoldable pub change_text : (number : ℕ) → (pass : List ℕ) → Kind → (place : ℕ) → List ℕ

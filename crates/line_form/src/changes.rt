@@ -17,6 +17,7 @@ fn kind_word(kind: Kind) -> &'static str
         Kind::Moved => "moved",
         Kind::Reused => "reused",
         Kind::Replaced => "replaced",
+        Kind::Sunk => "sunk",
     }
 }
 

@@ -27,6 +27,8 @@ pub enum Status {
     ImageRefused(Code, usize),
     /// The text of this name is longer than its limit.
     TooLong(String),
+    /// The transcript breaks the rule of the code, on this line, counted from 1, or the image breaks it, with line 0.
+    AuditFailed(Code, u32),
 }
 
 impl Status {
@@ -44,6 +46,7 @@ impl Status {
             Status::NoMemory => 7,
             Status::ImageRefused(_, _) => 8,
             Status::TooLong(_) => 9,
+            Status::AuditFailed(_, _) => 10,
         }
     }
 }
@@ -68,5 +71,6 @@ pub fn fault_text(alloc: Global, status: &Status) -> Result<String, AllocError>
             format!(in alloc; "cdbg: image refused {code} offset {offset}")
         }
         Status::TooLong(name) => format!(in alloc; "cdbg: too long {name}"),
+        Status::AuditFailed(rule, line) => format!(in alloc; "cdbg: audit no {rule} line {line}"),
     }
 }

@@ -4,6 +4,8 @@ use Rattle.std.specs.Prelude.{slice_get}
 use Rattle.std.specs.List.{AllByRecursion}
 use Rattle.std.proofs.lemmas.List.{append-nil, drop_all}
 use Rattle.std.proofs.lemmas.Option.{none-some, same_Some}
+use Rattle.memory_map.specs.declared.map.Room.{Room}
+use Rattle.graph_core.proofs.Rooms.{instructions_in, blocks_in}
 use Rattle.graph_core.specs.Graphs.{Block, Graph, UnitForm}
 use Rattle.graph_core.specs.Paths.{Among, front, behind}
 use Rattle.graph_core.specs.Validity.{IsBlock, IsGraph, IsKept, IsValid, place_at_end, total}
@@ -29,27 +31,28 @@ one_of_total count [] n x at = absurd (none-some x at)
 one_of_total count (y ∷ xs) zero x at = (let same = ap count (same_Some y x at) in omega (arith, same))
 one_of_total count (y ∷ xs) (suc n) x at = (let rest = one_of_total count xs n x at in omega (arith, rest))
 
-module _ (gs : List Graph) where
+module _ (room : Room) (gs : List Graph) where
   -- What became of the first functions; with what becomes of the others behind it, it is what becomes of all.
   pub data IsAhead (k : ℕ) (hs : List Graph) : Type 0 where
-    goes_on : ((later : List Graph) → BecomeIn hs (drop k gs) later → BecomeIn [] gs (hs ++ later)) → IsAhead k hs
+    goes_on : ((later : List Graph) → BecomeIn room hs (drop k gs) later → BecomeIn room [] gs (hs ++ later)) → IsAhead k hs
 
   pub ahead_none : IsAhead 0 []
   ahead_none = goes_on (λ later are. are)
 
-  pub ahead_one : (k : ℕ) (g h : Graph) (hs longer : List Graph) → slice_get gs k ≡ Some g → BecomesIn hs g (drop (k + 1) gs) h → longer ≡ hs ++ h ∷ [] → IsAhead k hs → IsAhead (k + 1) longer
+  pub ahead_one : (k : ℕ) (g h : Graph) (hs longer : List Graph) → slice_get gs k ≡ Some g → BecomesIn room hs g (drop (k + 1) gs) h → longer ≡ hs ++ h ∷ [] → IsAhead k hs → IsAhead (k + 1) longer
   ahead_one k g h hs longer at becomes grown (goes_on go) =
       goes_on (λ later rest.
-      (let P : List Graph → Type 0 = λ l. BecomeIn [] gs l in
+      (let P : List Graph → Type 0 = λ l. BecomeIn room [] gs l in
       let parts : longer ++ later ≡ hs ++ h ∷ later = ap (λ l. l ++ later) grown ∙ append_assoc hs (h ∷ []) later in
-      let far : BecomeIn (hs ++ h ∷ []) (drop (k + 1) gs) later = subst (λ b. BecomeIn b (drop (k + 1) gs) later) grown rest in
-      subst P (sym parts) (go (h ∷ later) (subst (λ xs. BecomeIn hs xs (h ∷ later)) (sym (drop_at gs k g at)) (one_function becomes far)))))
+      let far : BecomeIn room (hs ++ h ∷ []) (drop (k + 1) gs) later = subst (λ b. BecomeIn room b (drop (k + 1) gs) later) grown rest in
+      subst P (sym parts) (go (h ∷ later) (subst (λ xs. BecomeIn room hs xs (h ∷ later)) (sym (drop_at gs k g at)) (one_function becomes far)))))
 
-  pub ahead_all : (k : ℕ) (hs : List Graph) → length gs ≤ k → IsAhead k hs → BecomeIn [] gs hs
+  pub ahead_all : (k : ℕ) (hs : List Graph) → length gs ≤ k → IsAhead k hs → BecomeIn room [] gs hs
   ahead_all k hs le (goes_on go) =
-      let P : List Graph → Type 0 = λ l. BecomeIn [] gs l in
-      subst P (append-nil hs) (go [] (subst (λ xs. BecomeIn hs xs []) (sym (drop_all k gs le)) no_function))
+      let P : List Graph → Type 0 = λ l. BecomeIn room [] gs l in
+      subst P (append-nil hs) (go [] (subst (λ xs. BecomeIn room hs xs []) (sym (drop_all k gs le)) no_function))
 
+module _ (gs : List Graph) where
   module _ (k : ℕ) (g : Graph) (at : slice_get gs k ≡ Some g) where
     -- how much there is, at a function
     pub amount_at : (a : Amount) (hs : List Graph) → IsAmount a (hs ++ drop k gs) → IsAmount a (hs ++ g ∷ drop (k + 1) gs)
@@ -83,13 +86,13 @@ module _ (IsCase : (before after : Graph) → Case → Type 0) (gs hs longer : L
 keeps_itself : (g : Graph) → KeepsFunction g g
 keeps_itself g = record { entry = refl; parameters = refl; scalars = refl; objects = refl; first_moved = refl }
 
-becomes_keeps : {before behind : List Graph} {g h : Graph} → BecomesIn before g behind h → KeepsFunction g h
+becomes_keeps : {room : Room} {before behind : List Graph} {g h : Graph} → BecomesIn room before g behind h → KeepsFunction g h
 becomes_keeps (moves once moved within) = moved.keeps
 becomes_keeps {g} (passes_a_bound once moved beyond) = keeps_itself g
 becomes_keeps {g} (is_entered_again again) = keeps_itself g
 
 -- each function keeps what it has
-pub each_keeps : {before gs hs : List Graph} → BecomeIn before gs hs → EachFunction KeepsFunction gs hs
+pub each_keeps : {room : Room} {before gs hs : List Graph} → BecomeIn room before gs hs → EachFunction KeepsFunction gs hs
 each_keeps no_function = tt
 each_keeps (one_function becomes more) = (becomes_keeps becomes, each_keeps more)
 
@@ -109,8 +112,8 @@ kept_there place (Some c) kept = (c, refl)
 -- the graphs of a valid unit
 pub bounded : (u : UnitForm) → IsValid u → AreBounded u.graphs
 bounded u valid = record {
-  instructions = valid.instructions;
-  blocks = valid.blocks;
+  instructions = (let few = valid.instructions in omega (arith, few, instructions_in u.room));
+  blocks = (let few = valid.blocks in omega (arith, few, blocks_in u.room));
   inside = λ n g at m b here l among.
       (let graph = all_at (IsGraph u) u.graphs n g at valid.graphs in
       let block = all_at (IsBlock u g) g.blocks m b here graph.blocks in

@@ -99,7 +99,7 @@ module _ (u : UnitForm) (hs : List Graph) (log : List Logged) (graphs : Pairs (I
   graph_valid g h s v = subst (IsGraph (with_graphs u hs log)) (sym s.rest) (grown_valid g h.name_count h.blocks (subst (IsGrown May g) s.rest s) v)
 
   -- A unit with such graphs, and with a log that is no shorter, is valid, if its graphs together have no more instructions and blocks than a unit may.
-  pub graphs_replaced : total instructions_of hs ≤ most_instructions → total (λ (g : Graph). length g.blocks) hs ≤ most_blocks → IsValid u → IsValid (with_graphs u hs log)
+  pub graphs_replaced : total instructions_of hs ≤ most_instructions u.room → total (λ (g : Graph). length g.blocks) hs ≤ most_blocks u.room → IsValid u → IsValid (with_graphs u hs log)
   graphs_replaced few_instructions few_blocks v = record {
     functions = omega (arith, v.functions, as_many (IsGrown May) u.graphs hs graphs);
     main = keep_parameters u.main 0 v.main;

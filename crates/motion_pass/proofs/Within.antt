@@ -1,5 +1,7 @@
 -- How much there is with one graph in place of another.
 use Rattle.std.proofs.Common.{◌≡◌, ℕ, ◌+◌, ◌-◌, ◌^◌, ◌<◌, ◌≤◌, ◌++◌, ◌∷◌, List, length, min, arith}
+use Rattle.memory_map.specs.declared.map.Room.{Room}
+use Rattle.graph_core.proofs.Rooms.{instructions_in, blocks_in}
 use Rattle.graph_core.specs.Bounds.{most_names, most_instructions_of_function, most_instructions, most_blocks}
 use Rattle.graph_core.specs.Graphs.{Graph}
 use Rattle.graph_core.specs.Validity.{instructions_of, total}
@@ -26,18 +28,18 @@ module _ (a : Amount) (before behind : List Graph) (g h : Graph) (is : IsAmount 
       omega (arith, old, new, all, few, now_is)
 
 -- what is within bounds, and how much there is then
-module _ (h : Graph) (all : List Graph) (own instructions blocks : ℕ) (own_is : own ≡ min (instructions_of h) (2 ^ 64 - 1)) (instructions_is : instructions ≡ min (total instructions_of all) (2 ^ 64 - 1)) (blocks_is : blocks ≡ min (total (λ (f : Graph). length f.blocks) all) (2 ^ 64 - 1)) where
-  pub is_within : h.name_count ≤ most_names → own ≤ most_instructions_of_function → instructions ≤ most_instructions → blocks ≤ most_blocks → IsWithin h all
-  is_within names few many most = record { names = names; own = omega (arith, own_is, few); instructions = omega (arith, instructions_is, many); blocks = omega (arith, blocks_is, most) }
+module _ (room : Room) (h : Graph) (all : List Graph) (own instructions blocks : ℕ) (own_is : own ≡ min (instructions_of h) (2 ^ 64 - 1)) (instructions_is : instructions ≡ min (total instructions_of all) (2 ^ 64 - 1)) (blocks_is : blocks ≡ min (total (λ (f : Graph). length f.blocks) all) (2 ^ 64 - 1)) where
+  pub is_within : h.name_count ≤ most_names → own ≤ most_instructions_of_function → instructions ≤ most_instructions room → blocks ≤ most_blocks room → IsWithin room h all
+  is_within names few many most = record { names = names; own = omega (arith, own_is, few); instructions = omega (arith, instructions_is, many, instructions_in room); blocks = omega (arith, blocks_is, most, blocks_in room) }
 
-  pub is_amount : instructions ≤ most_instructions → blocks ≤ most_blocks → IsAmount (record { instructions = instructions; blocks = blocks }) all
-  is_amount many most = record { instructions = omega (arith, instructions_is, many); blocks = omega (arith, blocks_is, most) }
+  pub is_amount : instructions ≤ most_instructions room → blocks ≤ most_blocks room → IsAmount (record { instructions = instructions; blocks = blocks }) all
+  is_amount many most = record { instructions = omega (arith, instructions_is, many, instructions_in room); blocks = omega (arith, blocks_is, most, blocks_in room) }
 
-  pub own_beyond : most_instructions_of_function < own → IsWithin h all → ⊥
+  pub own_beyond : most_instructions_of_function < own → IsWithin room h all → ⊥
   own_beyond over w = (let few = w.own in omega (arith, own_is, few, over))
 
-  pub instructions_beyond : most_instructions < instructions → IsWithin h all → ⊥
+  pub instructions_beyond : most_instructions room < instructions → IsWithin room h all → ⊥
   instructions_beyond over w = (let few = w.instructions in omega (arith, instructions_is, few, over))
 
-  pub blocks_beyond : most_blocks < blocks → IsWithin h all → ⊥
+  pub blocks_beyond : most_blocks room < blocks → IsWithin room h all → ⊥
   blocks_beyond over w = (let few = w.blocks in omega (arith, blocks_is, few, over))

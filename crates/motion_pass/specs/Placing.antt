@@ -1,6 +1,7 @@
 -- What is made of a graph whose computations are placed, piece by piece.
 use Rattle.std.specs.Prelude.{◌≡◌, ℕ, ◌+◌, ◌≤◌, Option, Some, None, List, [], ◌∷◌, ◌++◌, length, map, option_map, slice_get}
 use Rattle.debug_records.specs.declared.change.Place as declared-place
+use Rattle.memory_map.specs.declared.map.Room.TheVariants.{Large}
 use Rattle.graph_core.specs.declared.name.Name as declared-name
 use Rattle.graph_core.specs.Bounds.{most_blocks}
 use Rattle.graph_core.specs.Graphs.{Instruction, End, Block, Graph, block_view, graph_view}
@@ -47,7 +48,7 @@ treated_in m = treated_by m.placement.now
 -- What is moved is a graph whose computations are placed so, that has no more blocks than a valid unit, and whose edges lead to them.
 pub record IsMoving (m : Moving) : Type 0 where
   pub are : IsPlaced (graph_of m) m.placement.now
-  pub few : length (blocks_of m) ≤ most_blocks
+  pub few : length (blocks_of m) ≤ most_blocks Large
   pub inside : LeadInside (blocks_of m)
 
 -- behind others stands what is done at a point, and what becomes of an instruction

@@ -7,7 +7,7 @@ ghost use Rattle.graph_core.specs.Validity.{counts, instructions_of, total};
 ghost use Rattle.motion_pass_placement.specs.Moves.{IsWithin};
 
 use graph_core::{
-    Block, Graph, Instr, MAX_BLOCKS, MAX_FUNCTION_INSTRUCTIONS, MAX_INSTRUCTIONS, MAX_NAMES,
+    Block, Graph, Instr, MAX_FUNCTION_INSTRUCTIONS, MAX_NAMES, Room, max_blocks, max_instructions,
 };
 
 /// How much graphs have of what is bounded.
@@ -103,11 +103,11 @@ impl Amount {
         }
     }
 
-    /// How much there is with a graph in place of another, if that is within the bounds of a unit, and the graph within those of a function.
-    pub fn replaced(self, graph: &Graph, moved: &Graph) -> Option<Amount>
-        ensures within { (before behind : List spec.Graph) → IsAmount self (before ++ graph_view graph.now ∷ behind) → IfSome result (λ a. IsWithin (graph_view moved.now) (before ++ graph_view moved.now ∷ behind)) }
+    /// How much there is with a graph in place of another, if that is within the bounds of a unit of this room, and the graph within those of a function.
+    pub fn replaced(self, room: Room, graph: &Graph, moved: &Graph) -> Option<Amount>
+        ensures within { (before behind : List spec.Graph) → IsAmount self (before ++ graph_view graph.now ∷ behind) → IfSome result (λ a. IsWithin room (graph_view moved.now) (before ++ graph_view moved.now ∷ behind)) }
         ensures amount { (before behind : List spec.Graph) → IsAmount self (before ++ graph_view graph.now ∷ behind) → IfSome result (λ a. IsAmount a (before ++ graph_view moved.now ∷ behind)) }
-        ensures beyond { (before behind : List spec.Graph) → IsAmount self (before ++ graph_view graph.now ∷ behind) → result ≡ None → IsWithin (graph_view moved.now) (before ++ graph_view moved.now ∷ behind) → ⊥ }
+        ensures beyond { (before behind : List spec.Graph) → IsAmount self (before ++ graph_view graph.now ∷ behind) → result ≡ None → IsWithin room (graph_view moved.now) (before ++ graph_view moved.now ∷ behind) → ⊥ }
     {
         let own = counted_of(moved);
         let all = self.with(graph, moved);
@@ -117,10 +117,10 @@ impl Amount {
         if own > MAX_FUNCTION_INSTRUCTIONS {
             return None;
         }
-        if all.instructions > MAX_INSTRUCTIONS {
+        if all.instructions > max_instructions(room) {
             return None;
         }
-        if all.blocks > MAX_BLOCKS {
+        if all.blocks > max_blocks(room) {
             return None;
         }
         Some(all)

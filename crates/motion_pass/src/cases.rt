@@ -1,7 +1,8 @@
 //! The assignments that read temporaries, as cases of a log.
 
-ghost use Rattle.std.specs.Prelude.{◌≡◌, ◌↔◌, ◌<◌, ◌≤◌, IfOk, Some, length, map, option_map, slice_get, true};
+ghost use Rattle.std.specs.Prelude.{◌≡◌, ◌↔◌, ◌<◌, ◌≤◌, OnOk, Some, length, map, option_map, slice_get, true};
 ghost use Rattle.debug_records.specs.declared.change.Var as declared-var;
+ghost use Rattle.memory_map.specs.declared.map.Room.TheVariants.{Large};
 ghost use Rattle.graph_core.specs.declared.name.Name as declared-name;
 ghost use Rattle.graph_core.specs.Bounds.{most_blocks};
 ghost use Rattle.graph_core.specs.Computations.{Computation};
@@ -51,51 +52,48 @@ fn variable_of(scalars: &[Scalar], name: Name) -> Option<Var>
     }
 }
 
-/// Appends the case of what a point writes, if it reads a temporary and writes a scalar. False where its number is too large.
+/// Appends the case of what a point writes, if it reads a temporary and writes a scalar.
 fn add_case(
     scalars: &[Scalar],
     point: &Point,
     target: Option<Name>,
     cases: &mut Vec<Case>,
-) -> Result<bool, AllocError>
-    ensures { IfOk result (λ whole. whole ≡ true → Adds (IsReadingAt (map scalar_view scalars.now) point.now.reads (placed point.now.place) point.now.block point.now.index (option_map (λ (n : declared-name.Name). n.0) target)) cases.old.items cases.new.items) }
+) -> Result<(), AllocError>
+    ensures { OnOk result (Adds (IsReadingAt (map scalar_view scalars.now) point.now.reads (placed point.now.place) point.now.block point.now.index (option_map (λ (n : declared-name.Name). n.0) target)) cases.old.items cases.new.items) }
 {
     if !point.reads {
-        return Ok(true);
+        return Ok(());
     }
     let Some(name) = target else {
-        return Ok(true);
+        return Ok(());
     };
     let Some(place) = point.place else {
-        return Ok(true);
+        return Ok(());
     };
     let Some(var) = variable_of(scalars, name) else {
-        return Ok(true);
+        return Ok(());
     };
-    if point.index > 0xffff_ffff {
-        return Ok(false);
-    }
     cases.push(Case {
         place,
-        block: point.block,
-        index: point.index as u32,
+        block: point.block as usize,
+        index: point.index,
         operand: 0,
         var,
     })?;
-    Ok(true)
+    Ok(())
 }
 
-/// Appends the cases of a block. False where their numbers are too large.
+/// Appends the cases of a block.
 fn add_block(
     graph: &Graph,
     placement: &Placement,
     number: u32,
     block: &Block,
     cases: &mut Vec<Case>,
-) -> Result<bool, AllocError>
+) -> Result<(), AllocError>
     requires are { IsPlaced (graph_view graph.now) placement.now }
     requires at { slice_get (graph_view graph.now).blocks number ≡ Some (block_view block.now) }
-    ensures { IfOk result (λ whole. whole ≡ true → Adds (IsReadingIn (graph_view graph.now).scalars (graph_view graph.now).blocks number (block_view block.now)) cases.old.items cases.new.items) }
+    ensures { OnOk result (Adds (IsReadingIn (graph_view graph.now).scalars (graph_view graph.now).blocks number (block_view block.now)) cases.old.items cases.new.items) }
 {
     let mut place = block.place;
     for index in 0..block.instructions.len() {
@@ -106,30 +104,25 @@ fn add_block(
             index,
             reads: reads_at(placement, number, index),
         };
-        if !add_case(&graph.scalars, &point, instruction.target(), cases)? {
-            return Ok(false);
-        }
+        add_case(&graph.scalars, &point, instruction.target(), cases)?;
         place = instruction.marker().or(place);
     }
-    Ok(true)
+    Ok(())
 }
 
-/// Appends the cases of a function: the assignments of scalars that read temporaries, as its computations are placed. They come block by block. False where an instruction has a number
-/// of 2^32 or more.
+/// Appends the cases of a function: the assignments of scalars that read temporaries, as its computations are placed. They come block by block.
 pub fn add_moved(
     graph: &Graph,
     placement: &Placement,
     cases: &mut Vec<Case>,
-) -> Result<bool, AllocError>
+) -> Result<(), AllocError>
     requires are { IsPlaced (graph_view graph.now) placement.now }
-    requires few { length (graph_view graph.now).blocks ≤ most_blocks }
-    ensures { IfOk result (λ whole. whole ≡ true → Adds (IsReadingAssignment (graph_view graph.now)) cases.old.items cases.new.items) }
+    requires few { length (graph_view graph.now).blocks ≤ most_blocks Large }
+    ensures { OnOk result (Adds (IsReadingAssignment (graph_view graph.now)) cases.old.items cases.new.items) }
 {
     for number in 0..graph.blocks.len() {
         let block = &graph.blocks[number];
-        if !add_block(graph, placement, number as u32, block, cases)? {
-            return Ok(false);
-        }
+        add_block(graph, placement, number as u32, block, cases)?;
     }
-    Ok(true)
+    Ok(())
 }

@@ -1,6 +1,7 @@
 //! The graph of a function with its computations moved.
 
 ghost use Rattle.std.specs.Prelude.{◌≡◌, ◌+◌, ◌<◌, ◌≤◌, ◌^◌, ◌++◌, ℕ, IfOk, ◌∷◌, [], OnOk, Some, length, map, slice_get};
+ghost use Rattle.memory_map.specs.declared.map.Room.TheVariants.{Large};
 ghost use Rattle.graph_core.specs.Graphs as spec;
 ghost use Rattle.graph_core.specs.Graphs.{block_view, end_view, graph_view, instruction_view};
 ghost use Rattle.graph_core.specs.Bounds.{most_blocks};
@@ -202,7 +203,7 @@ impl Moving<'_> {
 /// The graph of a function with its computations placed so.
 pub fn moved_graph(alloc: Global, graph: &Graph, placement: &Placement) -> Result<Graph, AllocError>
     requires are { IsPlaced (graph_view graph.now) placement.now }
-    requires few { length (graph_view graph.now).blocks ≤ most_blocks }
+    requires few { length (graph_view graph.now).blocks ≤ most_blocks Large }
     requires inside { LeadInside (graph_view graph.now).blocks }
     ensures { IfOk result (λ made. IsMoved (graph_view graph.now) (graph_view made)) }
 {

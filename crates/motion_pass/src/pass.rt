@@ -2,6 +2,7 @@
 
 ghost use Rattle.std.specs.Prelude.{◌≡◌, ◌<◌, ◌≤◌, ◌^◌, ◌++◌, IfOk, IfSome, List, [], ◌∷◌, codes, length, map};
 ghost use Rattle.debug_records.specs.Change.{pass_name};
+ghost use Rattle.memory_map.specs.declared.map.Room.TheVariants.{Large};
 ghost use Rattle.graph_core.specs.Bounds.{most_blocks};
 ghost use Rattle.graph_core.specs.Graphs as spec;
 ghost use Rattle.graph_core.specs.Graphs.{graph_view, unit_view};
@@ -18,7 +19,7 @@ use crate::bounds::Amount;
 use crate::cases::add_moved;
 use crate::moving::moved_graph;
 use debug_records::{Kind, PassName};
-use graph_core::{Graph, Unit};
+use graph_core::{Graph, Room, Unit};
 use motion_pass_placement::{Motion, Placement, place};
 use pass_law::{Case, log_cases};
 use std::alloc::{AllocError, Global};
@@ -36,6 +37,7 @@ fn motion_name() -> PassName
 /// The graph with its computations placed so, or an equal one where the unit would not stay within bounds. How much the unit has is kept.
 fn moved_within(
     alloc: Global,
+    room: Room,
     graph: &Graph,
     placement: &Placement,
     amount: &mut Amount,
@@ -43,20 +45,18 @@ fn moved_within(
 ) -> Result<Option<Graph>, AllocError>
     requires are { IsPlaced (graph_view graph.now) placement.now }
     requires once { IsEnteredAgain (graph_view graph.now).blocks → ⊥ }
-    requires few { length (graph_view graph.now).blocks ≤ most_blocks }
+    requires few { length (graph_view graph.now).blocks ≤ most_blocks Large }
     requires inside { LeadInside (graph_view graph.now).blocks }
-    ensures becomes { IfOk result (λ o. IfSome o (λ h. (before behind : List spec.Graph) → IsAmount amount.old (before ++ graph_view graph.now ∷ behind) → BecomesIn before (graph_view graph.now) behind (graph_view h))) }
+    ensures becomes { IfOk result (λ o. IfSome o (λ h. (before behind : List spec.Graph) → IsAmount amount.old (before ++ graph_view graph.now ∷ behind) → BecomesIn room before (graph_view graph.now) behind (graph_view h))) }
     ensures amount { IfOk result (λ o. IfSome o (λ h. (before behind : List spec.Graph) → IsAmount amount.old (before ++ graph_view graph.now ∷ behind) → IsAmount amount.new (before ++ graph_view h ∷ behind))) }
     ensures cases { IfOk result (λ o. IfSome o (λ h. Adds (IsMovedAssignment (graph_view graph.now) (graph_view h)) cases.old.items cases.new.items)) }
 {
     let moved = moved_graph(alloc, graph, placement)?;
-    let Some(after) = amount.replaced(graph, &moved) else {
+    let Some(after) = amount.replaced(room, graph, &moved) else {
         let same = graph.duplicate(alloc)?;
         return Ok(Some(same));
     };
-    if !add_moved(graph, placement, cases)? {
-        return Ok(None);
-    }
+    add_moved(graph, placement, cases)?;
     *amount = after;
     Ok(Some(moved))
 }
@@ -64,13 +64,14 @@ fn moved_within(
 /// The graph with its computations moved, or an equal one where the unit would not stay within bounds or the first block is entered again. None where the search for a placement failed.
 fn graph_after(
     alloc: Global,
+    room: Room,
     graph: &Graph,
     amount: &mut Amount,
     cases: &mut Vec<Case>,
 ) -> Result<Option<Graph>, AllocError>
-    requires few { length (graph_view graph.now).blocks ≤ most_blocks }
+    requires few { length (graph_view graph.now).blocks ≤ most_blocks Large }
     requires inside { LeadInside (graph_view graph.now).blocks }
-    ensures becomes { IfOk result (λ o. IfSome o (λ h. (before behind : List spec.Graph) → IsAmount amount.old (before ++ graph_view graph.now ∷ behind) → BecomesIn before (graph_view graph.now) behind (graph_view h))) }
+    ensures becomes { IfOk result (λ o. IfSome o (λ h. (before behind : List spec.Graph) → IsAmount amount.old (before ++ graph_view graph.now ∷ behind) → BecomesIn room before (graph_view graph.now) behind (graph_view h))) }
     ensures amount { IfOk result (λ o. IfSome o (λ h. (before behind : List spec.Graph) → IsAmount amount.old (before ++ graph_view graph.now ∷ behind) → IsAmount amount.new (before ++ graph_view h ∷ behind))) }
     ensures cases { IfOk result (λ o. IfSome o (λ h. Adds (IsMovedAssignment (graph_view graph.now) (graph_view h)) cases.old.items cases.new.items)) }
 {
@@ -83,7 +84,7 @@ fn graph_after(
             Ok(Some(same))
         }
         Motion::Placed(placement) => {
-            let made = moved_within(alloc, graph, &placement, amount, cases)?;
+            let made = moved_within(alloc, room, graph, &placement, amount, cases)?;
             Ok(made)
         }
     }
@@ -92,19 +93,20 @@ fn graph_after(
 /// The graphs with their computations moved, one after the other. None where one could not be placed, or its numbers are too large.
 fn move_graphs(
     alloc: Global,
+    room: Room,
     graphs: &[Graph],
     cases: &mut Vec<Case>,
 ) -> Result<Option<Vec<Graph>>, AllocError>
     requires bounded { AreBounded (map graph_view graphs.now) }
     requires none { cases.old.items ≡ [] }
-    ensures moved { IfOk result (λ o. IfSome o (λ v. AreAllMoved (map graph_view graphs.now) (map graph_view v.items))) }
+    ensures moved { IfOk result (λ o. IfSome o (λ v. AreAllMoved room (map graph_view graphs.now) (map graph_view v.items))) }
     ensures cases { IfOk result (λ o. IfSome o (λ v. AreCasesOf IsMovedAssignment (map graph_view graphs.now) (map graph_view v.items) cases.new.items)) }
 {
     let mut amount = Amount::of(graphs);
     let mut moved = Vec::new(alloc);
     for number in 0..graphs.len() {
         let graph = &graphs[number];
-        let Some(next) = graph_after(alloc, graph, &mut amount, cases)? else {
+        let Some(next) = graph_after(alloc, room, graph, &mut amount, cases)? else {
             return Ok(None);
         };
         moved.push(next)?;
@@ -125,10 +127,10 @@ pub fn move_code(alloc: Global, unit: &Unit) -> Result<Option<Unit>, AllocError>
     ensures log { IfOk result (λ o. IfSome o (λ v. AddsChanges (pass_name (codes "motion")) Moved (unit_view unit.now) (unit_view v))) }
     ensures changes { IfOk result (λ o. IfSome o (λ v. AddsChangesOf (pass_name (codes "motion")) Moved IsMovedAssignment (unit_view unit.now) (unit_view v))) }
     ensures functions { IfOk result (λ o. IfSome o (λ v. EachFunction KeepsFunction (unit_view unit.now).graphs (unit_view v).graphs)) }
-    ensures moved { IfOk result (λ o. IfSome o (λ v. AreAllMoved (unit_view unit.now).graphs (unit_view v).graphs)) }
+    ensures moved { IfOk result (λ o. IfSome o (λ v. AreAllMoved (unit_view unit.now).room (unit_view unit.now).graphs (unit_view v).graphs)) }
 {
     let mut cases = Vec::new(alloc);
-    let Some(graphs) = move_graphs(alloc, &unit.graphs, &mut cases)? else {
+    let Some(graphs) = move_graphs(alloc, unit.room, &unit.graphs, &mut cases)? else {
         return Ok(None);
     };
     let mut moved = unit.duplicate(alloc)?;

@@ -102,46 +102,45 @@ fn is_among(to: u32, labels: &[Label]) -> bool
 }
 
 /// Whether the end of a block leads to another.
-fn leads_to(alloc: Global, graph: &Graph, from: u32, to: u32) -> Result<bool, AllocError>
-    ensures { IfOk result (λ leads. IsTrue leads ↔ LeadsTo (graph_view graph.now).blocks from to) }
+fn leads_to(graph: &Graph, from: u32, to: u32) -> bool
+    ensures { IsTrue result ↔ LeadsTo (graph_view graph.now).blocks from to }
 {
     let Some(block) = graph.blocks.get(from as usize) else {
-        return Ok(false);
+        return false;
     };
-    let targets = block.end.targets(alloc)?;
-    Ok(is_among(to, &targets))
+    is_among(to, block.end.targets().as_slice())
 }
 
 /// Whether the block at an index of a list is one that execution may enter there: the first block of the graph at the beginning, and a target of the one before behind it.
-fn is_entered(alloc: Global, graph: &Graph, path: &[u32], index: usize) -> Result<bool, AllocError>
+fn is_entered(graph: &Graph, path: &[u32], index: usize) -> bool
     requires { index < length path.now }
-    ensures { IfOk result (λ is. IsTrue is ↔ IsEntered (graph_view graph.now).blocks path.now index) }
+    ensures { IsTrue result ↔ IsEntered (graph_view graph.now).blocks path.now index }
 {
     let number = path[index];
     if number as usize >= graph.blocks.len() {
-        return Ok(false);
+        return false;
     }
     if index == 0 {
-        return Ok(number == 0);
+        return number == 0;
     }
-    leads_to(alloc, graph, path[index - 1], number)
+    leads_to(graph, path[index - 1], number)
 }
 
 /// Whether a list of blocks is a path from the entry.
-fn is_path(alloc: Global, graph: &Graph, path: &[u32]) -> Result<bool, AllocError>
-    ensures { IfOk result (λ is. IsTrue is ↔ IsPath (graph_view graph.now).blocks path.now) }
+fn is_path(graph: &Graph, path: &[u32]) -> bool
+    ensures { IsTrue result ↔ IsPath (graph_view graph.now).blocks path.now }
 {
     for index in 0..path.len() {
-        if !is_entered(alloc, graph, path, index)? {
-            return Ok(false);
+        if !is_entered(graph, path, index) {
+            return false;
         }
     }
-    Ok(!path.is_empty())
+    !path.is_empty()
 }
 
 /// How often a computation is done along a list of blocks, or the greatest number where it is more often. None where the list is no path from the entry.
 pub fn counts(
-    alloc: Global,
+    _alloc: Global,
     graph: &Graph,
     path: &[u32],
     e: &Computation,
@@ -149,7 +148,7 @@ pub fn counts(
     ensures path { IfOk result (λ o. MatchOption o (IsPath (graph_view graph.now).blocks path.now → ⊥) (λ c. IsPath (graph_view graph.now).blocks path.now)) }
     ensures counted { IfOk result (λ o. IfSome o (λ c. c ≡ min (times_along (graph_view graph.now).blocks (computation_view e.now) path.now) (2 ^ 32 - 1))) }
 {
-    if !is_path(alloc, graph, path)? {
+    if !is_path(graph, path) {
         return Ok(None);
     }
     let times = times_along(e, graph, path);

@@ -1,6 +1,7 @@
 -- Activations that begin and activations that go on behind their calls, in the unit before and in the unit after.
 use Rattle.std.proofs.Common.{◌≡◌, ℕ, zero, suc, ◌+◌, ◌⊎◌, inl, inr, Bool, true, false, cond, Option, Some, None, List, [], ◌∷◌, ◌++◌, length, refl, sym, ap, subst}
 use Rattle.std.specs.Prelude.{slice_get, option_map, option_and_then}
+use Rattle.memory_map.specs.declared.map.Room.{Room}
 use Rattle.graph_core.specs.declared.value.Value.{Value}
 use Rattle.graph_core.specs.declared.value.Value.TheVariants.{Number, Pointer, Odd}
 use Rattle.graph_core.specs.Graphs.{Instruction, End, Block, Graph, UnitForm}
@@ -25,13 +26,13 @@ pub record IsMade (hs : List Graph) (f : ℕ) (g : Graph) : Type 0 where
   pub made : (graph ≡ g) ⊎ IsMoved g graph
 
 -- one function
-made_in : (before : List Graph) (g : Graph) (behind : List Graph) (h : Graph) → BecomesIn before g behind h → (h ≡ g) ⊎ IsMoved g h
+made_in : {room : Room} (before : List Graph) (g : Graph) (behind : List Graph) (h : Graph) → BecomesIn room before g behind h → (h ≡ g) ⊎ IsMoved g h
 made_in before g behind _ (moves once is within_bounds) = inr is
 made_in before g behind _ (passes_a_bound once is beyond) = inl refl
 made_in before g behind _ (is_entered_again again) = inl refl
 
 -- So it is with each.
-pub all_made : (before gs hs : List Graph) → BecomeIn before gs hs → (f : ℕ) (g : Graph) → slice_get gs f ≡ Some g → IsMade hs f g
+pub all_made : {room : Room} (before gs hs : List Graph) → BecomeIn room before gs hs → (f : ℕ) (g : Graph) → slice_get gs f ≡ Some g → IsMade hs f g
 all_made before _ _ no_function f g at = absurd (none-some g at)
 all_made before _ _ (one_function {gs = gs} {hs} {g} {h} is more) zero k at = record { graph = h; stands = refl; made = subst (λ z. (h ≡ z) ⊎ IsMoved z h) (same_Some g k at) (made_in before g gs h is) }
 all_made before _ _ (one_function {gs = gs} {hs} {g} {h} is more) (suc f) k at = (let one = all_made (before ++ h ∷ []) gs hs more f k at in record { graph = one.graph; stands = one.stands; made = one.made })
@@ -166,7 +167,7 @@ module _ (u v : UnitForm) where
       graph_begins h (inr is) = moved_begins h is
 
     -- A function of the units begins in both, or not in the first.
-    pub enter_same : IsValid u → AreAllMoved u.graphs v.graphs → length ys ≡ length xs → ((g : Graph) → AreWaiting u (length memory) (is_live (memory_of g)) xs ys)
+    pub enter_same : IsValid u → AreAllMoved u.room u.graphs v.graphs → length ys ≡ length xs → ((g : Graph) → AreWaiting u (length memory) (is_live (memory_of g)) xs ys)
         → BeginSame (enter u memory input f vs xs) (enter v memory input f vs ys)
     enter_same valid all many waits = by_function (slice_get u.graphs f) refl
       where

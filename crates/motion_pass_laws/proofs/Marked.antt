@@ -9,7 +9,7 @@ use Rattle.graph_core.specs.Uses.{reads_of, reads_of_end, targets_of}
 use Rattle.graph_core.specs.Paths.{History, Among, Path, place_of, is_call, called, written, unnoted, owed}
 use Rattle.graph_core.specs.Validity.{IsGraph}
 use Rattle.graph_core.specs.Bounds.{most_words}
-use Rattle.graph_core.specs.WellMarked.{InPlace, ComesToMarker, IsVariable, IsLocal, WasRemoved, WrittenIn, IsRightNote, IsWellMarked}
+use Rattle.graph_core.specs.WellMarked.{InPlace, ComesToMarker, IsVariable, IsLocal, WasTaken, WrittenIn, IsRightNote, IsWellMarked}
 use Rattle.motion_pass_laws.proofs.Carried.{valid_at}
 use Rattle.motion_pass_laws.specs.Made.{IsNew, AreLeft, IsAfter, of_block, of_edge, IsMade, IsLedTo, directly, by_own}
 use Rattle.motion_pass_laws.proofs.Lists.{among_left}
@@ -20,8 +20,8 @@ use Rattle.motion_pass_laws.proofs.Standing.{WasInPlace, was_in, was_none, was_i
 use Rattle.motion_pass_laws.proofs.Ahead.{written_there}
 
 -- What was removed by the log was removed by a longer one.
-removed_still : (log added : List Logged) (p variable : ℕ) → WasRemoved log p variable → WasRemoved (log ++ added) p variable
-removed_still log added p variable r = record { change = r.change; logged = among_left r.change log added r.logged; removed = r.removed; at = r.at; of = r.of }
+removed_still : (log added : List Logged) (p variable : ℕ) → WasTaken log p variable → WasTaken (log ++ added) p variable
+removed_still log added p variable r = record { change = r.change; logged = among_left r.change log added r.logged; taken = r.taken; at = r.at; of = r.of }
 
 -- A number that has an element is below their count.
 number_inside : {A : Type 0} (f : A → ℕ) (xs : List A) (n value : ℕ) → option_map f (slice_get xs n) ≡ Some value → n < length xs
@@ -228,7 +228,7 @@ module _ (u v : UnitForm) (g h : Graph) (valid : IsGraph u g) (made : IsMade g h
     right_still : (p x variable : ℕ) (value : NoteValue) → x < g.name_count → IsRightNote u g p x variable value → IsRightNote v h p x variable value
     right_still p x variable value less (inl own) = inl (own.0, written_after g h made p x own.1)
     right_still p x variable value less (inr gone) =
-        inr (gone.0, λ w. gone.1 (written_before g h made p x less w), subst (λ all. WasRemoved all p variable) (sym log) (removed_still u.log added p variable gone.2))
+        inr (gone.0, λ w. gone.1 (written_before g h made p x less w), subst (λ all. WasTaken all p variable) (sym log) (removed_still u.log added p variable gone.2))
 
     -- Each note that a path comes to is right.
     right : (hist : History) (n : ℕ) (p x variable : ℕ) (value : NoteValue) (rest : List Instruction) (e : End) → IsVariable h x variable → Path h hist n (Note x value ∷ rest) e → place_of hist ≡ Some p → IsRightNote v h p x variable value

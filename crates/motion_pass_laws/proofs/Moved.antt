@@ -3,6 +3,7 @@ use Rattle.std.proofs.Common.{List, [], ◌∷◌, ◌++◌, map}
 use Rattle.debug_records.specs.declared.change.PassName.{PassName}
 use Rattle.debug_records.specs.declared.change.Kind.TheVariants.{Moved}
 use Rattle.event_runs.specs.Agreement.{Pairs}
+use Rattle.memory_map.specs.declared.map.Room.{Room}
 use Rattle.graph_core.specs.Graphs.{Graph, UnitForm}
 use Rattle.graph_core.specs.Validity.{IsGraph, IsValid}
 use Rattle.graph_core.specs.WellMarked.{AreWellMarked}
@@ -30,17 +31,17 @@ same_function g h made = record {
 
 module _ (u : UnitForm) where
   -- What became of a function is made of it.
-  function_made : (before : List Graph) (g : Graph) (behind : List Graph) (h : Graph) → BecomesIn before g behind h → IsMade g h
+  function_made : {room : Room} (before : List Graph) (g : Graph) (behind : List Graph) (h : Graph) → BecomesIn room before g behind h → IsMade g h
   function_made before g behind h (moves once is within_bounds) = moved_made u g h is
   function_made before g behind _ (passes_a_bound once is beyond) = itself_made g
   function_made before g behind _ (is_entered_again again) = itself_made g
 
   -- So it is with all functions, one after the other.
-  pub functions_made : (before gs hs : List Graph) → BecomeIn before gs hs → Pairs IsMade gs hs
+  pub functions_made : {room : Room} (before gs hs : List Graph) → BecomeIn room before gs hs → Pairs IsMade gs hs
   functions_made before _ _ no_function = tt
   functions_made before _ _ (one_function {gs = gs} {hs} {g} {h} is more) = (function_made before g gs h is, functions_made (before ++ h ∷ []) gs hs more)
 
-module _ (u v : UnitForm) (pass : PassName) (shared : ShareTheSame u v) (changes : AddsChangesOf pass Moved IsMovedAssignment u v) (made : AreAllMoved u.graphs v.graphs) where
+module _ (u v : UnitForm) (pass : PassName) (shared : ShareTheSame u v) (changes : AddsChangesOf pass Moved IsMovedAssignment u v) (made : AreAllMoved u.room u.graphs v.graphs) where
   -- THE PROGRAM STAYS. The unit that lazy code motion makes of another is of the same program.
   pub moved_program : SameProgram u v
   moved_program = record {
@@ -49,6 +50,7 @@ module _ (u v : UnitForm) (pass : PassName) (shared : ShareTheSame u v) (changes
     array_bytes = shared.array_bytes;
     steps = shared.steps;
     assignments = shared.assignments;
+    room = shared.room;
     added = map (logged_as pass Moved) changes.cases;
     log = changes.log;
     functions = pairs_so IsMade SameFunction same_function u.graphs v.graphs (functions_made u [] u.graphs v.graphs made);

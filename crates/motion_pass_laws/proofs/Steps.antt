@@ -26,7 +26,7 @@ use Rattle.motion_pass_laws.proofs.Landing.{Lands, LeadsTo, returning, jumping, 
 use Rattle.motion_pass_laws.proofs.Related.{AreWaiting, Related, many_waiting, frames_same, Comes, comes_now, DoesSame}
 use Rattle.motion_pass_laws.proofs.Begins.{goes_on, exited_same, returned_same, goes_if_same, unless_same, enter_same}
 
-module _ (u v : UnitForm) (valid : IsValid u) (made : AreAllMoved u.graphs v.graphs) where
+module _ (u v : UnitForm) (valid : IsValid u) (made : AreAllMoved u.room u.graphs v.graphs) where
   -- One configuration before, and one after that agrees with it.
   module _ (c : Configuration) (count : ℕ) (blocks : List Block) (others : ℕ → Value) (rest : List Instruction) (end : End) (waiting : List Activation) (waits : AreWaiting u c.here.first_object (is_live c.memory) c.waiting waiting) where
     -- the configuration after

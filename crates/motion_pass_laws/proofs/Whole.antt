@@ -19,7 +19,7 @@ use Rattle.motion_pass_laws.proofs.Related.{AreWaiting, Related, DoesSame}
 use Rattle.motion_pass_laws.proofs.Begins.{BeginSame, enter_same}
 use Rattle.motion_pass_laws.proofs.Steps.{acts_same, ends_same}
 
-module _ (u v : UnitForm) (valid : IsValid u) (made : AreAllMoved u.graphs v.graphs) where
+module _ (u v : UnitForm) (valid : IsValid u) (made : AreAllMoved u.room u.graphs v.graphs) where
   -- The run after comes, with nothing seen, to where its next step does what a step before does.
   record Answers (p : Stepped) (d : Configuration) : Type 0 where
     pub to : Configuration
@@ -98,9 +98,9 @@ module _ (u v : UnitForm) (valid : IsValid u) (made : AreAllMoved u.graphs v.gra
       ∙ ap (λ b. record v { main = u.main; statics = u.statics; array_bytes = b }) shared.array_bytes
 
 -- LAZY CODE MOTION KEEPS WHAT CAN BE SEEN. Where the code of each function of a valid unit was moved, and what functions share is the same, the unit after shows what the unit before shows.
-pub moved_shows : (u v : UnitForm) → IsValid u → ShareTheSame u v → AreAllMoved u.graphs v.graphs → ShowsTheSame u v
+pub moved_shows : (u v : UnitForm) → IsValid u → ShareTheSame u v → AreAllMoved u.room u.graphs v.graphs → ShowsTheSame u v
 moved_shows u v valid shared made input n = (let whole = whole_shown u v valid made input n in (whole.0, ap (λ (w : UnitForm). unit_run w input whole.0) (after_is u v valid made shared) ∙ whole.1))
 
 -- So whatever is seen of the unit before is seen of the unit after.
-pub moved_follows : (u v : UnitForm) → IsValid u → ShareTheSame u v → AreAllMoved u.graphs v.graphs → (input : List ℕ) (n : ℕ) → Reached SameEvent (unit_run u input n) (unit_run v input)
+pub moved_follows : (u v : UnitForm) → IsValid u → ShareTheSame u v → AreAllMoved u.room u.graphs v.graphs → (input : List ℕ) (n : ℕ) → Reached SameEvent (unit_run u input n) (unit_run v input)
 moved_follows u v valid shared made input n = (let whole = moved_shows u v valid shared made input n in reached_itself (unit_run u input n) (unit_run v input) whole.0 whole.1)

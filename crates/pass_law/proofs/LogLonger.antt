@@ -8,7 +8,7 @@ use Rattle.graph_core.specs.declared.value.Value.{Value}
 use Rattle.graph_core.specs.Graphs.{NoteValue, Is, Gone, Instruction, Marker, Note, Move, Operate, Truncate, Same, Address, Load, Store, Zero, CopyWords, Call, End, Jump, Branch, Return, Block, Graph, Logged, UnitForm}
 use Rattle.graph_core.specs.Paths as paths
 use Rattle.graph_core.specs.Validity.{IsNoteValue, IsInstruction, IsBlock, IsGraph, IsValid}
-use Rattle.graph_core.specs.WellMarked.{WasRemoved, IsRightNote, IsWellMarked, AreWellMarked}
+use Rattle.graph_core.specs.WellMarked.{WasTaken, IsRightNote, IsWellMarked, AreWellMarked}
 use Rattle.graph_core.specs.Memory.{first_memory}
 use Rattle.graph_core.specs.Values.{is_odd}
 use Rattle.graph_core.specs.Runs.{Configuration, Wild, value, enter, call, execute, execute_end, step_from, step, after, run, run_some, unit_run}
@@ -68,8 +68,8 @@ module _ (u : UnitForm) (added : List Logged) where
       blocks = all_map (IsBlock u g) (IsBlock longer g) is_block g.blocks h.blocks;
     }
 
-    removed : {p x : ℕ} → WasRemoved u.log p x → WasRemoved (u.log ++ added) p x
-    removed h = record { change = h.change; logged = among_longer h.logged added; removed = h.removed; at = h.at; of = h.of }
+    removed : {p x : ℕ} → WasTaken u.log p x → WasTaken (u.log ++ added) p x
+    removed h = record { change = h.change; logged = among_longer h.logged added; taken = h.taken; at = h.at; of = h.of }
 
     right_note : (p x variable : ℕ) (v : NoteValue) → IsRightNote u g p x variable v → IsRightNote longer g p x variable v
     right_note p x variable v (inl h) = inl h
@@ -169,6 +169,7 @@ keeps_with_changes u added marked = record {
     array_bytes = refl;
     steps = refl;
     assignments = refl;
+    room = refl;
     added = added;
     log = refl;
     functions = pairs_itself SameFunction function_itself u.graphs;

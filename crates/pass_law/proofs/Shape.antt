@@ -40,7 +40,7 @@ of_functions (g ∷ gs) (h ∷ hs) kept = (kept.0.function, of_functions gs hs k
 -- a unit keeps its own shape
 pub shape_itself : (u : UnitForm) → KeepsShape u u
 shape_itself u = record {
-  shared = record { main = refl; statics = refl; array_bytes = refl; steps = refl; assignments = refl };
+  shared = record { main = refl; statics = refl; array_bytes = refl; steps = refl; assignments = refl; room = refl };
   functions = functions_themselves u.graphs;
 }
 
@@ -53,6 +53,7 @@ shape_twice u v w first then = record {
     array_bytes = then.shared.array_bytes ∙ first.shared.array_bytes;
     steps = then.shared.steps ∙ first.shared.steps;
     assignments = then.shared.assignments ∙ first.shared.assignments;
+    room = then.shared.room ∙ first.shared.room;
   };
   functions = functions_twice u.graphs v.graphs w.graphs first.functions then.functions;
 }

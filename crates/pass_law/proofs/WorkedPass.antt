@@ -53,6 +53,7 @@ module _ (pass : PassName) where
     array_bytes = refl;
     steps = refl;
     assignments = refl;
+    room = refl;
     added = removal pass ∷ [];
     log = refl;
     functions = (record { entry = refl; parameters = refl; scalars = refl; objects = refl; markers = λ p. (λ m. m, λ m. m) }, tt);

@@ -154,7 +154,7 @@ module _ (pass : PassName) where
   right_note : {h : History} {n x : ℕ} {v : NoteValue} {rest : List Instruction} {e : End} → IsPoint h n (Note x v ∷ rest) e → (p : ℕ) → place_of h ≡ Some p → (variable : ℕ) → variable ≡ 0 → IsRightNote (reduced pass) noting p x variable v
   right_note (notes u v) p is variable z =
       subst (λ q. IsRightNote (reduced pass) noting q 0 variable (Is (Of (Constant 2)))) (some_same is)
-      (inr (other_note, not_written 2 0, record { change = removal pass; logged = front; removed = refl; at = refl; of = sym z }))
+      (inr (other_note, not_written 2 0, record { change = removal pass; logged = front; taken = refl; at = refl; of = sym z }))
 
 own_note : {h : History} {n x : ℕ} {v : NoteValue} {rest : List Instruction} {e : End} → IsPoint h n (Note x v ∷ rest) e → v ≡ Is (Of (Name x)) → ⊥
 own_note (notes u v) is = other_note is

@@ -1,6 +1,7 @@
 -- A unit of the small program is valid, whatever the block of the declarator does behind its marker, if it names what there is.
 use Rattle.std.proofs.Common.{◌≡◌, ◌≢◌, ◌≤◌, ℕ, inl, inr, List, [], ◌∷◌, ◌++◌, length, Option, Some, None, refl, sym, subst, arith, lit≤, lit<}
 use Rattle.std.specs.List.{AllByRecursion}
+use Rattle.memory_map.specs.declared.map.Room.TheVariants.{Small}
 use Rattle.graph_core.specs.Bounds.{most_markers}
 use Rattle.graph_core.specs.Graphs.{Operand, Instruction, Marker, Graph, Logged, UnitForm}
 use Rattle.graph_core.specs.Paths as paths
@@ -25,7 +26,7 @@ module _ (body : List Instruction) (a : Operand) (log : List Logged) where
     main = refl;
     instructions = omega (arith, few);
     blocks = lit≤ tt;
-    markers = subst (λ (all : List ℕ). length (1 ∷ 2 ∷ ((all ++ (3 ∷ [])) ++ [])) ≤ most_markers) (sym no_markers) (lit≤ tt);
+    markers = subst (λ (all : List ℕ). length (1 ∷ 2 ∷ ((all ++ (3 ∷ [])) ++ [])) ≤ most_markers Small) (sym no_markers) (lit≤ tt);
     arguments = omega (arith, no_arguments);
     statics = lit≤ tt;
     relocations = tt;

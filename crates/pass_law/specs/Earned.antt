@@ -1,7 +1,7 @@
 -- When a change that a pass logged is earned: the units before and after the pass bear it out.
 use Rattle.std.specs.Prelude.{◌≡◌, ◌≢◌, ℕ, ◌≤◌, ◌||◌, true, if◌then◌else◌, Option, Some, None, List, [], ◌∷◌, ◌++◌, length, slice_get, ⊤}
 use Rattle.debug_records.specs.declared.change.Kind as declared-kind
-use Rattle.debug_records.specs.declared.change.Kind.TheVariants.{Removed, Moved, Reused, Replaced}
+use Rattle.debug_records.specs.declared.change.Kind.TheVariants.{Removed, Moved, Reused, Replaced, Sunk}
 use Rattle.graph_homes.specs.declared.home.Home.{Home}
 use Rattle.graph_homes.specs.Reused.{IsReused}
 use Rattle.graph_core.specs.Graphs.{Name, NoteValue, Instruction, Note, Move, End, Jump, Return, Block, Graph, Logged, UnitForm}
@@ -106,12 +106,13 @@ pub record IsReplaced (g h : Graph) (p x : ℕ) : Type 0 where
   pub copy_left : ℕ
   pub reaches : (hist : History) → Path h hist n after later → IsCopiedAt copy_block copy_left x y hist
 
--- A change is borne out by the graphs of its function before and after its pass, and the homes of the latter.
+-- A change is borne out by the graphs of its function before and after its pass, and the homes of the latter; that an assignment sank, by none.
 abbrev pub IsBorneOut : declared-kind.Kind → List Logged → (ℕ → Home) → Graph → Graph → (p x variable : ℕ) → Type 0
 IsBorneOut Removed log home g h p x variable = IsRemoved g h p x
 IsBorneOut Moved log home g h p x variable = IsMoved g h p x
 IsBorneOut Replaced log home g h p x variable = IsReplaced g h p x
 IsBorneOut Reused log home g h p x variable = IsReused log home h x variable
+IsBorneOut Sunk log home g h p x variable = ⊥
 
 -- A change is earned: it is one of the log, and its function's graphs in the units before and after its pass bear it out, with the homes of that function.
 pub record IsEarned (change : Logged) (log : List Logged) (homes : (function : ℕ) → ℕ → Home) (u v : UnitForm) : Type 0 where

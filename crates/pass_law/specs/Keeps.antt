@@ -44,6 +44,7 @@ pub record SameProgram (u v : UnitForm) : Type 0 where
   pub array_bytes : v.array_bytes ≡ u.array_bytes
   pub steps : v.steps ≡ u.steps
   pub assignments : v.assignments ≡ u.assignments
+  pub room : v.room ≡ u.room
   pub added : List Logged
   pub log : v.log ≡ u.log ++ added
   pub functions : Pairs SameFunction u.graphs v.graphs

@@ -33,6 +33,7 @@ pub record ShareTheSame (u v : UnitForm) : Type 0 where
   pub array_bytes : v.array_bytes ≡ u.array_bytes
   pub steps : v.steps ≡ u.steps
   pub assignments : v.assignments ≡ u.assignments
+  pub room : v.room ≡ u.room
 
 -- a change of this kind, by this pass
 pub record IsChangeOf (pass : PassName) (kind : declared-kind.Kind) (c : Logged) : Type 0 where

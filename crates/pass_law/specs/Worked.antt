@@ -3,6 +3,7 @@
 use Rattle.std.specs.Prelude.{ℕ, List, [], ◌∷◌, Option, Some, None}
 use Rattle.debug_records.specs.declared.change.PassName.{PassName}
 use Rattle.debug_records.specs.declared.change.Kind.TheVariants.{Removed}
+use Rattle.memory_map.specs.declared.map.Room.TheVariants.{Small}
 use Rattle.places.specs.declared.flow.FlowStep.{FlowStep}
 use Rattle.places.specs.declared.flow.Assignment.{Assignment}
 use Rattle.graph_homes.specs.declared.home.Home.{Home}
@@ -70,6 +71,7 @@ unit_of g log = record {
   steps = step 1 2 ∷ step 2 3 ∷ [];
   assignments = assignment 2 0 ∷ [];
   log = log;
+  room = Small;
 }
 
 -- As it is built: 2 is moved to x, and x is noted to be x.

@@ -13,11 +13,11 @@ use std::alloc::AllocError;
 #[derive(Clone, Copy, PartialEq, Eq, PartialOrd, Ord)]
 pub struct Case {
     pub place: Place,
-    pub block: u32,
+    pub block: usize,
     /// How many instructions stand before it in the block.
-    pub index: u32,
+    pub index: usize,
     /// Which of the names that are read there it concerns, by number; 0 where it is no read.
-    pub operand: u32,
+    pub operand: usize,
     /// The variable that it concerns.
     pub var: Var,
 }

@@ -7,7 +7,7 @@ use Rattle.std.proofs.lemmas.Bool.{cases_eq}
 use Rattle.std.proofs.lemmas.Bool.Decides.{nat_tests}
 use Rattle.std.proofs.lemmas.Option.{none-some, same_Some, slice_get_within}
 use Rattle.places.specs.declared.flow.FlowStep.{FlowStep}
-use Rattle.places.specs.Flow.{can_go, assigns, AreInOrder}
+use Rattle.places.specs.Flow.{can_go, AreInOrder}
 use Rattle.places.specs.Path.{Quest, LeadOn, IsRoute, IsLess, IsBefore, IsNotBehind, IsLeastRoute}
 use Rattle.places.specs.Route.{after, goes_in, first_of, least_on, fewest, most_steps, route_of}
 use Rattle.places.proofs.Searched.{step_order}
@@ -15,7 +15,7 @@ use Rattle.base_laws.proofs.Booleans.{and_left as both_left, and_right as both_r
 
 -- the test of a place that may come next
 abbrev next_test : Quest → ℕ → Bool → ℕ → Bool
-next_test quest n passed q = not (assigns quest.assignments q quest.var) && goes_in quest (suc n) (passed || q == quest.via) q
+next_test quest n passed q = not (quest.blocked q) && goes_in quest (suc n) (passed || q == quest.via) q
 
 -- the place is one of a list
 pub data Among (q : ℕ) : List ℕ → Type 0 where
@@ -159,7 +159,7 @@ test_holds : (a b : Bool) → a ≡ false → b ≡ true → (not a && b) ≡ tr
 test_holds a b e f = rw (e, f) refl
 
 -- one place more in front
-lead_more : (quest : Quest) (passed : Bool) (p q : ℕ) (rest : List ℕ) → can_go quest.steps p q ≡ true → assigns quest.assignments q quest.var ≡ false
+lead_more : (quest : Quest) (passed : Bool) (p q : ℕ) (rest : List ℕ) → can_go quest.steps p q ≡ true → quest.blocked q ≡ false
     → LeadOn quest (passed || q == quest.via) q rest → LeadOn quest passed p (q ∷ rest)
 lead_more quest passed p q [] go free lead = absurd lead
 lead_more quest passed p q (r ∷ rest) go free lead = (go, free, lead)
@@ -170,14 +170,14 @@ least_leads quest zero passed p e = absurd cc
 least_leads quest (suc zero) passed p e = ((both_right passed (can_go quest.steps p quest.stop) e, refl, both_left passed (can_go quest.steps p quest.stop) e), refl)
 least_leads quest (suc (suc n)) passed p e =
     let f = first_any (next_test quest n passed) (after quest.steps p) e in
-    step f (least_leads quest (suc n) (passed || f.first == quest.via) f.first (test_goes (assigns quest.assignments f.first quest.var) _ f.passes))
+    step f (least_leads quest (suc n) (passed || f.first == quest.via) f.first (test_goes (quest.blocked f.first) _ f.passes))
   where
     step : (f : FirstOf (next_test quest n passed) (after quest.steps p))
         → LeadOn quest (passed || f.first == quest.via) f.first (least_on quest (suc n) (passed || f.first == quest.via) f.first) × (length (least_on quest (suc n) (passed || f.first == quest.via) f.first) ≡ suc n)
         → LeadOn quest passed p (least_on quest (suc (suc n)) passed p) × (length (least_on quest (suc (suc n)) passed p) ≡ suc (suc n))
     step f rest =
         let go = among_goes quest.steps p f.first f.there in
-        let free = test_free (assigns quest.assignments f.first quest.var) _ f.passes in
+        let free = test_free (quest.blocked f.first) _ f.passes in
         let is : least_on quest (suc (suc n)) passed p ≡ f.first ∷ least_on quest (suc n) (passed || f.first == quest.via) f.first
         = ap (λ o. option_map_or (λ q. q ∷ least_on quest (suc n) (passed || q == quest.via) q) o []) f.is in
         (subst (LeadOn quest passed p) (sym is) (lead_more quest passed p f.first _ go free rest.0), ap length is ∙ ap suc rest.1)
@@ -190,7 +190,7 @@ goes_leads quest passed p (q ∷ []) lead =
     rw (lead.2, go) refl
 goes_leads quest passed p (q ∷ r ∷ rest) lead =
     any_among (next_test quest (length rest) passed) q (after quest.steps p) (goes_among quest.steps p q lead.0)
-    (test_holds (assigns quest.assignments q quest.var) _ lead.1 (goes_leads quest (passed || q == quest.via) q (r ∷ rest) lead.2))
+    (test_holds (quest.blocked q) _ lead.1 (goes_leads quest (passed || q == quest.via) q (r ∷ rest) lead.2))
 
 -- They are the least of those that lead on in as many steps.
 least_least : (quest : Quest) → AreInOrder quest.steps → (n : ℕ) (passed : Bool) (p : ℕ) (rest : List ℕ) → LeadOn quest passed p rest → length rest ≡ n
@@ -204,7 +204,7 @@ least_least quest order (suc (suc n)) passed p (q ∷ r ∷ rest) lead size =
     let shorter : length rest ≡ n = omega arith in
     let goes : goes_in quest (suc n) (passed || q == quest.via) q ≡ true = subst (λ k. goes_in quest (suc k) (passed || q == quest.via) q ≡ true) shorter (goes_leads quest (passed || q == quest.via) q (r ∷ rest) lead.2) in
     step (first_before (next_test quest n passed) (after quest.steps p) q (after_ascends quest.steps p order) (goes_among quest.steps p q lead.0)
-    (test_holds (assigns quest.assignments q quest.var) _ lead.1 goes))
+    (test_holds (quest.blocked q) _ lead.1 goes))
     (least_least quest order (suc n) (passed || q == quest.via) q (r ∷ rest) lead.2 (omega arith))
   where
     step : First (next_test quest n passed) (after quest.steps p) q
@@ -347,7 +347,7 @@ comes_next : (quest : Quest) (k : ℕ) (passed : Bool) (p : ℕ) → IsFewest qu
 comes_next quest k passed p few =
     let f = first_any (next_test quest k passed) (after quest.steps p) few.goes in
     let c = comes_by quest.steps p f.first f.there in
-    let free = test_free (assigns quest.assignments f.first quest.var) _ f.passes in
+    let free = test_free (quest.blocked f.first) _ f.passes in
     record {
       passed = passed || f.first == quest.via;
       place = f.first;
@@ -355,13 +355,13 @@ comes_next quest k passed p few =
       step = c.step;
       is = c.is;
       to = c.to;
-      few = record { goes = test_goes (assigns quest.assignments f.first quest.var) _ f.passes; fewest = no_fewer f free };
+      few = record { goes = test_goes (quest.blocked f.first) _ f.passes; fewest = no_fewer f free };
     }
   where
-    no_fewer : (f : FirstOf (next_test quest k passed) (after quest.steps p)) → assigns quest.assignments f.first quest.var ≡ false → (j : ℕ) → 1 ≤ j → goes_in quest j (passed || f.first == quest.via) f.first ≡ true → suc k ≤ j
+    no_fewer : (f : FirstOf (next_test quest k passed) (after quest.steps p)) → quest.blocked f.first ≡ false → (j : ℕ) → 1 ≤ j → goes_in quest j (passed || f.first == quest.via) f.first ≡ true → suc k ≤ j
     no_fewer f free zero some goes = absurd (omega arith)
     no_fewer f free (suc j) some goes =
-        let all = few.fewest (suc (suc j)) (omega arith) (any_among (next_test quest j passed) f.first (after quest.steps p) f.there (test_holds (assigns quest.assignments f.first quest.var) _ free goes)) in
+        let all = few.fewest (suc (suc j)) (omega arith) (any_among (next_test quest j passed) f.first (after quest.steps p) f.there (test_holds (quest.blocked f.first) _ free goes)) in
         omega (arith, all)
 
 comes_at : (quest : Quest) (m : ℕ) (passed : Bool) (p : ℕ) → IsFewest quest (suc m) passed p → (k : ℕ) → k < m → Comes quest (suc k)

@@ -10,9 +10,9 @@ use Rattle.std.proofs.lemmas.List.{get_or-set_same, get_or-set_other, length-set
 use Rattle.std.proofs.lemmas.Option.{slice_get_within, get_or_from_slice_get, none-some, same_Some}
 use Rattle.places.specs.declared.flow.FlowStep.{FlowStep}
 use Rattle.places.specs.declared.search.Visit.{Visit}
-use Rattle.places.specs.Flow.{can_go, assigns, IsStepBefore, AreInOrder}
+use Rattle.places.specs.Flow.{can_go, IsStepBefore, AreInOrder}
 use Rattle.places.specs.Path.{Quest, LeadOn, IsRoute, IsBefore, IsNotBehind, IsLeastRoute}
-use Rattle.places.specs.Search.{state_number, Row, visit_of, ComesFrom, Start, Later, passes, Came, Settled, IsClosed, Assigned, Visited, IsTaken, Searched, IsWayTo, WayStart, WayLater, Answered, AreBlocked}
+use Rattle.places.specs.Search.{state_number, Row, visit_of, ComesFrom, Start, Later, passes, Came, Settled, IsClosed, Barred, Visited, IsTaken, Searched, IsWayTo, WayStart, WayLater, Answered, AreBlocked}
 use Rattle.places.proofs.Numbers.{state_place, state_passed}
 use Rattle.places.proofs.Orders.{before_more, before_last, not_behind_length, not_behind_trans, not_behind_more, shorter_before}
 use Rattle.base_laws.proofs.Lists.{any_at, snoc_new}
@@ -77,7 +77,7 @@ settled_more quest rows new r place s = record {
 }
 
 closed_more : (quest : Quest) (rows : List Row) (new : Row) (place : ℕ) (passed : Bool) → IsClosed quest rows place passed → IsClosed quest (rows ++ new ∷ []) place passed
-closed_more quest rows new place passed (Assigned a) = Assigned a
+closed_more quest rows new place passed (Barred a) = Barred a
 closed_more quest rows new place passed (Visited index row is p b) = Visited index row (snoc_old rows new index row is) p b
 
 -- the visit that a step leads to
@@ -85,7 +85,7 @@ abbrev pub next_row : Quest → (head : ℕ) → Row → (place : ℕ) → Row
 next_row quest head h place = record { place = place; passed = passes quest h place; parent = head; way = h.way ++ place ∷ [] }
 
 -- whatever leads on from the next visit makes a route
-lead_next : (quest : Quest) (h : Row) (place : ℕ) (rest : List ℕ) → can_go quest.steps h.place place ≡ true → assigns quest.assignments place quest.var ≡ false
+lead_next : (quest : Quest) (h : Row) (place : ℕ) (rest : List ℕ) → can_go quest.steps h.place place ≡ true → quest.blocked place ≡ false
     → ((rest : List ℕ) → LeadOn quest h.passed h.place rest → IsRoute quest (h.way ++ rest)) → LeadOn quest (passes quest h place) place rest
     → IsRoute quest ((h.way ++ place ∷ []) ++ rest)
 lead_next quest h place [] go free lead l = absurd l
@@ -134,13 +134,13 @@ skip quest head k visits closed s found h t is_closed = (
   refl,
 )
   where
-    came : IsClosed quest found.rows s.to.0 (passes quest h s.to.0) → (assigns quest.assignments s.to.0 quest.var ≡ true) ⊎ Came quest found.rows h s.to.0
-    came (Assigned a) = inl a
+    came : IsClosed quest found.rows s.to.0 (passes quest h s.to.0) → (quest.blocked s.to.0 ≡ true) ⊎ Came quest found.rows h s.to.0
+    came (Barred a) = inl a
     came (Visited index row is p b) = inr (record { index = index; row = row; is = is; place_is = p; passed_is = b; early = inr (found.beyond index k row h s is t.visit t.step t.from (omega arith)) })
 
 -- The search comes there for the first time.
 pub come : (quest : Quest) (head k : ℕ) (visits : List Visit) (closed : List Bool) (s : FlowStep) (found : Searched quest head k visits closed) (h : Row) → TakesStep quest head k found.rows h s
-    → assigns quest.assignments s.to.0 quest.var ≡ false
+    → quest.blocked s.to.0 ≡ false
     → (next : Searched quest head (k + 1) (visits ++ visit_of (next_row quest head h s.to.0) ∷ []) closed) × IsClosed quest next.rows s.to.0 (passes quest h s.to.0)
 come quest head k visits closed s found h t free = (
   record {
@@ -303,7 +303,7 @@ go_on quest head k visits closed found h is others = record {
 -- the search begins with a visit of the start
 pub begins : (quest : Quest) (visit : Visit) (closed : List Bool) → visit ≡ record { place = record { 0 = quest.start }; passed = quest.start == quest.via; parent = 0 }
     → ((j : ℕ) (s : FlowStep) → slice_get quest.steps j ≡ Some s → 2 * s.to.0 + 1 < length closed) → ((n : ℕ) → length closed ≤ n → get_or closed n false ≡ false)
-    → AreBlocked quest.assignments quest.var closed → Searched quest 0 0 (visit ∷ []) closed
+    → AreBlocked quest.blocked closed → Searched quest 0 0 (visit ∷ []) closed
 begins quest visit closed is room beyond blocked = record {
   rows = first ∷ [];
   visits_are = ap (λ v. v ∷ []) is;
@@ -316,7 +316,7 @@ begins quest visit closed is room beyond blocked = record {
   settled = λ i j r u a b c taken. absurd (elim taken [ inl lt ↦ omega (arith, lt) | inr here ↦ omega (arith, here.1) ]);
   room = room;
   flags = λ place passed is_set. elim (cases_lt (state_number place passed) (length closed)) [
-    | inl within ↦ Assigned (sym (blocked place passed within) ∙ is_set)
+    | inl within ↦ Barred (sym (blocked place passed within) ∙ is_set)
     | inr past ↦ absurd (let none = beyond (state_number place passed) past in cc)
   ];
   blocked = λ place passed within a. blocked place passed within ∙ a;
@@ -375,7 +375,7 @@ comes_on quest head k visits closed found i r q n rest is lt leads =
     let s = step_of quest.steps r.place q leads.0 in
     let settled : Settled quest found.rows r q = subst (Settled quest found.rows r) s.to (found.settled i s.index r s.step is s.is s.from (inl lt)) in
     elim settled.came [
-      | inl a ↦ absurd (let free : assigns quest.assignments q quest.var ≡ false = leads.1 in cc)
+      | inl a ↦ absurd (let free : quest.blocked q ≡ false = leads.1 in cc)
       | inr c ↦ came c
     ]
   where

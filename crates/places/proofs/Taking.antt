@@ -9,7 +9,7 @@ use Rattle.std.proofs.lemmas.List.{get_or_past}
 use Rattle.std.proofs.lemmas.Option.{slice_get_within, slice_get-get_or, get_or_from_slice_get}
 use Rattle.places.specs.declared.flow.FlowStep.{FlowStep}
 use Rattle.places.specs.declared.search.Visit.{Visit}
-use Rattle.places.specs.Flow.{can_go, assigns, AreInOrder}
+use Rattle.places.specs.Flow.{can_go, AreInOrder}
 use Rattle.places.specs.Path.{Quest}
 use Rattle.places.specs.Search.{state_number, Row, visit_of, passes, IsClosed, Searched, Answered, IsFirstFrom, AreBlocked}
 use Rattle.places.proofs.Numbers.{state_below}
@@ -132,7 +132,7 @@ take_step quest head k visits visits' closed closed' visit step found is order a
       order = order;
     }
 
-    free_place : (a : Bool) → assigns quest.assignments step.to.0 quest.var ≡ a → get_or closed state false ≡ false → assigns quest.assignments step.to.0 quest.var ≡ false
+    free_place : (a : Bool) → quest.blocked step.to.0 ≡ a → get_or closed state false ≡ false → quest.blocked step.to.0 ≡ false
     free_place true a flag = absurd (let on = found.blocked step.to.0 (visit.passed || step.to.0 == quest.via) (step_room quest head k visits closed step (visit.passed || step.to.0 == quest.via) found at_k) a in cc)
     free_place false a flag = a
 
@@ -146,7 +146,7 @@ take_step quest head k visits visits' closed closed' visit step found is order a
     by_flag false flag =
         let new : Visit = record { place = step.to; passed = visit.passed || step.to.0 == quest.via; parent = head } in
         let same : visits' ≡ visits ++ new ∷ [] = grown ∙ ap (λ b. if b then visits else visits ++ new ∷ []) flag in
-        let next = come quest head k visits closed step found h takes (free_place (assigns quest.assignments step.to.0 quest.var) refl flag) in
+        let next = come quest head k visits closed step found h takes (free_place (quest.blocked step.to.0) refl flag) in
         let shut = close quest head (k + 1) _ closed step.to.0 (passes quest h step.to.0) next.0 next.1 in
         let turned : Searched quest head (k + 1) (visits ++ new ∷ []) (set closed state true)
         = subst (λ b. Searched quest head (k + 1) (visits ++ record { place = step.to; passed = b; parent = head } ∷ []) (set closed (state_number step.to.0 b) true)) (sym passed_is) shut in
@@ -154,7 +154,7 @@ take_step quest head k visits visits' closed closed' visit step found is order a
 
 -- The search begins.
 pub first_visit : (quest : Quest) (closed : List Bool) (bound : ℕ) → All (λ (s : FlowStep). s.to.0 < bound) quest.steps → length closed ≡ 2 * bound
-    → AreBlocked quest.assignments quest.var closed
+    → AreBlocked quest.blocked closed
     → Searched quest 0 0 (record { place = record { 0 = quest.start }; passed = quest.start == quest.via; parent = 0 } ∷ []) closed
 first_visit quest closed bound above size blocked = begins quest _ closed refl
     (λ j s is.

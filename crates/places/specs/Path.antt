@@ -1,9 +1,8 @@
 -- Paths by flow, and the least of those that lead from a place by way of another to a third.
-use Rattle.std.specs.Prelude.{◌≡◌, ℕ, ◌<◌, ◌⊎◌, ◌==◌, ◌||◌, Bool, true, false, List, [], ◌∷◌, length, map, ⊤}
+use Rattle.std.specs.Prelude.{◌≡◌, ℕ, ◌<◌, ◌⊎◌, ◌==◌, ◌||◌, Bool, true, false, List, [], ◌∷◌, length, map, slice_index_or, ⊤}
 use Rattle.debug_records.specs.declared.change.Place.{Place}
 use Rattle.debug_records.specs.declared.change.Var.{Var}
 use Rattle.places.specs.declared.flow.FlowStep.{FlowStep}
-use Rattle.places.specs.declared.flow.Assignment.{Assignment}
 use Rattle.places.specs.declared.flow.FlowTable.{FlowTable}
 use Rattle.places.specs.declared.paths.Path.{Path}
 use Rattle.places.specs.Flow.{can_go, assigns}
@@ -22,25 +21,34 @@ GoesOn steps [] = ⊤
 GoesOn steps (p ∷ []) = ⊤
 GoesOn steps (p ∷ q ∷ path) = (can_go steps p q ≡ true) × GoesOn steps (q ∷ path)
 
--- What a route is asked for: from a start by way of a place to a stop, while a variable is not assigned.
+-- What a route is asked for: from a start by way of a place to a stop, with no blocked place between the two ends.
 pub record Quest : Type 0 where
   pub steps : List FlowStep
-  pub assignments : List Assignment
-  pub var : ℕ
+  pub blocked : ℕ → Bool
   pub start : ℕ
   pub via : ℕ
   pub stop : ℕ
 
+-- It is asked for by the flow of a program, while a variable is not assigned.
+abbrev pub quest_by : FlowTable → (variable start via stop : ℕ) → Quest
+quest_by table variable start via stop =
+    record { steps = table.steps.items; blocked = λ p. assigns table.assignments.items p variable; start = start; via = via; stop = stop }
+
 abbrev pub quest : FlowTable → Var → (start via stop : Place) → Quest
-quest table var start via stop = record { steps = table.steps.items; assignments = table.assignments.items; var = var.0; start = start.0; via = via.0; stop = stop.0 }
+quest table var start via stop = quest_by table var.0 start.0 via.0 stop.0
+
+-- It is asked for by these steps, past the places whose flags are set.
+abbrev pub quest_past : List FlowStep → List Bool → (start via stop : Place) → Quest
+quest_past steps flags start via stop =
+    record { steps = steps; blocked = λ p. slice_index_or flags p false; start = start.0; via = via.0; stop = stop.0 }
 
 -- These places lead on from a place p to the stop. To each of them execution may go directly from the one before. Those before the last
--- do not assign the variable, the last is the stop, and the place to go by was passed before it.
+-- are not blocked, the last is the stop, and the place to go by was passed before it.
 abbrev pub LeadOn : Quest → (passed : Bool) → (p : ℕ) → List ℕ → Type 0
 LeadOn quest passed p [] = ⊥
 LeadOn quest passed p (q ∷ []) = (can_go quest.steps p q ≡ true) × (q ≡ quest.stop) × (passed ≡ true)
 LeadOn quest passed p (q ∷ r ∷ path) =
-    (can_go quest.steps p q ≡ true) × (assigns quest.assignments q quest.var ≡ false) × LeadOn quest (passed || q == quest.via) q (r ∷ path)
+    (can_go quest.steps p q ≡ true) × (quest.blocked q ≡ false) × LeadOn quest (passed || q == quest.via) q (r ∷ path)
 
 -- The path begins at the start, and leads on to the stop.
 pub record IsRoute (quest : Quest) (path : List ℕ) : Type 0 where

@@ -3,7 +3,7 @@ use Rattle.std.specs.Prelude.{ℕ, zero, suc, ◌+◌, ◌^◌, ◌==◌, ◌&&�
 use Rattle.std.specs.List.{list_any}
 use Rattle.std.specs.Option.{option_map_or}
 use Rattle.places.specs.declared.flow.FlowStep.{FlowStep}
-use Rattle.places.specs.Flow.{can_go, assigns}
+use Rattle.places.specs.Flow.{can_go}
 use Rattle.places.specs.Path.{Quest}
 
 -- the places to which these steps lead from a place
@@ -16,7 +16,7 @@ abbrev pub goes_in : Quest → (steps : ℕ) → (passed : Bool) → (p : ℕ) �
 goes_in quest zero passed p = false
 goes_in quest (suc zero) passed p = passed && can_go quest.steps p quest.stop
 goes_in quest (suc (suc n)) passed p =
-    list_any (λ q. not (assigns quest.assignments q quest.var) && goes_in quest (suc n) (passed || q == quest.via) q) (after quest.steps p)
+    list_any (λ q. not (quest.blocked q) && goes_in quest (suc n) (passed || q == quest.via) q) (after quest.steps p)
 
 -- the first of some places that passes a test
 abbrev pub first_of : (ℕ → Bool) → List ℕ → Option ℕ
@@ -29,7 +29,7 @@ least_on quest zero passed p = []
 least_on quest (suc zero) passed p = quest.stop ∷ []
 least_on quest (suc (suc n)) passed p =
     option_map_or (λ q. q ∷ least_on quest (suc n) (passed || q == quest.via) q)
-    (first_of (λ q. not (assigns quest.assignments q quest.var) && goes_in quest (suc n) (passed || q == quest.via) q) (after quest.steps p)) []
+    (first_of (λ q. not (quest.blocked q) && goes_in quest (suc n) (passed || q == quest.via) q) (after quest.steps p)) []
 
 -- the fewest steps of a number or more, of so many numbers, that lead from the start to the stop
 abbrev pub fewest : Quest → (least numbers : ℕ) → Option ℕ

@@ -1,12 +1,12 @@
 -- A search for a route, breadth first: the places that it came to, in order, and what it knows of them.
 use Rattle.std.specs.Prelude.{◌≡◌, ◌≢◌, ℕ, ◌+◌, ◌*◌, ◌<◌, ◌≤◌, ◌⊎◌, ◌==◌, ◌&&◌, ◌||◌, Bool, true, false, List, [], ◌∷◌, ◌++◌, length, map, Some, slice_get, slice_index_or}
-use Rattle.std.specs.List.{list_any}
 use Rattle.places.specs.declared.flow.FlowStep.{FlowStep}
-use Rattle.places.specs.declared.flow.Assignment.{Assignment}
 use Rattle.places.specs.declared.search.Visit.{Visit}
 use Rattle.places.specs.declared.search.Request.{Request}
+use Rattle.places.specs.declared.search.Blocked.{Blocked}
+use Rattle.places.specs.declared.search.Blocked.TheVariants.{Assigning, Flagged}
 use Rattle.places.specs.Flow.{can_go, assigns}
-use Rattle.places.specs.Path.{Quest, quest, LeadOn, IsRoute, IsBefore, IsNotBehind}
+use Rattle.places.specs.Path.{Quest, LeadOn, IsRoute, IsBefore, IsNotBehind}
 
 -- the number of a place as the search comes to it, before or after the place to go by
 abbrev pub state_number : ℕ → (passed : Bool) → ℕ
@@ -18,15 +18,10 @@ pub record IsFirstFrom (steps : List FlowStep) (place first : ℕ) : Type 0 wher
   pub before : (j : ℕ) (s : FlowStep) → slice_get steps j ≡ Some s → j < first → s.from.0 < place
   pub after : (j : ℕ) (s : FlowStep) → slice_get steps j ≡ Some s → first ≤ j → place ≤ s.from.0
 
--- whether one of these assignments is of the place and the variable
-abbrev pub is_assigned : List Assignment → (place var : ℕ) → Bool
-is_assigned assignments place var = list_any (λ (a : Assignment). a.place.0 == place && a.var.0 == var) assignments
-
--- For each number of a place there is a flag, which is set where the place assigns the variable.
-abbrev pub AreBlocked : List Assignment → (var : ℕ) → List Bool → Type 0
-AreBlocked assignments var flags =
-    (place : ℕ) (passed : Bool) → state_number place passed < length flags
-    → slice_index_or flags (state_number place passed) false ≡ is_assigned assignments place var
+-- For each number of a place there is a flag, which is set where the place is blocked.
+abbrev pub AreBlocked : (blocked : ℕ → Bool) → List Bool → Type 0
+AreBlocked blocked flags =
+    (place : ℕ) (passed : Bool) → state_number place passed < length flags → slice_index_or flags (state_number place passed) false ≡ blocked place
 
 -- A visit, with the way to it from the start.
 pub record Row : Type 0 where
@@ -59,11 +54,11 @@ pub record Came (quest : Quest) (rows : List Row) (r : Row) (place : ℕ) : Type
 -- What became of a step from a visit to a place: it does not lead to the stop, and it leads nowhere or the search came there.
 pub record Settled (quest : Quest) (rows : List Row) (r : Row) (place : ℕ) : Type 0 where
   pub no_answer : r.passed ≡ true → place ≢ quest.stop
-  pub came : (assigns quest.assignments place quest.var ≡ true) ⊎ Came quest rows r place
+  pub came : (quest.blocked place ≡ true) ⊎ Came quest rows r place
 
--- A flag is set for a place that assigns the variable, or that the search came to.
+-- A flag is set for a place that is blocked, or that the search came to.
 pub data IsClosed (quest : Quest) (rows : List Row) (place : ℕ) (passed : Bool) : Type 0 where
-  Assigned : assigns quest.assignments place quest.var ≡ true → IsClosed quest rows place passed
+  Barred : quest.blocked place ≡ true → IsClosed quest rows place passed
   Visited : (index : ℕ) (row : Row) → slice_get rows index ≡ Some row → row.place ≡ place → row.passed ≡ passed → IsClosed quest rows place passed
 
 -- the step was taken from the visit, where the search has come to this step of this visit
@@ -90,7 +85,7 @@ pub record Searched (quest : Quest) (head k : ℕ) (visits : List Visit) (closed
       → IsTaken i j head k → Settled quest rows r s.to.0
   pub room : (j : ℕ) (s : FlowStep) → slice_get quest.steps j ≡ Some s → 2 * s.to.0 + 1 < length closed
   pub flags : (place : ℕ) (passed : Bool) → slice_index_or closed (state_number place passed) false ≡ true → IsClosed quest rows place passed
-  pub blocked : (place : ℕ) (passed : Bool) → state_number place passed < length closed → assigns quest.assignments place quest.var ≡ true
+  pub blocked : (place : ℕ) (passed : Bool) → state_number place passed < length closed → quest.blocked place ≡ true
       → slice_index_or closed (state_number place passed) false ≡ true
 
 -- This is the way to a visit, by the parents.
@@ -118,6 +113,11 @@ abbrev pub Expanded : Quest → (head : ℕ) → (found : Bool) → List Visit �
 Expanded quest head true visits closed = Answered quest head visits
 Expanded quest head false visits closed = Searched quest (head + 1) 0 visits closed
 
+-- where no route may pass between its ends
+abbrev pub blocked_by : Blocked → (place : ℕ) → Bool
+blocked_by (Assigning table var) place = assigns table.now.assignments.items place var.0
+blocked_by (Flagged flags) place = slice_index_or flags.now place false
+
 -- what is asked for
 abbrev pub quest_of : Request → Quest
-quest_of r = quest r.table.now r.var r.start r.via r.stop
+quest_of r = record { steps = r.steps.now; blocked = blocked_by r.blocked; start = r.start.0; via = r.via.0; stop = r.stop.0 }

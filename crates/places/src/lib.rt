@@ -9,5 +9,5 @@ mod table;
 
 pub use flow::{Assignment, FlowStep, FlowTable};
 pub use paths::{Path, is_path};
-pub use routes::route;
+pub use routes::{route, route_past};
 pub use table::{PlaceRow, PlaceTable};

@@ -1,9 +1,9 @@
 //! A search for a route, breadth first from its start.
 
 ghost use Rattle.std.specs.Prelude.{◌≡◌, ◌<◌, ◌≤◌, ◌*◌, ◌+◌, ◌++◌, ◌∷◌, [], ◌==◌, ◌&&◌, ◌||◌, ℕ, List, Bool, if◌then◌else◌, true, false, All, OnOk, IfOk, length, slice_get, slice_set, slice_index_or, Some, map};
-ghost use Rattle.places.specs.Flow.{AreInOrder};
+ghost use Rattle.places.specs.Flow.{AreInOrder, assigns};
 ghost use Rattle.places.specs.Path.{places};
-ghost use Rattle.places.specs.Search.{AreBlocked, Expanded, IsFirstFrom, IsWayTo, Searched, passes, quest_of, state_number};
+ghost use Rattle.places.specs.Search.{AreBlocked, Expanded, IsFirstFrom, IsWayTo, Searched, blocked_by, passes, quest_of, state_number};
 
 use crate::flow::{Assignment, FlowStep, FlowTable};
 use crate::paths::Path;
@@ -21,11 +21,20 @@ pub struct Visit {
     pub parent: usize,
 }
 
+/// Where no route may pass between its ends.
+#[derive(Clone, Copy)]
+pub enum Blocked<'a> {
+    /// The places that assign a variable.
+    Assigning(&'a FlowTable, Var),
+    /// The places whose flags are set; those behind the last flag are free.
+    Flagged(&'a [bool]),
+}
+
 /// A route that is asked for.
 #[derive(Clone, Copy)]
 pub struct Request<'a> {
-    pub table: &'a FlowTable,
-    pub var: Var,
+    pub steps: &'a [FlowStep],
+    pub blocked: Blocked<'a>,
     pub start: Place,
     pub via: Place,
     pub stop: Place,
@@ -54,7 +63,7 @@ pub fn place_bound(steps: &[FlowStep]) -> usize
 }
 
 /// For each number of a place as the search comes to it, whether the place assigns the variable.
-pub fn blocked_places(
+fn assigning_places(
     alloc: Global,
     assignments: &[Assignment],
     var: Var,
@@ -62,7 +71,7 @@ pub fn blocked_places(
 ) -> Result<Vec<bool>, AllocError>
     requires { bound ≤ 4294967296 }
     ensures size { IfOk result (λ blocked. length blocked.items ≡ 2 * bound) }
-    ensures flags { IfOk result (λ blocked. AreBlocked assignments.now var.0 blocked.items) }
+    ensures flags { IfOk result (λ blocked. AreBlocked (λ p. assigns assignments.now p var.0) blocked.items) }
 {
     let mut blocked = vec![in alloc; false; 2 * bound]?;
     for assignment in assignments {
@@ -73,6 +82,36 @@ pub fn blocked_places(
         }
     }
     Ok(blocked)
+}
+
+/// For each number of a place as the search comes to it, the flag of the place.
+fn flagged_places(alloc: Global, flags: &[bool], bound: usize) -> Result<Vec<bool>, AllocError>
+    requires { bound ≤ 4294967296 }
+    ensures size { IfOk result (λ blocked. length blocked.items ≡ 2 * bound) }
+    ensures flags { IfOk result (λ blocked. AreBlocked (λ p. slice_index_or flags.now p false) blocked.items) }
+{
+    let mut blocked = vec![in alloc; false; 2 * bound]?;
+    for place in 0..flags.len().min(bound) {
+        blocked[2 * place] = flags[place];
+        blocked[2 * place + 1] = flags[place];
+    }
+    Ok(blocked)
+}
+
+/// For each number of a place as the search comes to it, whether the place is blocked.
+pub fn blocked_places(
+    alloc: Global,
+    blocked: Blocked<'_>,
+    bound: usize,
+) -> Result<Vec<bool>, AllocError>
+    requires { bound ≤ 4294967296 }
+    ensures size { IfOk result (λ flags. length flags.items ≡ 2 * bound) }
+    ensures flags { IfOk result (λ flags. AreBlocked (blocked_by blocked.entry) flags.items) }
+{
+    match blocked {
+        Blocked::Assigning(table, var) => assigning_places(alloc, &table.assignments, var, bound),
+        Blocked::Flagged(flags) => flagged_places(alloc, flags, bound),
+    }
 }
 
 /// The index of the first step from a place or from a greater one.
@@ -120,12 +159,12 @@ pub fn expand(
     visits: &mut Vec<Visit>,
 ) -> Result<bool, AllocError>
     requires head { head < length visits.old.items }
-    requires order { AreInOrder request.now.table.now.steps.items }
+    requires order { AreInOrder request.now.steps.now }
     requires searched { Searched (quest_of request.now) head 0 visits.old.items closed.old }
     ensures { IfOk result (λ found. Expanded (quest_of request.now) head found visits.new.items closed.new) }
 {
     let visit = visits[head];
-    let steps = request.table.steps.as_slice();
+    let steps = request.steps;
     for index in first_from(steps, visit.place)..steps.len() {
         let step = steps[index];
         if step.from.0 != visit.place.0 {

@@ -8,7 +8,7 @@ ghost use Rattle.rv_emit_words.specs.Words.{words_in};
 ghost use Rattle.std.specs.List.{filter};
 ghost use Rattle.rv_emit_instructions.specs.Stops.{shown_behind};
 ghost use Rattle.rv_emit_code.specs.Stops.{shown_after};
-ghost use Rattle.rv_emit_instructions.specs.Words.{most_words_of};
+ghost use Rattle.rv_emit_words.specs.InstructionWords.{most_words_of};
 ghost use Rattle.graph_core.specs.Graphs.{block_view};
 ghost use Rattle.rv_emit_storage.specs.Storages.{storage_view};
 ghost use Rattle.rv_emit_words.specs.Growing.{code_state};

@@ -4,4 +4,3 @@ pub mod Code
 pub mod Filling
 pub mod Memory
 pub mod Stops
-pub mod Words

@@ -5,7 +5,7 @@ ghost use Rattle.rv_emit_words.specs.Shown.{shown};
 ghost use Rattle.rv_emit_words.specs.Words.{words_in};
 ghost use Rattle.graph_core.specs.Graphs.{instruction_view};
 ghost use Rattle.rv_emit_instructions.specs.Stops.{shown_behind};
-ghost use Rattle.rv_emit_instructions.specs.Words.{most_words_of};
+ghost use Rattle.rv_emit_words.specs.InstructionWords.{most_words_of};
 ghost use Rattle.rv_emit_storage.specs.Storages.{storage_view};
 ghost use Rattle.rv_emit_words.specs.Growing.{code_state};
 ghost use Rattle.rv_emit_instructions.specs.Code.{with_instruction};

@@ -1,13 +1,15 @@
--- The code of a valid unit has few words.
-use Rattle.std.proofs.Common.{◌≤◌, ◌+◌, ◌*◌, List, [], ◌∷◌, length, arith}
+-- The code of a valid unit of the smaller room has few words.
+use Rattle.std.proofs.Common.{◌≡◌, ◌≤◌, ◌+◌, ◌*◌, subst, List, [], ◌∷◌, length, arith}
 use Rattle.std.proofs.lemmas.List.{length-append}
 use Rattle.std.specs.List.{AllByRecursion}
 use Rattle.memory_map.specs.Maps.{most_words}
 use Rattle.memory_map.specs.declared.map.Map.{Map}
 use Rattle.memory_map.specs.declared.map.Map.TheVariants.{One, Two}
+use Rattle.memory_map.specs.declared.map.Room.TheVariants.{Small}
+use Rattle.graph_core.specs.Bounds.{most_arguments, most_blocks, most_instructions, most_markers}
 use Rattle.graph_core.specs.Graphs.{Instruction, Marker, Note, Move, Operate, Truncate, Same, Address, Load, Store, Zero, CopyWords, Call, Block, Graph, UnitForm}
 use Rattle.graph_core.specs.Validity.{IsGraph, IsValid, arguments_in, arguments_of, counts, instructions_of, markers_in, markers_of, markers_of_blocks, total}
-use Rattle.rv_emit_instructions.specs.Words.{most_words_of}
+use Rattle.rv_emit_words.specs.InstructionWords.{most_words_of}
 use Rattle.rv_emit_sequence.specs.Words.{most_words_of_blocks}
 use Rattle.rv_emit_layout.specs.Words.{most_words_of_graphs}
 
@@ -42,11 +44,11 @@ pub code_has_room : (m : Map) → 262144 ≤ most_words m
 code_has_room One = omega arith
 code_has_room Two = omega arith
 
-pub words_are_few : (u : UnitForm) → IsValid u → most_words_of_graphs u.graphs ≤ 262139
-words_are_few u v =
+pub words_are_few : (u : UnitForm) → u.room ≡ Small → IsValid u → most_words_of_graphs u.graphs ≤ 262139
+words_are_few u small v =
     let functions : length u.graphs ≤ 256 = v.functions in
-    let instructions : total instructions_of u.graphs ≤ 8000 = v.instructions in
-    let blocks : total (λ (g : Graph). length g.blocks) u.graphs ≤ 12000 = v.blocks in
-    let markers : length (markers_of u.graphs) ≤ 4000 = v.markers in
-    let arguments : total arguments_of u.graphs ≤ 4000 = v.arguments in
+    let instructions : total instructions_of u.graphs ≤ 8000 = subst (λ r. total instructions_of u.graphs ≤ most_instructions r) small v.instructions in
+    let blocks : total (λ (g : Graph). length g.blocks) u.graphs ≤ 12000 = subst (λ r. total (λ (g : Graph). length g.blocks) u.graphs ≤ most_blocks r) small v.blocks in
+    let markers : length (markers_of u.graphs) ≤ 4000 = subst (λ r. length (markers_of u.graphs) ≤ most_markers r) small v.markers in
+    let arguments : total arguments_of u.graphs ≤ 4000 = subst (λ r. total arguments_of u.graphs ≤ most_arguments r) small v.arguments in
     omega (arith, functions, instructions, blocks, markers, arguments, of_graphs u u.graphs v.graphs)

@@ -1,6 +1,7 @@
 //! The code of a unit.
 
 ghost use Rattle.std.specs.Prelude.{◌≡◌, ◌+◌, ◌≤◌, false, IfOk, OnOk, length};
+ghost use Rattle.memory_map.specs.declared.map.Room.TheVariants.{Small};
 ghost use Rattle.graph_core.specs.Validity.{IsValid};
 ghost use Rattle.graph_homes.specs.Homed.{HaveHomes, homed_view};
 ghost use Rattle.rv_emit_storage.specs.UnitMaps.{map_of_unit};
@@ -89,6 +90,7 @@ fn code_of(
     is_planned: bool,
 ) -> Result<Coded, AllocError>
     requires valid { IsValid (homed_view homed.now).unit }
+    requires small { (homed_view homed.now).unit.room ≡ Small }
     ensures each { IfOk result (λ c. length c.all.items ≡ length homed.now.unit.graphs.items) }
     ensures few { is_planned ≡ false
         → IfOk result (λ c. length c.words.items ≤ most_words (map_of_unit (homed_view homed.now).unit)) }
@@ -107,6 +109,7 @@ fn code_of(
 /// The code of a unit: by plans, as long as it is short enough, which it is without them.
 fn short_code_of(alloc: Global, statics: &Statics, homed: &HomedUnit) -> Result<Coded, AllocError>
     requires valid { IsValid (homed_view homed.now).unit }
+    requires small { (homed_view homed.now).unit.room ≡ Small }
     ensures each { IfOk result (λ c. length c.all.items ≡ length homed.now.unit.graphs.items) }
     ensures few { IfOk result (λ c. length c.words.items ≤ most_words (map_of_unit (homed_view homed.now).unit)) }
     ensures code { IfOk result (λ c. IsCodeOf (homed_view homed.now) (static_view statics.now) (coded_view c)) }
@@ -144,9 +147,10 @@ fn owners_of(alloc: Global, code: &[OwnedWord]) -> Result<Vec<u32>, AllocError>
     Ok(owners)
 }
 
-/// The code of a unit whose names have homes.
+/// The code of a unit of the smaller room whose names have homes.
 pub fn assemble(alloc: Global, homed: &HomedUnit) -> Result<Emitted, AllocError>
     requires valid { IsValid (homed_view homed.now).unit }
+    requires small { (homed_view homed.now).unit.room ≡ Small }
     requires homes { HaveHomes (homed_view homed.now) }
     ensures few { IfOk result (λ e. length e.code.items ≤ most_words e.map) }
     ensures owners { IfOk result (λ e. length e.owners.items ≡ length e.code.items) }

@@ -227,7 +227,7 @@ module _ (h : HomedForm) (valid : IsValid h.unit) (homed : HaveHomes h) (e : Emi
       (sym (ap (λ l. slice_get l f) emitted.functions ∙ function_told h.unit.graphs emitted.coded.firsts emitted.coded.all 0 f placed.laid (omega (arith, few, count)) placed.there ∙ ap (λ j. Some (told_by (slice_index emitted.coded.firsts j) (parameters_in h.unit.graphs j) placed.laid)) here) ∙ told) in
       let many : parameters_in h.unit.graphs f ≡ length graph.parameters = ap (λ (o : Option Graph). option_map_or (λ (g : Graph). length g.parameters) o 0) is in
       let most = (graph_valid h.unit valid f low).parameters in
-      let short_blocks : length graph.blocks ≤ 12000 = blocks_few h.unit valid f graph is in
+      let short_blocks : length graph.blocks ≤ 120000 = blocks_few h.unit valid f graph is in
       let g : Ground = ground_at h valid homed emitted.statics emitted.addresses a refl f in
       let sequence : IsSequenceOf g graph (f == h.unit.main) placed.laid.sequence =
       subst (λ q. IsSequenceOf q graph (f == h.unit.main) placed.laid.sequence) (ground_is h valid homed emitted.statics emitted.addresses a refl f low (f == h.unit.main) placed.laid placed.is) (placed.is.sequence (omega (arith, short_blocks))) in

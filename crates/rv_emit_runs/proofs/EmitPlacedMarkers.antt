@@ -166,7 +166,7 @@ module _ (h : HomedForm) (valid : IsValid h.unit) (e : EmittedForm) (emitted : I
       one.few
 
   blocks_short : (k : ℕ) (g : Graph) → slice_get h.unit.graphs k ≡ Some g → length g.blocks < 4294967295
-  blocks_short k g at = let few : length g.blocks ≤ 12000 = blocks_few h.unit valid k g at in omega (arith, few)
+  blocks_short k g at = let few : length g.blocks ≤ 120000 = blocks_few h.unit valid k g at in omega (arith, few)
 
   places_are : map place_of e.stops ≡ stop_places h.unit.graphs
   places_are = ap (map place_of) emitted.stops ∙ unit_places h emitted.statics emitted.coded.firsts 0 h.unit.graphs emitted.coded.all emitted.code.laid blocks_short pieces_few

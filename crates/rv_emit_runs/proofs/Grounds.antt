@@ -9,6 +9,8 @@ use Rattle.rv_emit_storage.proofs.UnitMaps.{statics_begin}
 use Rattle.rv_emit_storage.specs.UnitMaps.{map_of_unit}
 use Rattle.graph_homes.specs.declared.home.Home.{Home}
 use Rattle.graph_homes.specs.declared.home.Home.TheVariants.{Register, Slot}
+use Rattle.graph_core.specs.Bounds.{most_blocks}
+use Rattle.graph_core.proofs.Rooms.{blocks_in}
 use Rattle.graph_core.specs.Graphs.{Graph, StaticObject, UnitForm}
 use Rattle.graph_core.specs.Memory.{static_bytes}
 use Rattle.graph_core.specs.Validity.{IsValid, taken_by, total}
@@ -126,11 +128,11 @@ few_among count [] k x e = cc
 few_among count (y ∷ xs) zero x e = let same : count y ≡ count x = (let both : y ≡ x = cc in ap count both) in omega (arith, same)
 few_among count (y ∷ xs) (suc k) x e = omega (arith, few_among count xs k x e)
 
-pub blocks_few : (u : UnitForm) → IsValid u → (f : ℕ) (g : Graph) → slice_get u.graphs f ≡ Some g → length g.blocks ≤ 12000
+pub blocks_few : (u : UnitForm) → IsValid u → (f : ℕ) (g : Graph) → slice_get u.graphs f ≡ Some g → length g.blocks ≤ 120000
 blocks_few u valid f g e =
-    let all : total (λ (g : Graph). length g.blocks) u.graphs ≤ 12000 = valid.blocks in
+    let all : total (λ (g : Graph). length g.blocks) u.graphs ≤ most_blocks u.room = valid.blocks in
     let one : length g.blocks ≤ total (λ (g : Graph). length g.blocks) u.graphs = few_among (λ (g : Graph). length g.blocks) u.graphs f g e in
-    omega (arith, all, one)
+    omega (arith, all, one, blocks_in u.room)
 
 -- ---- Functions
 
@@ -177,7 +179,7 @@ module _ (h : HomedForm) (valid : IsValid h.unit) (homed : HaveHomes h) (s : Sta
       is.objects (fits_frame f) ∙ ap (λ n. object_offsets (objects_start n (slot_count (homes_in h f))) (graph f).objects) count in
       let size : l.size ≡ frame_size (length (saved (home_of h f) (graph f))) (slot_count (homes_in h f)) (graph f).objects =
       is.size (fits_frame f) ∙ ap (λ n. frame_size n (slot_count (homes_in h f)) (graph f).objects) count in
-      let few : length (graph f).blocks ≤ 12000 = blocks_few h.unit valid f (graph f) (graph_there h.unit f low) in
+      let few : length (graph f).blocks ≤ 120000 = blocks_few h.unit valid f (graph f) (graph_there h.unit f low) in
       let end : counted (length (graph f).blocks) ≡ length (graph f).blocks = omega (arith, few) in
       by_parts f l.slots (slots_start (length (saved (home_of h f) (graph f)))) slots
       l.objects (object_offsets (objects_start (length (saved (home_of h f) (graph f))) (slot_count (homes_in h f))) (graph f).objects) objects
@@ -208,7 +210,7 @@ module _ (h : HomedForm) (valid : IsValid h.unit) (homed : HaveHomes h) (s : Sta
   pub can_stand : AllByRecursion IsInWords h.unit.graphs → (f : ℕ) → f < length h.unit.graphs → CanStand h s f (graph f)
   can_stand words f low =
       let there = graph_there h.unit f low in
-      let few : length (graph f).blocks ≤ 12000 = blocks_few h.unit valid f (graph f) there in
+      let few : length (graph f).blocks ≤ 120000 = blocks_few h.unit valid f (graph f) there in
       let short : length (graph f).blocks < 4294967295 = omega (arith, few) in
       record {
         few = short;

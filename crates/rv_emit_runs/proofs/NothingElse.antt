@@ -104,7 +104,7 @@ module _ (h : HomedForm) (valid : IsValid h.unit) (homed : HaveHomes h) (e : Emi
     -- The pieces of the function write no home but those that their places may.
     pieces_spare : AllSpare (code_of h a f).storage (code_of h a f).slots (IsWrittenBy h valid homed a f) None None there.laid.sequence.pieces
     pieces_spare =
-        let blocks : length graph.blocks ≤ 12000 = blocks_few h.unit valid f graph (graph_there h.unit f low) in
+        let blocks : length graph.blocks ≤ 120000 = blocks_few h.unit valid f graph (graph_there h.unit f low) in
         let ground : Ground = ground_at h valid homed emitted.statics emitted.addresses a refl f in
         sequence_spares ground (code_of h a f).slots (IsWrittenBy h valid homed a f) h.unit graph (graph_valid h.unit valid f low) (storage_right h valid homed a f) (all_written h valid homed a f) (f == h.unit.main) there.laid.sequence
         (all_codes h valid homed a h.unit f).kept

@@ -81,7 +81,7 @@ module _ (h : HomedForm) (valid : IsValid h.unit) (e : EmittedForm) (emitted : I
   pieces_owned : (f : ℕ) (g : Graph) (is_main : Bool) (l : LaidForm) → slice_get h.unit.graphs f ≡ Some g → IsLaidOf emitted.statics g (homes_in h f) is_main l → AreOwned (IsOwnedBy g) l.sequence.pieces
   pieces_owned f g is_main l at is =
       let graph : IsGraph h.unit g = all_at (IsGraph h.unit) h.unit.graphs f g valid.graphs at in
-      let blocks : length g.blocks ≤ 12000 = blocks_few h.unit valid f g at in
+      let blocks : length g.blocks ≤ 120000 = blocks_few h.unit valid f g at in
       let sequence : IsSequenceOf (ground_for emitted.statics g (homes_in h f) l) g is_main l.sequence = is.sequence (omega (arith, blocks)) in
       sequence_owned (IsOwnedBy g) (inl refl) (ground_for emitted.statics g (homes_in h f) l) g is_main l.sequence sequence (inr (inl refl))
       (λ k b there. (kept_owned g b.place (all_at (IsBlock h.unit g) g.blocks k b graph.blocks there).own, from_among (IsOwnedBy g) (markers_in b.instructions) (λ p among. inr (inr (marker_there g.blocks k b p there among)))))

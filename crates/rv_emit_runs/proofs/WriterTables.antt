@@ -340,7 +340,7 @@ module _ (h : HomedForm) (valid : IsValid h.unit) (homed : HaveHomes h) (e : Emi
     writer : (l : ℕ) (b : Block) → slice_get graph.blocks l ≡ Some b → (before more : List Instruction) (i : Instruction) (x : ℕ) → b.instructions ≡ before ++ (i ∷ more) → target_of i ≡ Some x
         → IsToldWriter h a e code f l (instructions_before graph.blocks l + length before) (place_behind before b.place) (home_of h f x)
     writer l b block before more i x is target =
-        let short_blocks : length graph.blocks ≤ 12000 = blocks_few h.unit valid f graph (graph_there h.unit f low) in
+        let short_blocks : length graph.blocks ≤ 120000 = blocks_few h.unit valid f graph (graph_there h.unit f low) in
         let g : Ground = ground_at h valid homed emitted.statics emitted.addresses a refl f in
         let sequence : IsSequenceOf g graph (f == h.unit.main) placed.laid.sequence =
         subst (λ q. IsSequenceOf q graph (f == h.unit.main) placed.laid.sequence) (ground_is h valid homed emitted.statics emitted.addresses a refl f low (f == h.unit.main) placed.laid placed.is) (placed.is.sequence (omega (arith, short_blocks))) in

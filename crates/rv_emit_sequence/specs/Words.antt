@@ -2,7 +2,7 @@
 use Rattle.std.specs.Prelude.{ℕ, ◌+◌, List}
 use Rattle.graph_core.specs.Graphs.{Block}
 use Rattle.graph_core.specs.Validity.{total}
-use Rattle.rv_emit_instructions.specs.Words.{most_words_of}
+use Rattle.rv_emit_words.specs.InstructionWords.{most_words_of}
 
 -- its instructions, and its end
 abbrev pub most_words_of_block : Block → ℕ

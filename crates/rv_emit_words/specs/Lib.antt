@@ -1,3 +1,4 @@
+pub mod InstructionWords
 pub mod Words
 pub mod Constants
 pub mod Fetching

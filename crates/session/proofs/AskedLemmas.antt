@@ -4,7 +4,7 @@ use Rattle.std.specs.Prelude.{Option, Some, None, Result, Ok, Err, IfNone, IfSom
 use Rattle.debug_records.specs.declared.change.PassName.{PassName}
 use Rattle.graph_core.specs.Graphs.{UnitForm}
 use Rattle.line_form.specs.declared.status.Status.{Status}
-use Rattle.line_form.specs.declared.status.Status.TheVariants.{Done, Usage, SourceRefused, ScriptRefused, ReadFault, WriteFault, NoMemory, ImageRefused, TooLong}
+use Rattle.line_form.specs.declared.status.Status.TheVariants.{Done, Usage, SourceRefused, ScriptRefused, ReadFault, WriteFault, NoMemory, ImageRefused, TooLong, AuditFailed}
 use Rattle.command_line.specs.Grammar.{IsJob, IsNoJob}
 use Rattle.command_line.specs.Job.{AttachGiven, JobGiven, attach, job_given}
 use Rattle.command_line.specs.declared.job.Job.{Job}
@@ -35,6 +35,7 @@ module _ {P : Type 0} (named : P → PassName) (passes : List P) (words : List (
   answered found j (Err NoMemory) is e h = tt
   answered found j (Err (ImageRefused code offset)) is e h = absurd h
   answered found j (Err (TooLong name)) is e h = absurd h
+  answered found j (Err (AuditFailed rule line)) is e h = absurd h
 
   pub no_job : (found : Option Job) → IfNone found (IsNoJob words) → found ≡ None → AreNotServed named passes words
   no_job found is e = λ a s. subst (λ f. IfNone f (IsNoJob words)) e is a s.words_are
@@ -50,6 +51,7 @@ module _ {P : Type 0} (named : P → PassName) (passes : List P) (words : List (
   refused_is_complete Else NoMemory a h s = inr (inl refl)
   refused_is_complete Else (ImageRefused code offset) a h s = absurd h
   refused_is_complete Else (TooLong name) a h s = absurd h
+  refused_is_complete Else (AuditFailed rule line) a h s = absurd h
 
 module _ {P : Type 0} {named : P → PassName} {steps : P → UnitForm → UnitForm → Type 0} {handed_in : List P} where
   -- how a job ends is how the same job ends

@@ -4,7 +4,7 @@ use Rattle.std.specs.Prelude.{Option, Some, None, true, string_bytes}
 use Rattle.outside.specs.Counts.{RoseOrStands}
 use Rattle.debug_records.specs.declared.code.Code.{Code}
 use Rattle.line_form.specs.declared.status.Status.{Status}
-use Rattle.line_form.specs.declared.status.Status.TheVariants.{Done, Usage, SourceRefused, ScriptRefused, ReadFault, WriteFault, NoMemory, ImageRefused, TooLong}
+use Rattle.line_form.specs.declared.status.Status.TheVariants.{Done, Usage, SourceRefused, ScriptRefused, ReadFault, WriteFault, NoMemory, ImageRefused, TooLong, AuditFailed}
 use Rattle.script_form.specs.Refusal.{IsRefused}
 use Rattle.script_form.proofs.ScriptLaws.{readings_one}
 use Rattle.debug_records.specs.declared.code.TheConstants.Code.{UNEXPECTED_KEYWORD}
@@ -101,3 +101,4 @@ complete words job old WriteFault new is c told w a nl ns nk = absurd (⊎_elim 
 complete words job old NoMemory new is c told w a nl ns nk = inr (inl refl)
 complete words job old (ImageRefused code offset) new is c told w a nl ns nk = absurd (image_understood old.held job code offset a.before (c.image code offset refl told))
 complete words job old (TooLong name) new is c told w a nl ns nk = absurd (none_too_long old.held job (string_bytes name) w (c.too_long name refl told))
+complete words job old (AuditFailed rule line) new is c told w a nl ns nk = absurd (c.audit rule line refl)

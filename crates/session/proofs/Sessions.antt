@@ -15,7 +15,7 @@ use Rattle.image_form.proofs.OneSpelling.{spells_one}
 use Rattle.std.specs.Global.{Global}
 use Rattle.outside.specs.Held.{IsKeptOrCut, Loads}
 use Rattle.line_form.specs.declared.status.Status.{Status}
-use Rattle.line_form.specs.declared.status.Status.TheVariants.{Done, Usage, SourceRefused, ScriptRefused, ReadFault, WriteFault, NoMemory, ImageRefused, TooLong}
+use Rattle.line_form.specs.declared.status.Status.TheVariants.{Done, Usage, SourceRefused, ScriptRefused, ReadFault, WriteFault, NoMemory, ImageRefused, TooLong, AuditFailed}
 use Rattle.script_form.specs.Script.{orders}
 use Rattle.script_form.specs.Refusal.{IsRefused}
 use Rattle.script_form.specs.declared.command.Command.{Command}
@@ -175,6 +175,7 @@ cut_late A WriteFault old new ends early = early
 cut_late A NoMemory old new ends early = early
 cut_late A (ImageRefused code offset) old new ends early = ends
 cut_late A (TooLong name) old new ends early = ends
+cut_late A (AuditFailed rule line) old new ends early = ends
 
 -- What fails as something is saved or put out is told after that alone.
 pub written_late : (A : Type 0) (s : Status) (old new : ℕ) → WriteEnds {A = A} (Err s) old new → IsEarly s → ⊥
@@ -187,3 +188,4 @@ written_late A WriteFault old new ends early = early
 written_late A NoMemory old new ends early = early
 written_late A (ImageRefused code offset) old new ends early = ends
 written_late A (TooLong name) old new ends early = ends
+written_late A (AuditFailed rule line) old new ends early = ends

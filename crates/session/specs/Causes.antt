@@ -6,7 +6,7 @@ use Rattle.image_form.specs.Rules.{IsImage}
 use Rattle.image_form.specs.Spelling.{spelling}
 use Rattle.image_form.specs.Reading.{read_of}
 use Rattle.line_form.specs.declared.status.Status.{Status}
-use Rattle.line_form.specs.declared.status.Status.TheVariants.{Done, Usage, SourceRefused, ScriptRefused, ReadFault, WriteFault, NoMemory, ImageRefused, TooLong}
+use Rattle.line_form.specs.declared.status.Status.TheVariants.{Done, Usage, SourceRefused, ScriptRefused, ReadFault, WriteFault, NoMemory, ImageRefused, TooLong, AuditFailed}
 use Rattle.script_form.specs.Script.{Order, IsScript}
 use Rattle.script_form.specs.Refusal.{IsRefused}
 use Rattle.debug_records.specs.declared.code.TheConstants.Code.{UNEXPECTED_KEYWORD}
@@ -91,6 +91,7 @@ IsEarly WriteFault = ⊥
 IsEarly NoMemory = ⊥
 IsEarly (ImageRefused code offset) = Unit {0}
 IsEarly (TooLong name) = Unit {0}
+IsEarly (AuditFailed rule line) = Unit {0}
 
 -- the session loaded all texts
 abbrev pub HasLoaded : Status → Type 0
@@ -103,6 +104,7 @@ HasLoaded WriteFault = Unit {0}
 HasLoaded NoMemory = ⊥
 HasLoaded (ImageRefused code offset) = Unit {0}
 HasLoaded (TooLong name) = ⊥
+HasLoaded (AuditFailed rule line) = Unit {0}
 
 -- the session was cut off
 abbrev pub IsCut : Status → Type 0
@@ -115,3 +117,4 @@ IsCut WriteFault = Unit {0}
 IsCut NoMemory = Unit {0}
 IsCut (ImageRefused code offset) = ⊥
 IsCut (TooLong name) = ⊥
+IsCut (AuditFailed rule line) = ⊥

@@ -3,7 +3,7 @@ use Rattle.std.specs.Prelude.{◌≡◌, ◌≢◌, ◌⊎◌, ℕ, Bool, true, 
 use Rattle.std.specs.Global.{Global}
 use Rattle.outside.specs.Counts.{RoseOrStands}
 use Rattle.line_form.specs.declared.status.Status.{Status}
-use Rattle.line_form.specs.declared.status.Status.TheVariants.{Done, Usage, SourceRefused, ScriptRefused, ReadFault, WriteFault, ImageRefused, TooLong}
+use Rattle.line_form.specs.declared.status.Status.TheVariants.{Done, Usage, SourceRefused, ScriptRefused, ReadFault, WriteFault, ImageRefused, TooLong, AuditFailed}
 use Rattle.debug_records.specs.declared.code.Code.{Code}
 use Rattle.debug_records.specs.declared.change.PassName.{PassName}
 use Rattle.graph_core.specs.Graphs.{UnitForm}
@@ -26,6 +26,7 @@ pub record World : Type 0 where
 -- each fault comes exactly where its cause holds, in the order of the stages
 pub record IsCaused (job : JobGiven) (old : World) (result : Status) (new : World) : Type 0 where
   pub usage : result ≢ Usage
+  pub audit : (rule : Code) (line : ℕ) → result ≢ AuditFailed rule line
   pub read : result ≡ ReadFault → RoseOrStands old.loads new.loads
   pub read_only : result ≢ ReadFault → new.loads ≡ old.loads
   pub too_long : (name : String Global) → result ≡ TooLong name → old.shelf_tells ≡ true → IsTooLong old.held job (string_bytes name)

@@ -3,7 +3,7 @@
 ghost use Rattle.std.specs.Prelude.{◌≡◌, ◌≢◌, ◌⊎◌, ℕ, true, List, String, map, string_bytes};
 ghost use Rattle.std.specs.Global.{Global};
 ghost use Rattle.outside.specs.Counts.{RoseOrStands};
-ghost use Rattle.line_form.specs.declared.status.Status.TheVariants.{Done, Usage, SourceRefused, ScriptRefused, ReadFault, WriteFault, NoMemory, ImageRefused, TooLong};
+ghost use Rattle.line_form.specs.declared.status.Status.TheVariants.{Done, Usage, SourceRefused, ScriptRefused, ReadFault, WriteFault, NoMemory, ImageRefused, TooLong, AuditFailed};
 ghost use Rattle.debug_records.specs.declared.code.Code.{Code};
 ghost use Rattle.command_line.specs.Job.{JobGiven, job_given};
 ghost use Rattle.session.specs.Served.{AreNotServed, AreServed, SavesTo};
@@ -87,6 +87,7 @@ pub fn session<S: Shelf, K: Sink>(
     ensures usage { result ≡ Usage → AreNotServed (λ p. named p) passes.now (map string_bytes words.now) }
     ensures usage_only { AreNotServed (λ p. named p) passes.now (map string_bytes words.now)
         → (result ≡ Usage) ⊎ (result ≡ NoMemory) }
+    ensures audit { (rule : Code) (line : ℕ) → result ≢ AuditFailed rule line }
     ensures read { result ≡ ReadFault → RoseOrStands (S.load_count shelf.old) (S.load_count shelf.new) }
     ensures read_only { result ≢ ReadFault → S.load_count shelf.new ≡ S.load_count shelf.old }
     ensures too_long { (asked : JobGiven) (name : String Global)

@@ -7,6 +7,7 @@ use Rattle.image_form.specs.declared.tables.Change.{Change}
 use Rattle.image_form.specs.declared.tables.FlowPair.{FlowPair}
 use Rattle.places.specs.declared.flow.FlowStep.{FlowStep}
 use Rattle.places.specs.declared.flow.Assignment.{Assignment}
+use Rattle.places.specs.Flow.{assigns}
 use Rattle.places.specs.Path.{Quest}
 use Rattle.places.specs.Route.{route_of}
 use Rattle.stop_engine_view.specs.Reading.{owner_of}
@@ -28,8 +29,7 @@ via_of m change (Some address) = owner_of m address
 abbrev pub row_quest : Form → (variable change start : ℕ) → (writer : Option ℕ) → (place : ℕ) → Quest
 row_quest m variable change start writer place = record {
   steps = map step_of m.flow;
-  assignments = map assignment_of m.assigned;
-  var = variable;
+  blocked = λ p. assigns (map assignment_of m.assigned) p variable;
   start = start;
   via = via_of m change writer;
   stop = place;

@@ -13,9 +13,9 @@ loop-operand-init c = operands_first (map scalar_view c.args.scalars.now) (place
 pub loop-operand-preserved : goal.loop-operand-preserved
 loop-operand-preserved c =
     operand_step (map scalar_view c.args.scalars.now) (placed c.args.point.now.place) c.args.point.now.block c.args.point.now.index (numbers c.args.was.now) (numbers c.args.is.now) c.loop-operand.operand _ _ _
-    c.loop-operand.invariant (c.in_ok-add_operand.ensures c.if-not-branch.false)
+    c.loop-operand.invariant c.in_ok-add_operand.ensures
 
 pub returns : goal.returns
-returns c = λ _.
+returns c =
     operands_done (map scalar_view c.args.scalars.now) (placed c.args.point.now.place) c.args.point.now.block c.args.point.now.index (numbers c.args.was.now) (numbers c.args.is.now) c.loop-operand.operand _ _
     (let long = length-map c.args.was.now (λ (n : Name). n.0) in omega (arith, long)) c.loop-operand.invariant

@@ -6,5 +6,5 @@ use Rattle.copy_pass.proofs.Operands.{no_name}
 use Rattle.copy_pass.proofs.names.add_operand.Goals as goal
 
 pub returns-in_default : goal.returns-in_default
-returns-in_default c = λ _.
+returns-in_default c =
     no_name (map scalar_view c.args.scalars.now) (placed c.args.point.now.place) c.args.point.now.block c.args.point.now.index (numbers c.args.was.now) (numbers c.args.is.now) c.args.operand _ c.in_default.ensures

@@ -19,9 +19,8 @@ pub returns-clause-changes : goal.returns-clause-changes
 returns-clause-changes c =
     let before = map graph_view c.args.unit.now.graphs.items in
     let after = map graph_view c.in-Some.graphs.items in
-    let are = subst (λ o. IfSome o (λ cases. AreCasesOf IsReplacedRead before after cases.items)) c.in-Some-2.is
-    (subst (λ ys. IfSome c.in_ok-cases.field-0 (λ cases. AreCasesOf IsReplacedRead before (map graph_view ys) cases.items)) c.deref-3.ensures.value
-    (subst (λ xs. IfSome c.in_ok-cases.field-0 (λ cases. AreCasesOf IsReplacedRead (map graph_view xs) (map graph_view c.deref-3.result.now) cases.items)) c.deref-2.ensures.value c.in_ok-cases.ensures)) in
+    let are = subst (λ ys. AreCasesOf IsReplacedRead before (map graph_view ys) c.in_ok-cases.cases.items) c.deref-3.ensures.value
+    (subst (λ xs. AreCasesOf IsReplacedRead (map graph_view xs) (map graph_view c.deref-3.result.now) c.in_ok-cases.cases.items) c.deref-2.ensures.value c.in_ok-cases.ensures) in
     changes_of_cases c.copy_name.result _ Replaced IsReplacedRead c.in_ok-made.made _ _ _ _ _ _ refl (c.in_ok-log_cases.ensures.logged c.if-not-branch.false) c.in_ok-made.ensures c.copy_name.ensures
     (subst (AreCasesOf IsReplacedRead before after) (sym c.deref_mut.ensures.value) are)
     (c.in_ok-log_cases.ensures.same c.if-not-branch.false) (c.in_ok-log_cases.ensures.in_order c.if-not-branch.false)

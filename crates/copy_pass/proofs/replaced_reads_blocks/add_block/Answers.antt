@@ -1,4 +1,4 @@
-use Rattle.std.proofs.Common.{◌≡◌, ◌<◌, ◌≤◌, true, length, map, take, ap, ◌∙◌, subst, arith, rules}
+use Rattle.std.proofs.Common.{◌≡◌, ◌<◌, ◌≤◌, length, map, take, ap, ◌∙◌, subst, arith, rules}
 use Rattle.std.proofs.lemmas.List.{length-map}
 use Rattle.std.proofs.lemmas.Result.{IfOk-weaker}
 use Rattle.graph_core.specs.Graphs.{block_view, end_view, instruction_view, scalar_view}
@@ -30,7 +30,7 @@ loop-index-preserved c =
           (in_both_there _ _ _ _ _ c.loop-index.invariant.stood c.loop-index.invariant.stands c.in_both.ensures)
           (reads_there instruction_view b.instructions.items k c.index-before.result.now c.index-before.result.now inside c.index-before.ensures (end_view b.end))
           (reads_there instruction_view d.instructions.items k c.index-after.result.now c.index-after.result.now within c.index-after.ensures (end_view d.end)) _ _ _ c.loop-index.invariant.added
-          (c.in_ok-add_instruction.ensures c.if-not-branch.false);
+          c.in_ok-add_instruction.ensures;
     }
 
 pub returns : goal.returns
@@ -49,8 +49,8 @@ returns c =
     let stands : placed c.loop-index.stands ≡ place_behind (take k (map instruction_view d.instructions.items)) (placed d.place) =
     subst (λ j. placed c.loop-index.stands ≡ place_behind (take j (map instruction_view d.instructions.items)) (placed d.place)) same c.loop-index.invariant.stands in
     let so_far = subst (λ j. Adds (Below (IsReplacedIn scalars c.args.number (block_view b) (block_view d)) index_of j) c.args.cases.now.items c.loop-index.cases.items) same c.loop-index.invariant.added in
-    IfOk-weaker c.add_end.result (λ all. all ≡ true → Adds (IsReplacedAt scalars (placed c.in_both-2.result) c.args.number k (reads_of_end (end_view b.end)) (reads_of_end (end_view d.end))) c.loop-index.cases.items c.add_end.new.cases.items) _
-    (λ all adds said.
+    IfOk-weaker c.add_end.result (λ all. Adds (IsReplacedAt scalars (placed c.in_both-2.result) c.args.number k (reads_of_end (end_view b.end)) (reads_of_end (end_view d.end))) c.loop-index.cases.items c.add_end.new.cases.items) _
+    (λ all adds.
     points_done scalars c.args.number (block_view b) (block_view d) k _ _ whole
     (point_step scalars c.args.number (block_view b) (block_view d) k (placed c.in_both-2.result) (reads_of_end (end_view b.end)) (reads_of_end (end_view d.end)) (omega (arith, whole)) (in_both_there _ _ _ _ _ stood stands c.in_both-2.ensures)
-    (reads_last (map instruction_view b.instructions.items) k (end_view b.end) (omega (arith, whole))) (reads_last (map instruction_view d.instructions.items) k (end_view d.end) (omega (arith, whole, long, other, alike))) _ _ _ so_far (adds said))) c.add_end.ensures
+    (reads_last (map instruction_view b.instructions.items) k (end_view b.end) (omega (arith, whole))) (reads_last (map instruction_view d.instructions.items) k (end_view d.end) (omega (arith, whole, long, other, alike))) _ _ _ so_far adds)) c.add_end.ensures

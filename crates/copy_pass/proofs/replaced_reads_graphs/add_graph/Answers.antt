@@ -8,7 +8,7 @@ pub loop-number-init : goal.loop-number-init
 loop-number-init c = blocks_first (graph_view c.args.was.now) (graph_view c.args.is.now) _
 
 pub loop-number-preserved : goal.loop-number-preserved
-loop-number-preserved c = block_next (graph_view c.args.was.now) (graph_view c.args.is.now) c.loop-number.number _ _ _ c.loop-number.invariant (c.in_ok-add_block_of.ensures c.if-not-branch.false)
+loop-number-preserved c = block_next (graph_view c.args.was.now) (graph_view c.args.is.now) c.loop-number.number _ _ _ c.loop-number.invariant c.in_ok-add_block_of.ensures
 
 pub returns : goal.returns
-returns c = λ _. blocks_done (graph_view c.args.was.now) (graph_view c.args.is.now) c.loop-number.number _ _ (let long = length-map c.args.was.now.blocks.items block_view in omega (arith, long)) c.loop-number.invariant
+returns c = blocks_done (graph_view c.args.was.now) (graph_view c.args.is.now) c.loop-number.number _ _ (let long = length-map c.args.was.now.blocks.items block_view in omega (arith, long)) c.loop-number.invariant

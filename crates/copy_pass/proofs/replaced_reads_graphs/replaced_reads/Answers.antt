@@ -10,7 +10,7 @@ loop-number-init c = subst (AreCasesBelow IsReplacedRead (map graph_view c.args.
 
 pub loop-number-preserved : goal.loop-number-preserved
 loop-number-preserved c =
-    cases_next IsReplacedRead (map graph_view c.args.was.now) (map graph_view c.args.is.now) c.loop-number.number _ _ c.loop-number.invariant (c.in_ok-add_function.ensures c.if-not-branch.false)
+    cases_next IsReplacedRead (map graph_view c.args.was.now) (map graph_view c.args.is.now) c.loop-number.number _ _ c.loop-number.invariant c.in_ok-add_function.ensures
 
 pub returns : goal.returns
 returns c = cases_last IsReplacedRead (map graph_view c.args.was.now) (map graph_view c.args.is.now) c.loop-number.number _ (let long = length-map c.args.was.now graph_view in omega (arith, long)) c.loop-number.invariant

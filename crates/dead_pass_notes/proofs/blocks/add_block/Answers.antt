@@ -23,11 +23,11 @@ loop-index-preserved c =
     record {
       place = ap placed c.or-place.ensures ∙ place_next instruction_view xs k i i inside c.index-instruction.ensures c.marker.result c.loop-index.place (placed b.place) c.marker.ensures c.loop-index.invariant.place;
       added = point_step (map scalar_view c.args.scalars.now) (is_going (turn_of c.args.turns.now) c.args.number) c.args.number (block_view b) k (instruction_view i) _ (placed c.loop-index.place) _ there
-          (ap (λ t. not (t == 0)) (c.turn_at.ensures ∙ ap (λ m. turn_of c.args.turns.now c.args.number (m - 1 - k)) count)) c.loop-index.invariant.place c.target.ensures _ _ _ c.loop-index.invariant.added (c.in_ok-add_write.ensures c.if-not-branch.false);
+          (ap (λ t. not (t == 0)) (c.turn_at.ensures ∙ ap (λ m. turn_of c.args.turns.now c.args.number (m - 1 - k)) count)) c.loop-index.invariant.place c.target.ensures _ _ _ c.loop-index.invariant.added c.in_ok-add_write.ensures;
     }
 
 pub returns : goal.returns
-returns c = λ _.
+returns c =
     (let b = c.args.block.now in
     let long = length-map b.instructions.items instruction_view in
     let whole : length (map instruction_view b.instructions.items) ≤ c.loop-index.index = omega (arith, long, c.loop-index-test.false) in

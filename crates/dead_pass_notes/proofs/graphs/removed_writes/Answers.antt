@@ -21,7 +21,7 @@ loop-number-preserved c =
     let inside : k < length xs = omega (arith, c.loop-number-test.true, c.if-len-gt4294967295.false) in
     let there : slice_get (map block_view xs) k ≡ Some (block_view b) = slice_get-map block_view xs k ∙ ap (option_map block_view) (slice_get_read xs (length xs) k b refl inside c.index-block.ensures) in
     block_step (graph_view g) goes c.requires k (block_view b) there _ _ _ c.loop-number.invariant
-    (subst (λ (ss : List Scalar). Adds (IsRemovedIn (map scalar_view ss) (goes k) k (block_view b)) c.loop-number.cases.items c.add_block.new.cases.items) c.deref.ensures.value (c.in_ok-add_block.ensures c.if-not-branch.false))
+    (subst (λ (ss : List Scalar). Adds (IsRemovedIn (map scalar_view ss) (goes k) k (block_view b)) c.loop-number.cases.items c.add_block.new.cases.items) c.deref.ensures.value c.in_ok-add_block.ensures)
 
 pub returns : goal.returns
 returns c = λ _.

@@ -173,3 +173,47 @@ returns-clause-pairs_and_rows c = refl
 pub returns-clause-nodes_and_names : goal.returns-clause-nodes_and_names
 unfolding digits
 returns-clause-nodes_and_names c = refl
+
+pub returns-clause-unknown_member : goal.returns-clause-unknown_member
+unfolding digits
+returns-clause-unknown_member c = refl
+
+pub returns-clause-repeated_member : goal.returns-clause-repeated_member
+unfolding digits
+returns-clause-repeated_member c = refl
+
+pub returns-clause-call_pairs : goal.returns-clause-call_pairs
+unfolding digits
+returns-clause-call_pairs c = refl
+
+pub returns-clause-structure_size : goal.returns-clause-structure_size
+unfolding digits
+returns-clause-structure_size c = refl
+
+pub returns-clause-calls_and_members : goal.returns-clause-calls_and_members
+unfolding digits
+returns-clause-calls_and_members c = refl
+
+pub returns-clause-tables : goal.returns-clause-tables
+unfolding digits
+returns-clause-tables c = refl
+
+pub returns-clause-transcript_line : goal.returns-clause-transcript_line
+unfolding digits
+returns-clause-transcript_line c = refl
+
+pub returns-clause-stop : goal.returns-clause-stop
+unfolding digits
+returns-clause-stop c = refl
+
+pub returns-clause-stray_verdict : goal.returns-clause-stray_verdict
+unfolding digits
+returns-clause-stray_verdict c = refl
+
+pub returns-clause-no_row : goal.returns-clause-no_row
+unfolding digits
+returns-clause-no_row c = refl
+
+pub returns-clause-evidence : goal.returns-clause-evidence
+unfolding digits
+returns-clause-evidence c = refl

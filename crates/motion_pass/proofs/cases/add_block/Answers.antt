@@ -27,11 +27,11 @@ loop-index-preserved c =
       added = point_step g.scalars g.blocks c.args.number (block_view b) k (instruction_view i) _ (placed c.loop-index.place) _ there
           (c.reads_at.ensures g c.requires.are (block_view b) c.requires.at (omega (arith, inside, long))) c.loop-index.invariant.place c.target.ensures _ _ _ c.loop-index.invariant.added
           (subst (λ (ss : List declared-scalar.Scalar). Adds (IsReadingAt (map scalar_view ss) c.reads_at.result (placed c.loop-index.place) c.args.number k (option_map (λ (n : declared-name.Name). n.0) c.target.result)) c.loop-index.cases.items c.add_case.new.cases.items) c.deref.ensures.value
-          (c.in_ok-add_case.ensures c.if-not-branch.false));
+          c.in_ok-add_case.ensures);
     }
 
 pub returns : goal.returns
-returns c = λ _.
+returns c =
     (let g = graph_view c.args.graph.now in
     let b = c.args.block.now in
     let long = length-map b.instructions.items instruction_view in

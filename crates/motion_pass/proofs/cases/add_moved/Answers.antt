@@ -14,10 +14,10 @@ loop-number-preserved c =
     let b = c.index-block.result.now in
     let inside : k < length xs = omega (arith, c.loop-number-test.true) in
     let there : slice_get (map block_view xs) k ≡ Some (block_view b) = slice_get-map block_view xs k ∙ ap (option_map block_view) (slice_get_read xs (length xs) k b refl inside c.index-block.ensures) in
-    block_step (graph_view g) k (block_view b) there _ _ _ c.loop-number.invariant (c.in_ok-add_block.ensures c.if-not-branch.false)
+    block_step (graph_view g) k (block_view b) there _ _ _ c.loop-number.invariant c.in_ok-add_block.ensures
 
 pub returns : goal.returns
-returns c = λ _.
+returns c =
     (let g = c.args.graph.now in
     let long = length-map g.blocks.items block_view in
     let whole : length (map block_view g.blocks.items) ≤ c.loop-number.number = omega (arith, long, c.loop-number-test.false) in

@@ -10,7 +10,7 @@ pub returns-in_ok-same-in-EnteredAgain-clause-becomes : goal.returns-in_ok-same-
 returns-in_ok-same-in-EnteredAgain-clause-becomes c = λ before behind is.
     (let g = graph_view c.args.graph.now in
     let answered = subst (λ o. IfSome o (λ (motion : Motion). IsAnswered g motion)) (c.in-Some.is ∙ ap Some c.in-EnteredAgain.is) c.in_ok-motion.ensures in
-    subst (λ h. BecomesIn before g behind h) (sym c.in_ok-same-in-EnteredAgain.ensures) (is_entered_again answered))
+    subst (λ h. BecomesIn c.args.room before g behind h) (sym c.in_ok-same-in-EnteredAgain.ensures) (is_entered_again answered))
 
 pub moved_within-requires-clause-are : goal.moved_within-requires-clause-are
 moved_within-requires-clause-are c =

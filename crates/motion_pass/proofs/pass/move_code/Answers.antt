@@ -28,18 +28,19 @@ returns-clause-changes c =
 
 pub returns-clause-functions : goal.returns-clause-functions
 returns-clause-functions c =
-    let moved : AreAllMoved (map graph_view c.args.unit.now.graphs.items) (map graph_view c.in-Some.graphs.items) = search rules in
+    let moved : AreAllMoved c.args.unit.now.room (map graph_view c.args.unit.now.graphs.items) (map graph_view c.in-Some.graphs.items) = search rules in
     each_keeps moved
 
 pub returns-clause-valid : goal.returns-clause-valid
 returns-clause-valid c =
     let same = c.in_ok-moved.ensures in
     let log = returns-clause-log c in
-    let moved : AreAllMoved (map graph_view c.args.unit.now.graphs.items) (map graph_view c.in-Some.graphs.items) = search rules in
+    let moved : AreAllMoved c.args.unit.now.room (map graph_view c.args.unit.now.graphs.items) (map graph_view c.in-Some.graphs.items) = search rules in
     moved_valid (unit_view c.args.unit.now) _ log.added c.requires.valid (record {
       main = ap (λ (w : UnitForm). w.main) same;
       statics = ap (λ (w : UnitForm). w.statics) same;
       array_bytes = ap (λ (w : UnitForm). w.array_bytes) same;
       steps = ap (λ (w : UnitForm). w.steps) same;
       assignments = ap (λ (w : UnitForm). w.assignments) same;
+      room = ap (λ (w : UnitForm). w.room) same;
     }) moved log.log

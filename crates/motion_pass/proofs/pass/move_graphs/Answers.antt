@@ -23,7 +23,7 @@ loop-number-init c =
     record {
       count = ap length none;
       amount = subst (λ hs. IsAmount c.of-amount.result (hs ++ gs)) (sym none) amount;
-      ahead = subst (λ hs. IsAhead gs 0 hs) (sym none) (ahead_none gs);
+      ahead = subst (λ hs. IsAhead c.args.room gs 0 hs) (sym none) (ahead_none c.args.room gs);
       cases = subst (λ hs. AreCasesBelow IsMovedAssignment gs hs 0 c.args.cases.now.items) (sym none) (subst (λ all. AreCasesBelow IsMovedAssignment gs [] 0 all) (sym c.requires.none) (cases_first IsMovedAssignment gs []));
     }
 
@@ -61,14 +61,14 @@ loop-number-preserved c =
     let was = inv.count in
     let count : length longer ≡ k + 1 = omega (arith, more, was) in
     let before = amount_at gs k g there c.loop-number.amount hs inv.amount in
-    let becomes = subst (λ o. IfSome o (λ (v : declared-graph.Graph). (b a : List Graph) → IsAmount c.loop-number.amount (b ++ g ∷ a) → BecomesIn b g a (graph_view v))) c.in-Some.is c.in_ok-next.ensures.becomes in
+    let becomes = subst (λ o. IfSome o (λ (v : declared-graph.Graph). (b a : List Graph) → IsAmount c.loop-number.amount (b ++ g ∷ a) → BecomesIn c.args.room b g a (graph_view v))) c.in-Some.is c.in_ok-next.ensures.becomes in
     let amount = subst (λ o. IfSome o (λ (v : declared-graph.Graph). (b a : List Graph) → IsAmount c.loop-number.amount (b ++ g ∷ a) → IsAmount c.graph_after.new.amount (b ++ graph_view v ∷ a))) c.in-Some.is c.in_ok-next.ensures.amount in
     let added = subst (λ o. IfSome o (λ (v : declared-graph.Graph). Adds (IsMovedAssignment g (graph_view v)) c.loop-number.cases.items c.graph_after.new.cases.items)) c.in-Some.is c.in_ok-next.ensures.cases in
     let stands : slice_get longer k ≡ Some h = ap (λ l. slice_get l k) grown ∙ ap (slice_get (hs ++ h ∷ [])) (sym inv.count) ∙ snoc_new hs h in
     record {
       count = count;
       amount = amount_behind gs k g there c.graph_after.new.amount h hs longer grown (amount hs (drop (k + 1) gs) before);
-      ahead = ahead_one gs k g h hs longer there (becomes hs (drop (k + 1) gs) before) grown inv.ahead;
+      ahead = ahead_one c.args.room gs k g h hs longer there (becomes hs (drop (k + 1) gs) before) grown inv.ahead;
       cases = cases_next IsMovedAssignment gs longer k _ _ (cases_longer IsMovedAssignment gs hs longer h k grown inv.count c.loop-number.cases.items inv.cases) (function_step IsMovedAssignment gs longer k g h _ _ there stands added);
     }
 
@@ -76,7 +76,7 @@ pub returns-clause-moved : goal.returns-clause-moved
 returns-clause-moved c =
     let gs = map graph_view c.args.graphs.now in
     let long = length-map c.args.graphs.now graph_view in
-    ahead_all gs c.loop-number.number (map graph_view c.loop-number.moved.items) (omega (arith, long, c.loop-number-test.false)) c.loop-number.invariant.ahead
+    ahead_all c.args.room gs c.loop-number.number (map graph_view c.loop-number.moved.items) (omega (arith, long, c.loop-number-test.false)) c.loop-number.invariant.ahead
 
 pub returns-clause-cases : goal.returns-clause-cases
 returns-clause-cases c =

@@ -10,6 +10,6 @@ abbrev pub invariant-loop-number : goal.invariant-loop-number
 invariant-loop-number l = record {
   count : length (map graph_view l.moved.items) ≡ l.number;
   amount : IsAmount l.amount (map graph_view l.moved.items ++ drop l.number (map graph_view l.graphs));
-  ahead : IsAhead (map graph_view l.graphs) l.number (map graph_view l.moved.items);
+  ahead : IsAhead l.room (map graph_view l.graphs) l.number (map graph_view l.moved.items);
   cases : AreCasesBelow IsMovedAssignment (map graph_view l.graphs) (map graph_view l.moved.items) l.number l.cases.items;
 }

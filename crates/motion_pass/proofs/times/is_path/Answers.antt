@@ -4,7 +4,7 @@ use Rattle.motion_pass.proofs.Entering.{has_some, one_more, path_some, tells_pat
 use Rattle.motion_pass.proofs.times.is_path.Goals as goal
 
 pub loop-index-preserved : goal.loop-index-preserved
-loop-index-preserved c = one_more (graph_view c.args.graph.now).blocks c.args.path.now c.loop-index.index c.loop-index.invariant (c.in_ok-is_entered.ensures.0 c.if-not-branch.false)
+loop-index-preserved c = one_more (graph_view c.args.graph.now).blocks c.args.path.now c.loop-index.index c.loop-index.invariant (c.is_entered.ensures.0 c.if-not-is_entered.false)
 
 pub returns : goal.returns
 returns c =

@@ -7,7 +7,7 @@ use Rattle.rv_emit_code.specs.Blocks.{with_instructions}
 use Rattle.rv_emit_code.specs.Stops.{shown_after}
 use Rattle.graph_core.specs.Graphs.{instruction_view}
 use Rattle.graph_core.specs.Validity.{total}
-use Rattle.rv_emit_instructions.specs.Words.{most_words_of}
+use Rattle.rv_emit_words.specs.InstructionWords.{most_words_of}
 use Rattle.rv_emit_code.proofs.block.put_instructions.Given as goal
 
 abbrev pub invariant-loop-left : goal.invariant-loop-left

@@ -6,4 +6,4 @@ use Rattle.rv_emit_layout.proofs.Bound.{code_has_room, words_are_few}
 use Rattle.rv_emit_layout.proofs.assembling.code_of.Goals as goal
 
 pub returns-clause-few : goal.returns-clause-few
-returns-clause-few c = λ plain. omega (arith, c.in_ok-before.ensures.few, ap (λ l. length l) c.new-words.ensures.items, c.in_ok-push_words.ensures.few, c.in_ok-push_functions.ensures.few, ap laid_words c.deref-3.ensures.value, c.in_ok-all.ensures.few plain, words_are_few (unit_view c.args.homed.now.unit) c.requires.valid, code_has_room (map_of_unit (unit_view c.args.homed.now.unit)))
+returns-clause-few c = λ plain. omega (arith, c.in_ok-before.ensures.few, ap (λ l. length l) c.new-words.ensures.items, c.in_ok-push_words.ensures.few, c.in_ok-push_functions.ensures.few, ap laid_words c.deref-3.ensures.value, c.in_ok-all.ensures.few plain, words_are_few (unit_view c.args.homed.now.unit) c.requires.small c.requires.valid, code_has_room (map_of_unit (unit_view c.args.homed.now.unit)))

@@ -12,6 +12,7 @@ pub returns-in-Err-make : goal.returns-in-Err-make
 returns-in-Err-make g c = λ puts tells taken. record {
   caused = record {
     usage = search rules;
+    audit = search rules;
     read = search rules;
     read_only = search rules;
     too_long = search rules;
@@ -39,6 +40,7 @@ pub returns-in-Ok-save_image : goal.returns-in-Ok-save_image
 returns-in-Ok-save_image g c = λ puts tells taken. record {
   caused = record {
     usage = search rules;
+    audit = search rules;
     read = search rules;
     read_only = search rules;
     too_long = search rules;
@@ -74,6 +76,7 @@ pub returns : goal.returns
 returns g c = λ puts tells taken. record {
   caused = record {
     usage = search rules;
+    audit = search rules;
     read = search rules;
     read_only = search rules;
     too_long = search rules;

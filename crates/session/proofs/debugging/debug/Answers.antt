@@ -30,6 +30,7 @@ pub returns-in-Err-make : goal.returns-in-Err-make
 returns-in-Err-make g c = record {
   caused = record {
     usage = search rules;
+    audit = search rules;
     read = search rules;
     read_only = search rules;
     too_long = search rules;
@@ -56,6 +57,7 @@ pub returns-in-Err-read_script : goal.returns-in-Err-read_script
 returns-in-Err-read_script g c = record {
   caused = record {
     usage = search rules;
+    audit = search rules;
     read = search rules;
     read_only = search rules;
     too_long = search rules;
@@ -83,6 +85,7 @@ pub returns-in-Err-save_image : goal.returns-in-Err-save_image
 returns-in-Err-save_image g c = record {
   caused = record {
     usage = search rules;
+    audit = search rules;
     read = search rules;
     read_only = search rules;
     too_long = search rules;
@@ -119,6 +122,7 @@ pub returns-in-Ok-play : goal.returns-in-Ok-play
 returns-in-Ok-play g c = record {
   caused = record {
     usage = search rules;
+    audit = search rules;
     read = search rules;
     read_only = search rules;
     too_long = search rules;
@@ -176,6 +180,7 @@ pub returns : goal.returns
 returns g c = record {
   caused = record {
     usage = search rules;
+    audit = search rules;
     read = search rules;
     read_only = search rules;
     too_long = search rules;

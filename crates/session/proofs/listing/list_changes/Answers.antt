@@ -13,6 +13,7 @@ pub returns-in-Err-list : goal.returns-in-Err-list
 returns-in-Err-list g c = record {
   caused = record {
     usage = search rules;
+    audit = search rules;
     read = search rules;
     read_only = search rules;
     too_long = search rules;
@@ -38,6 +39,7 @@ pub returns-in-Ok-put_lines : goal.returns-in-Ok-put_lines
 returns-in-Ok-put_lines g c = record {
   caused = record {
     usage = search rules;
+    audit = search rules;
     read = search rules;
     read_only = search rules;
     too_long = search rules;
@@ -74,6 +76,7 @@ pub returns : goal.returns
 returns g c = record {
   caused = record {
     usage = search rules;
+    audit = search rules;
     read = search rules;
     read_only = search rules;
     too_long = search rules;

@@ -9,6 +9,7 @@ pub returns-in-Ok-put_lines : goal.returns-in-Ok-put_lines
 returns-in-Ok-put_lines g c = λ loads saves tells held. record {
   caused = record {
     usage = search rules;
+    audit = search rules;
     read = search rules;
     read_only = search rules;
     too_long = search rules;
@@ -36,6 +37,7 @@ pub returns : goal.returns
 returns g c = λ loads saves tells held. record {
   caused = record {
     usage = search rules;
+    audit = search rules;
     read = search rules;
     read_only = search rules;
     too_long = search rules;

@@ -16,7 +16,7 @@ returns-clause-kept c = kept_by (unit_view c.args.unit.now) c.move_code.result c
 pub returns-clause-step : goal.returns-clause-step
 returns-clause-step c =
     let u = unit_view c.args.unit.now in
-    of_three c.move_code.result (λ v. MakesValid u (unit_view v)) (λ v. AddsChangesOf (pass_name (codes "motion")) Moved IsMovedAssignment u (unit_view v)) (λ v. AreAllMoved u.graphs (unit_view v).graphs) (λ v. MovesCode u (unit_view v))
+    of_three c.move_code.result (λ v. MakesValid u (unit_view v)) (λ v. AddsChangesOf (pass_name (codes "motion")) Moved IsMovedAssignment u (unit_view v)) (λ v. AreAllMoved u.room u.graphs (unit_view v).graphs) (λ v. MovesCode u (unit_view v))
     (λ v made changes functions. record { made = made; changes = changes; functions = functions }) (made_valid u c.move_code.result c.move_code.ensures.valid c.move_code.ensures.shared) c.move_code.ensures.changes c.move_code.ensures.moved
 
 pub returns-clause-keeps : goal.returns-clause-keeps

@@ -1,9 +1,12 @@
-use Rattle.std.proofs.Common.{◌≡◌, List, true, false, map, sym, subst}
+use Rattle.std.proofs.Common.{◌≡◌, ◌≤◌, List, true, false, length, map, sym, subst, arith}
 use Rattle.std.specs.List.{AllByRecursion}
 use Rattle.graph_core.specs.declared.graph.Graph as declared-graph
 use Rattle.graph_core.specs.declared.unit.StaticObject as declared-static
 use Rattle.graph_core.specs.Graphs.{StaticObject, graph_view, static_view, unit_view}
 use Rattle.graph_core.specs.Validity.{AreAllDifferent, AreRelocations, IsGraph, IsValid, markers_of}
+use Rattle.memory_map.specs.declared.map.Room.TheVariants.{Large}
+use Rattle.graph_core.specs.Bounds.{most_markers}
+use Rattle.graph_core.proofs.Rooms.{markers_in}
 use Rattle.graph_core.proofs.Valid.{counts_kept, valid_if}
 use Rattle.graph_core.proofs.unit.Unit.is_valid.Goals as goal
 
@@ -42,3 +45,17 @@ returns c =
       λ t. valid_if u counts main relocations graphs (subst R c.deref-3.ensures.value (c.are_marked_once.ensures.0 t)),
       λ (v : IsValid u). c.are_marked_once.ensures.1 (subst R (sym c.deref-3.ensures.value) v.once),
     )
+
+pub are_graphs-requires : goal.are_graphs-requires
+are_graphs-requires c =
+    let u = unit_view c.args.self.now in
+    let few = (c.keeps_counts.ensures.0 c.if-not-keeps_counts.false).markers in
+    let many : length (markers_of u.graphs) ≤ most_markers Large = omega (arith, few, markers_in u.room) in
+    subst (λ (all : List declared-graph.Graph). length (markers_of (map graph_view all)) ≤ most_markers Large) (sym c.deref-2.ensures.value) many
+
+pub are_marked_once-requires : goal.are_marked_once-requires
+are_marked_once-requires c =
+    let u = unit_view c.args.self.now in
+    let few = (c.keeps_counts.ensures.0 c.if-not-keeps_counts.false).markers in
+    let many : length (markers_of u.graphs) ≤ most_markers Large = omega (arith, few, markers_in u.room) in
+    subst (λ (all : List declared-graph.Graph). length (markers_of (map graph_view all)) ≤ most_markers Large) (sym c.deref-3.ensures.value) many

@@ -1,6 +1,6 @@
 use Rattle.std.proofs.Common.{◌-◌, ◌^◌}
 use Rattle.places.specs.Search.{Searched, quest_of}
-use Rattle.places.proofs.routes.route.Given as goal
+use Rattle.places.proofs.routes.least.Given as goal
 
 abbrev pub invariant-loop-head : goal.invariant-loop-head
 invariant-loop-head l = Searched (quest_of l.request) l.head 0 l.visits.items l.closed.items
