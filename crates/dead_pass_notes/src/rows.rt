@@ -57,10 +57,8 @@ pub fn stale_names(
     requires led { AreLed (graph_view graph.now).blocks (bits_of reached.now 0) }
     ensures table { IfOk result (λ marks. IsTable (length graph.now.blocks.items) graph.now.name_count marks) }
     ensures stale { IfOk result (λ marks. AreStale (graph_view graph.now) graph.now.name_count marks) }
-    ensures all {
-        IfOk result (λ marks. AreAll (graph_view graph.now) (is_going (turn_of turns.now)) (bits_of reached.now 0)
-            graph.now.name_count (bits_of marks))
-    }
+    ensures all { IfOk result (λ marks. AreAll (graph_view graph.now) (is_going (turn_of turns.now)) (bits_of reached.now 0)
+        graph.now.name_count (bits_of marks)) }
 {
     let count = graph.blocks.len() as u32;
     let mut starts = Marks::new(alloc, count + 2, graph.name_count)?;

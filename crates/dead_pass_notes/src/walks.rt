@@ -32,11 +32,9 @@ fn step_in(row: u32, names: u32, marks: &mut Marks, target: Option<Name>, goes: 
     requires row { row < marks.old.count }
     requires width { marks.old.width ≡ names }
     ensures others { AreSameBut row marks.old marks.new }
-    ensures walk {
-        (x : ℕ) → x < names
+    ensures walk { (x : ℕ) → x < names
         → bits_of marks.new row x
-          ≡ (if is_written x (option_map (λ (n : declared-name.Name). n.0) target) then goes else bits_of marks.old row x)
-    }
+        ≡ (if is_written x (option_map (λ (n : declared-name.Name). n.0) target) then goes else bits_of marks.old row x) }
     ensures same_count { marks.new.count ≡ marks.old.count }
     ensures same_width { marks.new.width ≡ marks.old.width }
 {
@@ -80,12 +78,10 @@ pub(crate) fn walk(
     requires row { row < marks.old.count }
     requires width { marks.old.width ≡ names }
     ensures others { AreSameBut row marks.old marks.new }
-    ensures walk {
-        (x : ℕ) → x < names
+    ensures walk { (x : ℕ) → x < names
         → bits_of marks.new row x
-          ≡ stale_behind (is_going (turn_of turns.now) number) x (bits_of marks.old row x)
-              (map instruction_view instructions.now) 0
-    }
+        ≡ stale_behind (is_going (turn_of turns.now) number) x (bits_of marks.old row x)
+        (map instruction_view instructions.now) 0 }
     ensures same_count { marks.new.count ≡ marks.old.count }
     ensures same_width { marks.new.width ≡ marks.old.width }
 {
