@@ -1,3 +1,4 @@
 pub mod Bits
 pub mod Moved
 pub mod Meeting
+pub mod Taking

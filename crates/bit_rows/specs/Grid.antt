@@ -1,5 +1,7 @@
 -- Rows of bits, as contracts see them: lists of lists.
-use Rattle.std.specs.Prelude.{ℕ, Bool, true, false, ◌&&◌, ◌||◌, List, [], ◌∷◌, slice_index_or, slice_set}
+use Rattle.std.specs.Prelude.{ℕ, ◌/◌, ◌%◌, ◌==◌, Bool, true, false, if◌then◌else◌, ◌&&◌, ◌||◌, List, [], ◌∷◌, length, map, slice_index_or, slice_set}
+use Rattle.std.specs.Int.{bit_at}
+use Rattle.std.specs.List.{range_with_len}
 
 -- the bits of a row; none where there is no such row
 abbrev pub row_at : List (List Bool) → (row : ℕ) → List Bool
@@ -30,3 +32,8 @@ met unite a b = joined (met_bit unite) a b
 -- what is kept of a row, with what is written
 abbrev pub passed : (row kept written : List Bool) → List Bool
 passed row kept written = joined (λ a b. a || b) (joined (λ a b. a && b) row kept) written
+
+-- a row whose 64 bits that begin with bit 64 * index are those of a word
+abbrev pub with_word : (row : List Bool) (index word : ℕ) → List Bool
+with_word row index word =
+    map (λ bit. if bit / 64 == index then bit_at word (bit % 64) == 1 else slice_index_or row bit false) (range_with_len 0 (length row))

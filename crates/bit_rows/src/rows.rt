@@ -1,9 +1,10 @@
 //! Rows of bits.
 
-ghost use Rattle.std.specs.Prelude.{◌≡◌, ◌<◌, ◌↔◌, false, true, length, IfOk, replicate, slice_set};
-ghost use Rattle.bit_rows.specs.Grid.{is_set, met, passed, row_at, with_bit};
+ghost use Rattle.std.specs.Prelude.{◌≡◌, ℕ, ◌<◌, ◌≤◌, ◌+◌, ◌*◌, ◌==◌, ◌↔◌, false, true, length, IfOk, replicate, slice_set};
+ghost use Rattle.std.specs.Int.{bit_at};
+ghost use Rattle.bit_rows.specs.Grid.{is_set, met, passed, row_at, with_bit, with_word};
 
-use crate::words::{meet_words, pass_words};
+use crate::words::{add_words, copy_words, meet_words, pass_words};
 use std::alloc::{AllocError, Global};
 use std::marker::Model;
 
@@ -107,5 +108,48 @@ impl Rows {
             row,
             self.stride,
         );
+    }
+
+    /// Gives row `to` what a row of another table has. Tells whether it changed.
+    pub fn add_from(&mut self, to: u32, other: &Rows, row: u32) -> bool
+        requires to { to < length self.old }
+        requires row { row < length other.now }
+        requires width { length (row_at other.now row) ≡ length (row_at self.old to) }
+        ensures met { self.new ≡ slice_set self.old to (met true (row_at other.now row) (row_at self.old to)) }
+        ensures changed { (result ≡ false) ↔ (self.new ≡ self.old) }
+    {
+        let to = to as usize * self.stride;
+        let row = row as usize * self.stride;
+        add_words(&mut self.words, to, &other.words, row, self.stride)
+    }
+
+    /// Makes row `to` a row of another table.
+    pub fn copy_from(&mut self, to: u32, other: &Rows, row: u32)
+        requires to { to < length self.old }
+        requires row { row < length other.now }
+        requires width { length (row_at other.now row) ≡ length (row_at self.old to) }
+        ensures { self.new ≡ slice_set self.old to (row_at other.now row) }
+    {
+        let to = to as usize * self.stride;
+        let row = row as usize * self.stride;
+        copy_words(&mut self.words, to, &other.words, row, self.stride);
+    }
+
+    /// The 64 bits of a row that begin with bit 64 * `index`; those outside are clear.
+    pub fn word(&self, row: u32, index: u32) -> u64
+        requires row { row < length self.now }
+        requires index { 64 * index < length (row_at self.now row) }
+        ensures { (k : ℕ) → k < 64 → (bit_at result k == 1) ≡ is_set self.now row (64 * index + k) }
+    {
+        self.words[row as usize * self.stride + index as usize]
+    }
+
+    /// Makes the 64 bits of a row that begin with bit 64 * `index` those of a word.
+    pub fn put_word(&mut self, row: u32, index: u32, word: u64)
+        requires row { row < length self.old }
+        requires index { 64 * index + 64 ≤ length (row_at self.old row) }
+        ensures { self.new ≡ slice_set self.old row (with_word (row_at self.old row) index word) }
+    {
+        self.words[row as usize * self.stride + index as usize] = word;
     }
 }

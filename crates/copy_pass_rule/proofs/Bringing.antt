@@ -1,45 +1,31 @@
--- Rows of bits as a walk changes them.
-use Rattle.std.proofs.Common.{◌≡◌, ◌≢◌, ℕ, suc, ◌+◌, ◌<◌, ◌≤◌, ◌⊎◌, inl, inr, Bool, true, false, true≢false, Some, List, [], ◌∷◌, length, map, refl, sym, ap, ◌∙◌, subst, arith, get_or}
+-- Where a flood tells that copies are missing, some way brings it, and all is told.
+use Rattle.std.proofs.Common.{◌≡◌, ◌≢◌, ℕ, zero, suc, ◌+◌, ◌<◌, ◌≤◌, inl, inr, Bool, true, false, true≢false, Option, Some, None, List, [], ◌∷◌, length, map, refl, sym, ap, ◌∙◌, subst, arith}
 use Rattle.std.specs.Prelude.{◌==◌, ◌||◌, option_map, slice_get}
-use Rattle.std.proofs.lemmas.Bool.{or_right, or_cases, ne_eqb, cases_eq}
+use Rattle.std.proofs.lemmas.Bool.{ne_eqb, cases_eq}
 use Rattle.std.proofs.lemmas.List.{length-map}
-use Rattle.std.proofs.lemmas.Option.{slice_get-map, slice_get_read, slice_get_within}
+use Rattle.std.proofs.lemmas.Option.{slice_get-map, slice_get_within, same_Some, none-some}
 use Rattle.graph_core.specs.Graphs.{Block}
-use Rattle.graph_core.specs.Paths.{Among, front as here, behind as later}
-use Rattle.copy_pass_rule.specs.declared.copies.CopyAt.{CopyAt}
+use Rattle.graph_core.specs.Uses.{target_of}
 use Rattle.graph_paths.specs.declared.marks.Marks.{Marks}
+use Rattle.graph_paths.specs.Flood as flood
+use Rattle.graph_paths.specs.Flood.{Bits, Flows, HasEdge, begun, handed, AreSettled}
+use Rattle.graph_paths.specs.Reached as reached
+use Rattle.graph_paths.specs.Reached.{AreLed}
+use Rattle.graph_paths.specs.PathMarksTable.{bits_of}
+use Rattle.copy_pass_rule.specs.declared.copies.CopyAt.{CopyAt}
 use Rattle.copy_pass_rule.specs.Flow.{Line, line_of, lines_of, IsLed, entry as first_led, leads, IsMissed, at_entry, behind, IsClosed, AreFound, is_written, missing_along}
 use Rattle.copy_pass_rule.specs.Numbered.{AreOfScalars}
-use Rattle.copy_pass_rule.specs.Rows.{AreRows, AreSameBut, AreSameBelow, AreBrought, IsCarried, HasComeTo, AreClosedTo}
-use Rattle.graph_paths.specs.PathMarksTable.{bits_of}
+use Rattle.copy_pass_rule.specs.Rows.{AreParts, missing_past, fact_past, going_missing}
 
-pub among_one : {l a : ℕ} → Among l (a ∷ []) → l ≡ a
-among_one here = refl
-among_one (later a) = elim a [ ]
+or_apart : (a b c : Bool) → ((a || b) || c) ≡ (a || (b || c))
+or_apart true b c = refl
+or_apart false b c = refl
 
-pub among_two : {l a b : ℕ} → Among l (a ∷ b ∷ []) → (l ≡ a) ⊎ (l ≡ b)
-among_two here = inl refl
-among_two (later a) = inr (among_one a)
-
-module _ (copies : List CopyAt) (blocks scalars : ℕ) where
-  -- the rows stay in order where one of a block or of the walk changes
-  pub rows_but : (row : ℕ) (old new : Marks) → row ≤ blocks → AreSameBut row old new → new.count ≡ old.count → new.width ≡ old.width → AreRows copies blocks scalars old → AreRows copies blocks scalars new
-  rows_but row old new le same count width rows = record {
-    count = count ∙ rows.count;
-    width = width ∙ rows.width;
-    zero_row = λ bit. same (blocks + 1) bit (λ q. omega (arith, q, le)) ∙ rows.zero_row bit;
-    parts = λ n k c lt at. same (blocks + 2 + n) (suc k) (λ q. omega (arith, q, le)) ∙ rows.parts n k c lt at;
-    apart = λ n lt. same (blocks + 2 + n) 0 (λ q. omega (arith, q, le)) ∙ rows.apart n lt;
-  }
-
-  or_apart : (a b c : Bool) → ((a || b) || c) ≡ (a || (b || c))
-  or_apart true b c = refl
-  or_apart false b c = refl
-
+module _ (copies : List CopyAt) (scalars : ℕ) where
   -- what a write makes missing, of a scalar
-  pub written_part : (old : Marks) (n k : ℕ) (c : CopyAt) (before : Bool) → n < scalars → slice_get copies k ≡ Some c → AreRows copies blocks scalars old
-      → (bits_of old (blocks + 2 + n) (suc k) || before) ≡ (is_written c.target (Some n) || (is_written c.source (Some n) || before))
-  written_part old n k c before lt at rows = ap (λ z. z || before) (rows.parts n k c lt at) ∙ or_apart (n == c.target) (n == c.source) before
+  pub written_part : (parts : Marks) (n k : ℕ) (c : CopyAt) (before : Bool) → n < scalars → slice_get copies k ≡ Some c → AreParts copies scalars parts
+      → (bits_of parts n (suc k) || before) ≡ (is_written c.target (Some n) || (is_written c.source (Some n) || before))
+  written_part parts n k c before lt at are = ap (λ z. z || before) (are.parts_of n k c lt at) ∙ or_apart (n == c.target) (n == c.source) before
 
   -- and of another name
   pub written_other : (n k : ℕ) (c : CopyAt) (before : Bool) → scalars ≤ n → slice_get copies k ≡ Some c → AreOfScalars copies scalars → before ≡ (is_written c.target (Some n) || (is_written c.source (Some n) || before))
@@ -49,133 +35,77 @@ module _ (copies : List CopyAt) (blocks scalars : ℕ) where
       let two : (n == c.source) ≡ false = ne_eqb n c.source (λ q. omega (arith, q, both.1, le)) in
       sym (ap (λ z. z || ((n == c.source) || before)) one ∙ ap (λ z. z || before) two)
 
-module _ (lines : List Line) (copies : List CopyAt) (blocks : ℕ) where
-  -- what a walk brings to a block is what some way brings
-  pub brought_to : (old new : Marks) (n to : ℕ) (line : Line) → IsCarried lines copies n line blocks old → Among to line.leads → AreSameBut to old new → (to < blocks → (bit : ℕ) → bits_of new to bit ≡ (bits_of old blocks bit || bits_of old to bit))
-      → AreBrought lines copies blocks old → AreBrought lines copies blocks new
-  brought_to old new n to line carried among same there brought = record {
-    entry = λ k c at. kept 0 (suc k) (omega (arith, carried.within)) (brought.entry k c at);
-    led = kept 0 0 (omega (arith, carried.within)) brought.led;
-    is_led = λ m lt e. led_at m lt e (cases_eq m to);
-    is_missed = λ m k c lt at e. missed_at m k c lt at e (cases_eq m to);
+-- the facts, one by one
+pub fact_zero : (copies : List CopyAt) (n : ℕ) (b : Option Block) (before : Bool) → fact_past copies n b 0 before ≡ before
+fact_zero [] n b before = refl
+fact_zero (c ∷ copies) n b before = refl
+
+pub fact_suc : (copies : List CopyAt) (n : ℕ) (b : Option Block) (k : ℕ) (c : CopyAt) (before : Bool) → slice_get copies k ≡ Some c → fact_past copies n b (suc k) before ≡ missing_past c n b before
+fact_suc [] n b k c before at = absurd (none-some c at)
+fact_suc (d ∷ copies) n b zero c before at = ap (λ (e : CopyAt). missing_past e n b before) (same_Some d c at)
+fact_suc (d ∷ copies) n b (suc k) c before at = fact_suc copies n b k c before at
+
+-- what holds of the first fact, and of that of each copy, holds of all
+pub each_fact : (copies : List CopyAt) (P : ℕ → Type 0) → P 0 → ((k : ℕ) (c : CopyAt) → slice_get copies k ≡ Some c → P (suc k)) → (fact : ℕ) → fact < length copies + 1 → P fact
+each_fact copies P first each zero lt = first
+each_fact copies P first each (suc k) lt = (let there = copy_of copies k (omega (arith, lt)) in each k there.0 there.1)
+  where
+    copy_of : (all : List CopyAt) (j : ℕ) → j < length all → (c : CopyAt) × (slice_get all j ≡ Some c)
+    copy_of [] j less = absurd (omega (arith, less))
+    copy_of (c ∷ all) zero less = (c, refl)
+    copy_of (c ∷ all) (suc j) less = copy_of all j (omega (arith, less))
+
+-- the block of a line
+line_block : (blocks : List Block) (n : ℕ) (line : Line) → slice_get (lines_of blocks) n ≡ Some line → (b : Block) × (slice_get blocks n ≡ Some b) × (line ≡ line_of b)
+line_block [] n line at = absurd (none-some line at)
+line_block (b ∷ blocks) zero line at = (b, refl, sym (same_Some (line_of b) line at))
+line_block (b ∷ blocks) (suc n) line at = line_block blocks n line at
+
+line_at : (blocks : List Block) (n : ℕ) (b : Block) → slice_get blocks n ≡ Some b → slice_get (lines_of blocks) n ≡ Some (line_of b)
+line_at blocks n b at = slice_get-map line_of blocks n ∙ ap (option_map line_of) at
+
+led_line : (blocks : List Block) {n : ℕ} → reached.IsLed blocks n → IsLed (lines_of blocks) n
+led_line blocks reached.entry = first_led
+led_line blocks (reached.leads {n = m} b way at among) = leads (line_of b) (led_line blocks way) (line_at blocks m b at) among
+
+module _ (blocks : List Block) (copies : List CopyAt) (led : ℕ → Bool) (are : AreLed blocks led) (begins starts ends : Bits) (first : (fact : ℕ) → fact < length copies + 1 → begins 0 fact ≡ true)
+    (only : (n fact : ℕ) → begins n fact ≡ true → n ≡ 0) (settled : AreSettled (going_missing blocks copies led) begins starts ends) where
+  count : length (lines_of blocks) ≡ length blocks
+  count = length-map blocks line_of
+
+  fact_within : (k : ℕ) (c : CopyAt) → slice_get copies k ≡ Some c → suc k < length copies + 1
+  fact_within k c at = (let lt : k < length copies = slice_get_within copies k c at in omega (arith, lt))
+
+  edge_led : (m n : ℕ) → HasEdge blocks led m n → IsLed (lines_of blocks) n
+  edge_led m n edge = leads (line_of edge.block) (led_line blocks (are.is_led m edge.comes)) (line_at blocks m edge.block edge.is) edge.leads
+
+  -- what comes to a block comes along a way
+  told_led : {n : ℕ} → flood.IsBrought (Flows (going_missing blocks copies led)) (λ m before. fact_past copies m (slice_get blocks m) 0 before) (λ m. begins m 0) n → n < length blocks → IsLed (lines_of blocks) n × (led n ≡ true)
+  told_led {n} (begun e) lt = (subst (λ k. IsLed (lines_of blocks) k) (sym (only n 0 e)) first_led, ap led (only n 0 e) ∙ are.first)
+  told_led {n} (handed {m} before edge come e) lt = (edge_led m n edge, are.leads_on m edge.block n edge.is edge.comes edge.leads lt)
+
+  missed : (k : ℕ) (c : CopyAt) → slice_get copies k ≡ Some c → {n : ℕ} → flood.IsBrought (Flows (going_missing blocks copies led)) (λ m before. fact_past copies m (slice_get blocks m) (suc k) before) (λ m. begins m (suc k)) n → IsMissed (lines_of blocks) c n
+  missed k c at {n} (begun e) = subst (λ j. IsMissed (lines_of blocks) c j) (sym (only n (suc k) e)) at_entry
+  missed k c at {n} (handed {m} before edge come e) =
+      behind (line_of edge.block) before (led_line blocks (are.is_led m edge.comes)) (λ q. missed k c at (come q)) (line_at blocks m edge.block edge.is) edge.leads
+      (ap (λ o. missing_past c m o before) (sym edge.is) ∙ sym (fact_suc copies m (slice_get blocks m) k c before at) ∙ e)
+
+  -- what is found when a flood settles
+  pub found_by : AreFound (lines_of blocks) copies starts
+  found_by = record {
+    entry = λ k c at. settled.brought.begun 0 (suc k) (first (suc k) (fact_within k c at));
+    led = settled.brought.begun 0 0 (first 0 (omega arith));
+    closed = λ n line at way.
+        (let there = line_block blocks n line at in
+        let b = there.0 in
+        let inside : n < length blocks = slice_get_within blocks n b there.1 in
+        let is_open : led n ≡ true = (told_led (settled.brought.brought n 0 inside (omega arith) way) inside).1 in
+        subst (λ (l : Line). IsClosed copies starts (length (lines_of blocks)) n l) (sym there.2) (record {
+          on = λ l lt among. settled.closed n l 0 (record { block = b; is = there.1; comes = is_open; leads = among }) inside (omega (arith, lt, count))
+              (settled.brought.made n 0 inside (omega arith) ∙ fact_zero copies n (slice_get blocks n) (starts n 0) ∙ way);
+          brings = λ l k c lt among copy e. settled.closed n l (suc k) (record { block = b; is = there.1; comes = is_open; leads = among }) inside (omega (arith, lt, count))
+              (settled.brought.made n (suc k) inside (fact_within k c copy) ∙ fact_suc copies n (slice_get blocks n) k c (starts n (suc k)) copy ∙ ap (λ o. missing_past c n o (starts n (suc k))) there.1 ∙ e);
+        }));
+    is_led = λ n lt e. (let inside : n < length blocks = omega (arith, lt, count) in (told_led (settled.brought.brought n 0 inside (omega arith) e) inside).0);
+    is_missed = λ n k c lt at e. missed k c at (settled.brought.brought n (suc k) (omega (arith, lt, count)) (fact_within k c at) e);
   }
-    where
-      kept : (m bit : ℕ) → m < blocks → bits_of old m bit ≡ true → bits_of new m bit ≡ true
-      kept m bit lt e = elim (cases_eq m to) [
-        | inl q ↦ (let l : to < blocks = omega (arith, q, lt) in
-            ap (λ r. bits_of new r bit) q ∙ there l bit ∙ or_right (bits_of old blocks bit) (bits_of old to bit) (ap (λ r. bits_of old r bit) (sym q) ∙ e))
-        | inr q ↦ same m bit q ∙ e
-      ]
-
-      led_at : (m : ℕ) → m < blocks → bits_of new m 0 ≡ true → ((m ≡ to) ⊎ (m ≢ to)) → IsLed lines m
-      led_at m lt e (inl q) = subst (λ r. IsLed lines r) (sym q) (leads line carried.led carried.is among)
-      led_at m lt e (inr q) = brought.is_led m lt (sym (same m 0 q) ∙ e)
-
-      missed_at : (m k : ℕ) (c : CopyAt) → m < blocks → slice_get copies k ≡ Some c → bits_of new m (suc k) ≡ true → ((m ≡ to) ⊎ (m ≢ to)) → IsMissed lines c m
-      missed_at m k c lt at e (inr q) = brought.is_missed m k c lt at (sym (same m (suc k) q) ∙ e)
-      missed_at m k c lt at e (inl q) =
-          let l : to < blocks = omega (arith, q, lt) in
-          let either : (bits_of old blocks (suc k) || bits_of old to (suc k)) ≡ true = sym (there l (suc k)) ∙ ap (λ r. bits_of new r (suc k)) (sym q) ∙ e in
-          elim (or_cases (bits_of old blocks (suc k)) (bits_of old to (suc k)) either) [
-            | inl came ↦ (let by = carried.missed k c at came in subst (λ r. IsMissed lines c r) (sym q) (behind line by.0 carried.led by.1 carried.is among by.2))
-            | inr had ↦ brought.is_missed m k c lt at (ap (λ r. bits_of old r (suc k)) q ∙ had)
-          ]
-
-  -- blocks that are not written are as they were
-  pub brought_same : (old new : Marks) → AreSameBut blocks old new → 0 < blocks → AreBrought lines copies blocks old → AreBrought lines copies blocks new
-  brought_same old new same some brought = record {
-    entry = λ k c at. same 0 (suc k) (λ q. omega (arith, q, some)) ∙ brought.entry k c at;
-    led = same 0 0 (λ q. omega (arith, q, some)) ∙ brought.led;
-    is_led = λ m lt e. brought.is_led m lt (sym (same m 0 (λ q. omega (arith, q, lt))) ∙ e);
-    is_missed = λ m k c lt at e. brought.is_missed m k c lt at (sym (same m (suc k) (λ q. omega (arith, q, lt))) ∙ e);
-  }
-
-  -- what a walk over a block carries
-  pub carried_by : (old new : Marks) (n : ℕ) (line : Line) → n < blocks → slice_get lines n ≡ Some line → bits_of old n 0 ≡ true → AreBrought lines copies blocks old
-      → ((k : ℕ) (c : CopyAt) → slice_get copies k ≡ Some c → bits_of new blocks (suc k) ≡ missing_along c n line.writes (bits_of old n (suc k))) → IsCarried lines copies n line blocks new
-  carried_by old new n line lt at way brought walk = record {
-    within = lt;
-    is = at;
-    led = brought.is_led n lt way;
-    missed = λ k c there e. (bits_of old n (suc k), (λ q. brought.is_missed n k c lt there q), sym (walk k c there) ∙ e);
-  }
-
-  pub carried_on : (old new : Marks) (n : ℕ) (line : Line) → ((bit : ℕ) → bits_of new blocks bit ≡ bits_of old blocks bit) → IsCarried lines copies n line blocks old → IsCarried lines copies n line blocks new
-  carried_on old new n line same carried = record {
-    within = carried.within;
-    is = carried.is;
-    led = carried.led;
-    missed = λ k c at e. carried.missed k c at (sym (same (suc k)) ∙ e);
-  }
-
--- a block that has brought on all that it has, where nothing changed by that
-pub closed_by : (copies : List CopyAt) (blocks n : ℕ) (line : Line) (first walked last : Marks) → n < blocks → bits_of first n 0 ≡ true
-    → AreSameBut blocks first walked → bits_of walked blocks 0 ≡ bits_of first n 0 → ((k : ℕ) (c : CopyAt) → slice_get copies k ≡ Some c → bits_of walked blocks (suc k) ≡ missing_along c n line.writes (bits_of first n (suc k)))
-    → ((bit : ℕ) → bits_of last blocks bit ≡ bits_of walked blocks bit) → ((l : ℕ) → l < blocks → Among l line.leads → HasComeTo blocks l last) → AreSameBelow blocks walked last → IsClosed copies (bits_of last) blocks n line
-closed_by copies blocks n line first walked last lt way others led walk still come quiet = record {
-  on = λ l small among. come l small among 0 (still 0 ∙ led ∙ way);
-  brings = λ l k c small among at e. come l small among (suc k) (still (suc k) ∙ walk k c at ∙ ap (missing_along c n line.writes) (sym (others n (suc k) (λ q. omega (arith, q, lt))) ∙ sym (quiet n (suc k) lt)) ∙ e);
-}
-
-pub closed_still : (copies : List CopyAt) (blocks n : ℕ) (line : Line) (old new : Marks) → n < blocks → AreSameBelow blocks old new → IsClosed copies (bits_of old) blocks n line → IsClosed copies (bits_of new) blocks n line
-closed_still copies blocks n line old new lt same closed = record {
-  on = λ l small among. same l 0 small ∙ closed.on l small among;
-  brings = λ l k c small among at e. same l (suc k) small ∙ closed.brings l k c small among at (ap (missing_along c n line.writes) (sym (same n (suc k) lt)) ∙ e);
-}
-
--- The rows in which nothing was brought yet: the parts of copies are put, and all is put at the entry.
-module _ (copies : List CopyAt) (blocks scalars : ℕ) (old new : Marks) (some : 0 < blocks) (same : AreSameBut 0 old new)
-    (below : (row bit : ℕ) → row < blocks + 2 → bits_of old row bit ≡ false) (entry : (bit : ℕ) → bit < length copies + 1 → bits_of new 0 bit ≡ true) where
-  pub rows_first : old.count ≡ blocks + 2 + scalars → new.count ≡ old.count → old.width ≡ length copies + 1 → new.width ≡ old.width
-      → ((n k : ℕ) (c : CopyAt) → n < scalars → slice_get copies k ≡ Some c → bits_of old (blocks + 2 + n) (suc k) ≡ ((n == c.target) || (n == c.source))) → ((n : ℕ) → bits_of old (blocks + 2 + n) 0 ≡ false)
-      → AreRows copies blocks scalars new
-  rows_first count counts width widths parts apart = record {
-    count = counts ∙ count;
-    width = widths ∙ width;
-    zero_row = λ bit. same (blocks + 1) bit (λ q. omega (arith, q)) ∙ below (blocks + 1) bit (omega arith);
-    parts = λ n k c lt at. same (blocks + 2 + n) (suc k) (λ q. omega (arith, q)) ∙ parts n k c lt at;
-    apart = λ n lt. same (blocks + 2 + n) 0 (λ q. omega (arith, q)) ∙ apart n;
-  }
-
-  pub brought_first : (lines : List Line) → AreBrought lines copies blocks new
-  brought_first lines = record {
-    entry = λ k c at. (let lt : k < length copies = slice_get_within copies k c at in entry (suc k) (omega (arith, lt)));
-    led = entry 0 (omega arith);
-    is_led = λ n lt e. elim (cases_eq n 0) [ inl q ↦ subst (λ m. IsLed lines m) (sym q) entry_led | inr q ↦ absurd (true≢false (sym e ∙ same n 0 q ∙ below n 0 (omega (arith, lt)))) ];
-    is_missed = λ n k c lt at e. elim (cases_eq n 0) [ inl q ↦ subst (λ m. IsMissed lines c m) (sym q) entry_missed | inr q ↦ absurd (true≢false (sym e ∙ same n (suc k) q ∙ below n (suc k) (omega (arith, lt)))) ];
-  }
-    where
-      entry_led : IsLed lines 0
-      entry_led = first_led
-
-      entry_missed : {c : CopyAt} → IsMissed lines c 0
-      entry_missed = at_entry
-
--- what is found when nothing is new any more
-pub found_by : (lines : List Line) (copies : List CopyAt) (blocks : ℕ) (marks : Marks) → blocks ≡ length lines → AreBrought lines copies blocks marks → AreClosedTo copies blocks blocks marks lines → AreFound lines copies (bits_of marks)
-found_by lines copies blocks marks count brought closed = record {
-  entry = brought.entry;
-  led = brought.led;
-  closed = λ n line at way. (let lt : n < length lines = slice_get_within lines n line at in
-      subst (λ m. IsClosed copies (bits_of marks) m n line) count (closed n line (omega (arith, lt, count)) at way));
-  is_led = λ n lt e. brought.is_led n (omega (arith, lt, count)) e;
-  is_missed = λ n k c lt at e. brought.is_missed n k c (omega (arith, lt, count)) at e;
-}
-
--- the line of a block
-pub line_there : {A : Type 0} (view : A → Block) (all : List A) (n : ℕ) (x : A) → n < length all → x ≡ get_or all n x → slice_get (lines_of (map view all)) n ≡ Some (line_of (view x))
-line_there view all n x lt e = slice_get-map line_of (map view all) n ∙ ap (option_map line_of) (slice_get-map view all n ∙ ap (option_map view) (slice_get_read all (length all) n x refl lt e))
-
--- one block more has brought on what it has
-pub closed_more : (copies : List CopyAt) (blocks count : ℕ) (old new : Marks) (lines : List Line) → count < blocks → AreSameBelow blocks old new
-    → ((line : Line) → slice_get lines count ≡ Some line → bits_of new count 0 ≡ true → IsClosed copies (bits_of new) blocks count line) → AreClosedTo copies blocks count old lines → AreClosedTo copies blocks (count + 1) new lines
-closed_more copies blocks count old new lines small same brings closed n line lt at way = elim (cases_eq n count) [
-  | inl q ↦ (let at_count : slice_get lines count ≡ Some line = ap (slice_get lines) (sym q) ∙ at in
-      subst (λ m. IsClosed copies (bits_of new) blocks m line) (sym q) (brings line at_count (ap (λ m. bits_of new m 0) (sym q) ∙ way)))
-  | inr q ↦ (let below : n < count = omega (arith, lt, q) in
-      let within : n < blocks = omega (arith, below, small) in
-      closed_still copies blocks n line old new within same (closed n line below at (sym (same n 0 within) ∙ way)))
-]
-
-pub lines_count : {A : Type 0} (view : A → Block) (all : List A) → length (lines_of (map view all)) ≡ length all
-lines_count view all = length-map (map view all) line_of ∙ length-map all view

@@ -2,6 +2,7 @@ pub mod Missing
 pub mod Points
 pub mod ByRule
 pub mod Bringing
+pub mod Parting
 pub mod Walked
 pub mod Known
 pub mod Lists

@@ -5,11 +5,10 @@ ghost use Rattle.graph_core.specs.Graphs.{Move, Name as NameOf, block_view, grap
 ghost use Rattle.copy_pass_rule.specs.Copying.{AreOfOneType, IsPropagated};
 ghost use Rattle.copy_pass_rule.specs.Flow.{AreRead, AreReadBlocks, IsKnown, IsReadBlock, missing_in};
 ghost use Rattle.copy_pass_rule.specs.Known.{IsNoCopy, type_in};
-ghost use Rattle.copy_pass_rule.specs.Rows.{AreRows, AreSameBut};
 ghost use Rattle.graph_paths.specs.PathMarksTable.{bits_of};
 
 use crate::copies::{Copies, CopyAt};
-use crate::flow::{begin, find_missing, step};
+use crate::flow::{find_missing, step};
 use crate::reading::Reader;
 use graph_core::{Block, Graph, Instr, Operand, Scalar};
 use graph_paths::Marks;
@@ -79,32 +78,31 @@ fn read_instructions(
     alloc: Global,
     scalars: &[Scalar],
     copies: &Copies<'_>,
-    blocks: u32,
-    marks: &mut Marks,
+    walk: &mut Marks,
     number: u32,
     instructions: &[Instr],
 ) -> Result<Option<Vec<Instr>>, AllocError>
-    requires rows { AreRows copies.now.all.now blocks copies.now.scalars marks.old }
-    requires few { blocks + 2 + copies.now.scalars < 2 ^ 32 }
+    requires row { 0 < walk.old.count }
+    requires width { walk.old.width ≡ length copies.now.all.now + 1 }
     requires narrow { length copies.now.all.now + 1 < 2 ^ 32 }
-    ensures rows { OnOk result (AreRows copies.now.all.now blocks copies.now.scalars marks.new) }
-    ensures others { OnOk result (AreSameBut blocks marks.old marks.new) }
-    ensures read { IfOk result (λ o. IfSome o (λ made. AreRead (map scalar_view scalars.now) copies.now.all.now number (map instruction_view instructions.now) (missing_in (bits_of marks.old) blocks) (map instruction_view made.items) (missing_in (bits_of marks.new) blocks))) }
+    ensures same_count { OnOk result (walk.new.count ≡ walk.old.count) }
+    ensures same_width { OnOk result (walk.new.width ≡ walk.old.width) }
+    ensures read { IfOk result (λ o. IfSome o (λ made. AreRead (map scalar_view scalars.now) copies.now.all.now number (map instruction_view instructions.now) (missing_in (bits_of walk.old) 0) (map instruction_view made.items) (missing_in (bits_of walk.new) 0))) }
 {
     let mut read = Vec::new(alloc);
     let mut ahead = instructions;
     while let [instruction, rest @ ..] = ahead {
         let reader = Reader {
             copies: &*copies,
-            row: blocks,
-            marks: &*marks,
+            row: 0,
+            marks: &*walk,
         };
         let made = reader.read_instruction(alloc, instruction)?;
         if !is_known(scalars, copies, number, rest.len(), &made) {
             return Ok(None);
         }
         let target = instruction.target();
-        step(copies, blocks, marks, number, rest.len(), target);
+        step(copies, walk, 0, number, rest.len(), target);
         read.push(made)?;
         ahead = rest;
     }
@@ -116,41 +114,34 @@ fn read_block(
     alloc: Global,
     scalars: &[Scalar],
     copies: &Copies<'_>,
-    blocks: u32,
-    marks: &mut Marks,
+    starts: &Marks,
+    walk: &mut Marks,
     number: u32,
     block: &Block,
 ) -> Result<Option<Block>, AllocError>
-    requires rows { AreRows copies.now.all.now blocks copies.now.scalars marks.old }
-    requires few { blocks + 2 + copies.now.scalars < 2 ^ 32 }
+    requires row { 0 < walk.old.count }
+    requires width { walk.old.width ≡ length copies.now.all.now + 1 }
+    requires widths { starts.now.width ≡ length copies.now.all.now + 1 }
     requires narrow { length copies.now.all.now + 1 < 2 ^ 32 }
-    requires block { number < blocks }
-    ensures rows { OnOk result (AreRows copies.now.all.now blocks copies.now.scalars marks.new) }
-    ensures others { OnOk result (AreSameBut blocks marks.old marks.new) }
-    ensures read { IfOk result (λ o. IfSome o (λ made. IsReadBlock (map scalar_view scalars.now) copies.now.all.now (bits_of marks.old) number (block_view block.now) (block_view made))) }
+    requires block { number < starts.now.count }
+    ensures same_count { OnOk result (walk.new.count ≡ walk.old.count) }
+    ensures same_width { OnOk result (walk.new.width ≡ walk.old.width) }
+    ensures read { IfOk result (λ o. IfSome o (λ made. IsReadBlock (map scalar_view scalars.now) copies.now.all.now (bits_of starts.now) number (block_view block.now) (block_view made))) }
 {
-    if !marks.get(number, 0) {
+    if !starts.get(number, 0) {
         let same = block.duplicate(alloc)?;
         return Ok(Some(same));
     }
-    begin(copies, blocks, marks, number);
+    walk.copy_from(0, starts, number);
     let instructions = &block.instructions;
-    let Some(instructions) = read_instructions(
-        alloc,
-        scalars,
-        copies,
-        blocks,
-        marks,
-        number,
-        instructions,
-    )?
+    let Some(instructions) = read_instructions(alloc, scalars, copies, walk, number, instructions)?
     else {
         return Ok(None);
     };
     let reader = Reader {
         copies: &*copies,
-        row: blocks,
-        marks: &*marks,
+        row: 0,
+        marks: &*walk,
     };
     Ok(Some(Block {
         place: block.place,
@@ -164,20 +155,22 @@ fn read_blocks(
     alloc: Global,
     scalars: &[Scalar],
     copies: &Copies<'_>,
-    marks: &mut Marks,
+    starts: &Marks,
     blocks: &[Block],
 ) -> Result<Option<Vec<Block>>, AllocError>
-    requires rows { AreRows copies.now.all.now (length blocks.now) copies.now.scalars marks.old }
-    requires few { length blocks.now + 2 + copies.now.scalars < 2 ^ 32 }
+    requires count { starts.now.count ≡ length blocks.now }
+    requires widths { starts.now.width ≡ length copies.now.all.now + 1 }
+    requires few { length blocks.now < 2 ^ 32 }
     requires narrow { length copies.now.all.now + 1 < 2 ^ 32 }
-    ensures { IfOk result (λ o. IfSome o (λ made. AreReadBlocks (map scalar_view scalars.now) copies.now.all.now (bits_of marks.old) 0 (map block_view blocks.now) (map block_view made.items))) }
+    ensures { IfOk result (λ o. IfSome o (λ made. AreReadBlocks (map scalar_view scalars.now) copies.now.all.now (bits_of starts.now) 0 (map block_view blocks.now) (map block_view made.items))) }
 {
-    let count = blocks.len() as u32;
+    let mut walk = Marks::new(alloc, 1, copies.all.len() as u32 + 1)?;
     let mut number = 0u32;
     let mut read = Vec::new(alloc);
     let mut ahead = blocks;
     while let [block, rest @ ..] = ahead {
-        let Some(made) = read_block(alloc, scalars, copies, count, marks, number, block)? else {
+        let Some(made) = read_block(alloc, scalars, copies, starts, &mut walk, number, block)?
+        else {
             return Ok(None);
         };
         read.push(made)?;
@@ -201,16 +194,12 @@ pub fn propagated(
     if graph.blocks.is_empty() || rows > 0x7fff_ffff || copies.len() > 0x7fff_ffff {
         return Ok(None);
     }
-    let count = graph.blocks.len() as u32;
     let scalars = graph.scalars.len() as u32;
     let Some(copies) = Copies::new(alloc, copies, graph.blocks.len(), scalars)? else {
         return Ok(None);
     };
-    let Some(mut marks) = find_missing(alloc, &copies, count, &graph.blocks)? else {
-        return Ok(None);
-    };
-    let Some(blocks) = read_blocks(alloc, &graph.scalars, &copies, &mut marks, &graph.blocks)?
-    else {
+    let starts = find_missing(alloc, &copies, &graph.blocks)?;
+    let Some(blocks) = read_blocks(alloc, &graph.scalars, &copies, &starts, &graph.blocks)? else {
         return Ok(None);
     };
     Ok(Some(Graph {

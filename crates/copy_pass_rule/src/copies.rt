@@ -1,10 +1,12 @@
 //! Copies by their numbers.
 
-ghost use Rattle.std.specs.Prelude.{◌≡◌, ℕ, Some, IfOk, IfSome, MatchOption, slice_get, true, false};
+ghost use Rattle.std.specs.Prelude.{◌≡◌, ℕ, ◌+◌, ◌<◌, ◌^◌, Some, IfOk, IfSome, MatchOption, length, slice_get, true, false};
 ghost use Rattle.copy_pass_rule.specs.declared.copies.CopyAt as declared-copy;
 ghost use Rattle.copy_pass_rule.specs.Flow.{stands_at};
 ghost use Rattle.copy_pass_rule.specs.Numbered.{AreNumbered, AreOfScalars, IsOnlyOne, number_at};
+ghost use Rattle.copy_pass_rule.specs.Rows.{AreParts};
 
+use graph_paths::Marks;
 use std::alloc::{AllocError, Global};
 
 /// A copy of one scalar to another: its block, how many instructions stand behind it there, and the two scalars.
@@ -85,14 +87,31 @@ fn numbers_of(alloc: Global, all: &[CopyAt], blocks: usize) -> Result<Vec<Vec<u3
     Ok(numbers)
 }
 
+/// In the row of each scalar the copies of which it is a part.
+fn parts_of(alloc: Global, all: &[CopyAt], scalars: u32) -> Result<Marks, AllocError>
+    requires narrow { length all.now + 1 < 2 ^ 32 }
+    requires of_scalars { AreOfScalars all.now scalars }
+    ensures { IfOk result (λ parts. AreParts all.now scalars parts) }
+{
+    let mut parts = Marks::new(alloc, scalars, all.len() as u32 + 1)?;
+    for (k, copy) in all.iter().enumerate() {
+        parts.put(copy.target, k as u32 + 1, true);
+        parts.put(copy.source, k as u32 + 1, true);
+    }
+    Ok(parts)
+}
+
 /// Copies by their numbers.
 #[derive(Drop)]
 pub struct Copies<'a> {
     pub all: &'a [CopyAt],
     numbers: Vec<Vec<u32>>,
     pub scalars: u32,
+    /// For each scalar the copies of which it is a part.
+    pub parts: Marks,
     ghost numbered: { AreNumbered all.now numbers.items },
     ghost of_scalars: { AreOfScalars all.now scalars },
+    ghost are_parts: { AreParts all.now scalars parts },
 }
 
 impl<'a> Copies<'a> {
@@ -103,6 +122,7 @@ impl<'a> Copies<'a> {
         blocks: usize,
         scalars: u32,
     ) -> Result<Option<Copies<'a>>, AllocError>
+        requires narrow { length all.now + 1 < 2 ^ 32 }
         ensures all { IfOk result (λ o. IfSome o (λ copies. copies.all.now ≡ all.now)) }
         ensures scalars { IfOk result (λ o. IfSome o (λ copies. copies.scalars ≡ scalars)) }
     {
@@ -112,6 +132,7 @@ impl<'a> Copies<'a> {
                 all,
                 numbers,
                 scalars,
+                parts: parts_of(alloc, all, scalars)?,
             }))
         } else {
             Ok(None)

@@ -3,7 +3,7 @@ use Rattle.std.proofs.Common.{◌≡◌, ◌≢◌, ℕ, suc, ◌+◌, ◌-◌, 
 use Rattle.std.specs.Prelude.{if◌then◌else◌, slice_get}
 use Rattle.std.proofs.lemmas.Bool.{cases_eq}
 use Rattle.std.proofs.lemmas.List.{get_or-map, length-map, take_all, take_more}
-use Rattle.std.proofs.lemmas.Option.{same_Some}
+use Rattle.std.proofs.lemmas.Option.{slice_get_within}
 use Rattle.graph_core.specs.Graphs.{Instruction, End, Block, Graph}
 use Rattle.graph_core.specs.Uses.{target_of, targets_of}
 use Rattle.graph_core.specs.Paths.{Among, goes, Path, path, writes}
@@ -14,7 +14,8 @@ use Rattle.graph_paths.proofs.Points.{point_reached}
 use Rattle.dead_pass_rule.specs.Certified.{AreIdle}
 use Rattle.dead_pass_rule.specs.Walks.{AreSameBut, is_written}
 use Rattle.dead_pass_notes.specs.Stale.{ComesStale}
-use Rattle.dead_pass_notes.specs.Rows.{stale_behind, IsLedTo, AreStale, TellsOn}
+use Rattle.dead_pass_notes.specs.Rows.{stale_behind, stale_past, going_stale, IsStaleAt, TellsOn}
+use Rattle.graph_paths.specs.Flood.{Bits, Flows, IsBrought, begun, handed, AreSettled}
 use Rattle.dead_pass_notes.proofs.Points.{stale_more, told_so}
 
 -- a walk goes on over one instruction
@@ -55,39 +56,21 @@ module _ (g : Graph) where
         told_so g going are x n b at [] b.instructions [] was (sym whole) (point_reached g led leads n b [] (b.instructions ++ []) at (sym whole) way)
         (λ e. subst (λ l. ComesStale g x n l b.end) (sym whole) (so e)) told
 
-    -- rows in which it is told where a block leads what is stale at its end
-    pub stale_more_rows : (count : ℕ) (old mid new : Marks) → count ≡ length g.blocks → AreSameBut count old mid → ((x : ℕ) → x < names → bits_of mid count x ≡ stale_behind (going n) x (bits_of old n x) b.instructions 0)
-        → ((m x : ℕ) → bits_of new m x ≡ true → (bits_of mid m x ≡ true) ⊎ IsLedTo b.end m (bits_of mid count x)) → n < length g.blocks → AreStale g names old → AreStale g names new
-    stale_more_rows count old mid new whole others walked only here stale m x inside named told = λ c there.
-        elim (only m x told) [
-          | inl was ↦ (let apart : m ≢ count = λ q. omega (arith, q, whole, inside) in stale m x inside named (sym (others m x apart) ∙ was) c there)
-          | inr to ↦ stale_on x n m b.end c (stale_at_end x (bits_of old n x) (λ e. stale n x here named e b at) (sym (walked x named) ∙ to.1)) to.0 there
-        ]
+-- what a flood brings is stale, and it tells all
+module _ (g : Graph) (going : (block left : ℕ) → Bool) (are : AreIdle g going) (led : ℕ → Bool) (leads : AreLed g.blocks led) where
+  brought_stale : (x : ℕ) (begins : ℕ → Bool) → ((m : ℕ) → begins m ≡ false) → {n : ℕ} → IsBrought (Flows (going_stale g going led)) (λ m was. stale_past (going m) x was (slice_get g.blocks m)) begins n → IsStaleAt g x n
+  brought_stale x begins none {n} (begun e) = absurd (true≢false (sym e ∙ none n))
+  brought_stale x begins none {n} (handed {m} was edge come e) = λ c at.
+      stale_on g x m n edge.block.end c
+      (stale_at_end g going are led leads g.name_count m edge.block edge.is edge.comes x was (λ q. brought_stale x begins none (come q) edge.block edge.is) (sym (ap (stale_past (going m) x was) edge.is) ∙ e))
+      edge.leads at
 
-    -- where nothing is new, all is told
-    pub tells_on : (count : ℕ) (old mid new : Marks) → count ≡ length g.blocks → AreSameBut count old mid → ((x : ℕ) → x < names → bits_of mid count x ≡ stale_behind (going n) x (bits_of old n x) b.instructions 0)
-        → ((l : ℕ) → Among l (targets_of b.end) → l < count → (x : ℕ) → bits_of mid count x ≡ true → bits_of new l x ≡ true) → ((m x : ℕ) → bits_of new m x ≡ bits_of mid m x) → n < length g.blocks → TellsOn g going led names (bits_of new) n
-    tells_on count old mid new whole others walked come quiet here = λ c l x there led_there to inside named told.
-        (let same : c ≡ b = same_Some c b (sym there ∙ at) in
-        let apart : n ≢ count = λ q. omega (arith, q, whole, here) in
-        let was : bits_of new n x ≡ bits_of old n x = quiet n x ∙ others n x apart in
-        let end : stale_behind (going n) x (bits_of old n x) b.instructions 0 ≡ true = ap (λ v. stale_behind (going n) x v b.instructions 0) (sym was) ∙ ap (λ (d : Block). stale_behind (going n) x (bits_of new n x) d.instructions 0) (sym same) ∙ told in
-        come l (subst (λ (d : Block). Among l (targets_of d.end)) same to) (omega (arith, whole, inside)) x (walked x named ∙ end))
+  module _ (begins starts ends : Bits) (none : (n x : ℕ) → begins n x ≡ false) (settled : AreSettled (going_stale g going led) begins starts ends) where
+    pub flood_stale : (n x : ℕ) → n < length g.blocks → x < g.name_count → starts n x ≡ true → IsStaleAt g x n
+    flood_stale n x inside named told = brought_stale x (λ m. begins m x) (λ m. none m x) (settled.brought.brought n x inside named told)
 
--- what is not led to tells nothing
-pub tells_nothing : (g : Graph) (going : (block left : ℕ) → Bool) (led : ℕ → Bool) (names : ℕ) (told : (n x : ℕ) → Bool) (n : ℕ) → led n ≡ false → TellsOn g going led names told n
-tells_nothing g going led names told n none = λ b l x at way to inside named e. absurd (true≢false (sym way ∙ none))
-
--- where rows are the same, the same is told
-pub tells_same : (g : Graph) (going : (block left : ℕ) → Bool) (led : ℕ → Bool) (names : ℕ) (old new : (n x : ℕ) → Bool) (n : ℕ) → n < length g.blocks → ((m x : ℕ) → m < length g.blocks → new m x ≡ old m x) → TellsOn g going led names old n
-    → TellsOn g going led names new n
-tells_same g going led names old new n here same tells = λ b l x at way to inside named e.
-    same l x inside ∙ tells b l x at way to inside named (ap (λ v. stale_behind (going n) x v b.instructions 0) (sym (same n x here)) ∙ e)
-
--- one block more tells
-pub tells_more : (g : Graph) (going : (block left : ℕ) → Bool) (led : ℕ → Bool) (names : ℕ) (old new : (n x : ℕ) → Bool) (k : ℕ) → k < length g.blocks → ((m x : ℕ) → m < length g.blocks → new m x ≡ old m x) → ((n : ℕ) → n < k → TellsOn g going led names old n)
-    → TellsOn g going led names new k → (n : ℕ) → n < k + 1 → TellsOn g going led names new n
-tells_more g going led names old new k here same tells on n lt = elim (cases_eq n k) [
-  | inl q ↦ subst (λ m. TellsOn g going led names new m) (sym q) on
-  | inr q ↦ (let below : n < k = omega (arith, lt, q) in tells_same g going led names old new n (omega (arith, below, here)) same (tells n below))
-]
+    pub flood_tells : (n : ℕ) → TellsOn g going led g.name_count starts n
+    flood_tells n b l x at way to inside named told =
+        let here : n < length g.blocks = slice_get_within g.blocks n b at in
+        settled.closed n l x (record { block = b; is = at; comes = way; leads = to }) here inside
+        (settled.brought.made n x here named ∙ ap (stale_past (going n) x (starts n x)) at ∙ told)

@@ -1,9 +1,10 @@
--- Rows by which it is found which names are stale: one for each of so many blocks, that tells of its start, one for the point to which a walk has come, and one without bits.
-use Rattle.std.specs.Prelude.{◌≡◌, ℕ, ◌+◌, ◌<◌, Bool, true, if◌then◌else◌, Some, List, [], ◌∷◌, length, slice_get}
-use Rattle.graph_core.specs.Graphs.{Instruction, End, Block, Graph}
+-- Rows that tell which names are stale: one for each of so many blocks, that tells of its start, one for the point to which a walk has come, and one without bits.
+use Rattle.std.specs.Prelude.{◌≡◌, ℕ, ◌+◌, ◌<◌, Bool, true, if◌then◌else◌, Option, Some, None, List, [], ◌∷◌, length, slice_get}
+use Rattle.graph_core.specs.Graphs.{Instruction, Block, Graph}
 use Rattle.graph_core.specs.Uses.{targets_of}
 use Rattle.graph_core.specs.Paths.{Among, writes}
 use Rattle.graph_paths.specs.declared.marks.Marks.{Marks}
+use Rattle.graph_paths.specs.Flood.{Course}
 use Rattle.graph_paths.specs.PathMarksTable.{bits_of}
 use Rattle.dead_pass_notes.specs.Stale.{ComesStale}
 
@@ -11,14 +12,6 @@ use Rattle.dead_pass_notes.specs.Stale.{ComesStale}
 abbrev pub stale_behind : (goes : (left : ℕ) → Bool) → (x : ℕ) → Bool → List Instruction → (left : ℕ) → Bool
 stale_behind goes x was [] left = was
 stale_behind goes x was (i ∷ before) left = stale_behind goes x (if writes x i then goes (length before + left) else was) before left
-
--- what is told was told, or there is more
-abbrev pub AreMore : Marks → Marks → Type 0
-AreMore old new = (n x : ℕ) → bits_of old n x ≡ true → bits_of new n x ≡ true
-
--- an end leads to this block, and it is told at the walk's point
-abbrev pub IsLedTo : End → (n : ℕ) → (told : Bool) → Type 0
-IsLedTo e n told = Among n (targets_of e) × (told ≡ true)
 
 -- a name that is told of at the start of a block is stale there on some path
 abbrev pub IsStaleAt : Graph → (x n : ℕ) → Type 0
@@ -35,3 +28,12 @@ TellsOn g goes led names told n =
 -- so it is of each block
 abbrev pub AreAll : Graph → (goes : (block left : ℕ) → Bool) → (led : ℕ → Bool) → (names : ℕ) → (told : (n x : ℕ) → Bool) → Type 0
 AreAll g goes led names told = (n : ℕ) → n < length g.blocks → TellsOn g goes led names told n
+
+-- whether a name is stale behind a block, from whether it is before it
+abbrev pub stale_past : (goes : (left : ℕ) → Bool) → (x : ℕ) → Bool → Option Block → Bool
+stale_past goes x was None = was
+stale_past goes x was (Some b) = stale_behind goes x was b.instructions 0
+
+-- how the names flow that are stale: as execution goes, through the blocks to which ways lead
+abbrev pub going_stale : Graph → (goes : (block left : ℕ) → Bool) → (led : ℕ → Bool) → Course
+going_stale g goes led = record { blocks = g.blocks; is_open = led; forward = true; width = g.name_count; does = λ n x was. stale_past (goes n) x was (slice_get g.blocks n) }

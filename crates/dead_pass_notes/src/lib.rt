@@ -4,7 +4,6 @@
 mod blocks;
 mod graphs;
 mod idle_graph;
-mod leads;
 mod notes;
 mod recipes;
 mod rows;

@@ -147,9 +147,7 @@ impl<'a> Notes<'a> {
         if idle.graph.blocks.len() > 0x7fff_ffff {
             return Ok(None);
         }
-        let Some(stale) = stale_names(alloc, idle.graph, &idle.turns, &idle.reached, &order)? else {
-            return Ok(None);
-        };
+        let stale = stale_names(alloc, idle.graph, &idle.turns, &idle.reached, &order)?;
         Ok(Some(Notes {
             removed,
             stale,

@@ -12,16 +12,34 @@ use dead_pass_rule::turn_at;
 use graph_core::{Instr, Name};
 use graph_paths::Marks;
 
-/// Tells at the walk's point whether a name is stale.
-fn put_name(blocks: u32, names: u32, marks: &mut Marks, name: u32, value: bool)
-    requires table { IsTable blocks names marks.old }
-    ensures table { IsTable blocks names marks.new }
-    ensures others { AreSameBut blocks marks.old marks.new }
-    ensures there { name < names → bits_of marks.new blocks name ≡ value }
-    ensures rest { (x : ℕ) → x ≢ name → bits_of marks.new blocks x ≡ bits_of marks.old blocks x }
+/// Tells in a row whether a name is stale.
+fn put_name(row: u32, names: u32, marks: &mut Marks, name: u32, value: bool)
+    requires row { row < marks.old.count }
+    requires width { marks.old.width ≡ names }
+    ensures others { AreSameBut row marks.old marks.new }
+    ensures there { name < names → bits_of marks.new row name ≡ value }
+    ensures rest { (x : ℕ) → x ≢ name → bits_of marks.new row x ≡ bits_of marks.old row x }
+    ensures same_count { marks.new.count ≡ marks.old.count }
+    ensures same_width { marks.new.width ≡ marks.old.width }
 {
     if name < names {
-        marks.put(blocks, name, value);
+        marks.put(row, name, value);
+    }
+}
+
+/// Goes in a row over an instruction that writes a name, or none: it is stale behind it, if the write goes.
+fn step_in(row: u32, names: u32, marks: &mut Marks, target: Option<Name>, goes: bool)
+    requires row { row < marks.old.count }
+    requires width { marks.old.width ≡ names }
+    ensures others { AreSameBut row marks.old marks.new }
+    ensures walk { (x : ℕ) → x < names
+        → bits_of marks.new row x
+        ≡ (if is_written x (option_map (λ (n : declared-name.Name). n.0) target) then goes else bits_of marks.old row x) }
+    ensures same_count { marks.new.count ≡ marks.old.count }
+    ensures same_width { marks.new.width ≡ marks.old.width }
+{
+    if let Some(name) = target {
+        put_name(row, names, marks, name.0, goes);
     }
 }
 
@@ -32,9 +50,7 @@ pub fn step(blocks: u32, names: u32, marks: &mut Marks, target: Option<Name>, go
     ensures others { AreSameBut blocks marks.old marks.new }
     ensures walk { (x : ℕ) → x < names → bits_of marks.new blocks x ≡ (if is_written x (option_map (λ (n : declared-name.Name). n.0) target) then goes else bits_of marks.old blocks x) }
 {
-    if let Some(name) = target {
-        put_name(blocks, names, marks, name.0, goes);
-    }
+    step_in(blocks, names, marks, target, goes);
 }
 
 /// A walk begins at the start of a block.
@@ -50,27 +66,29 @@ pub fn begin(blocks: u32, names: u32, marks: &mut Marks, number: u32)
     let _is_new = marks.unite(number, blocks);
 }
 
-/// Walks over the instructions of a block.
-pub fn walk(
+/// Walks in a row over the instructions of a block.
+pub(crate) fn walk(
     turns: &[Vec<u32>],
-    blocks: u32,
+    row: u32,
     names: u32,
     marks: &mut Marks,
     number: u32,
     instructions: &[Instr],
 )
-    requires table { IsTable blocks names marks.old }
-    requires few { blocks + 2 < 2 ^ 32 }
-    requires block { number < blocks }
-    ensures table { IsTable blocks names marks.new }
-    ensures others { AreSameBut blocks marks.old marks.new }
-    ensures walk { (x : ℕ) → x < names → bits_of marks.new blocks x ≡ stale_behind (is_going (turn_of turns.now) number) x (bits_of marks.old number x) (map instruction_view instructions.now) 0 }
+    requires row { row < marks.old.count }
+    requires width { marks.old.width ≡ names }
+    ensures others { AreSameBut row marks.old marks.new }
+    ensures walk { (x : ℕ) → x < names
+        → bits_of marks.new row x
+        ≡ stale_behind (is_going (turn_of turns.now) number) x (bits_of marks.old row x)
+        (map instruction_view instructions.now) 0 }
+    ensures same_count { marks.new.count ≡ marks.old.count }
+    ensures same_width { marks.new.width ≡ marks.old.width }
 {
-    begin(blocks, names, marks, number);
     for index in 0..instructions.len() {
         let instruction = &instructions[index];
         let left = instructions.len() - 1 - index;
         let goes = turn_at(turns, number, left) != 0;
-        step(blocks, names, marks, instruction.target(), goes);
+        step_in(row, names, marks, instruction.target(), goes);
     }
 }

@@ -8,3 +8,4 @@ pub mod Checking
 pub mod Adding
 pub mod RightBlocks
 pub mod Columns
+pub mod AskedFlow

@@ -1,11 +1,10 @@
 -- Blocks whose writes are right, one by one.
-use Rattle.std.proofs.Common.{◌≡◌, ◌≢◌, ℕ, ◌+◌, ◌<◌, ◌≤◌, inl, inr, Bool, true, false, Option, Some, None, List, [], ◌∷◌, ◌++◌, length, map, refl, sym, ap, ◌∙◌, subst, arith, get_or}
-use Rattle.std.specs.Prelude.{◌||◌, option_map, slice_get}
-use Rattle.std.proofs.lemmas.Bool.{or_left, cases_eq}
+use Rattle.std.proofs.Common.{◌≡◌, ℕ, ◌+◌, ◌<◌, inl, inr, Bool, Some, List, [], ◌∷◌, length, map, sym, ap, ◌∙◌, subst, arith, get_or}
+use Rattle.std.specs.Prelude.{slice_get}
+use Rattle.std.proofs.lemmas.Bool.{cases_eq}
 use Rattle.std.proofs.lemmas.List.{length-map}
 use Rattle.std.proofs.lemmas.Option.{same_Some, slice_get_within}
 use Rattle.graph_core.specs.Graphs.{Instruction, End, Block, Graph}
-use Rattle.graph_core.specs.Uses.{target_of}
 use Rattle.graph_paths.specs.declared.marks.Marks.{Marks}
 use Rattle.graph_paths.specs.PathMarksTable.{bits_of}
 use Rattle.graph_paths.proofs.Leading.{block_there}
@@ -13,8 +12,7 @@ use Rattle.dead_pass_rule.specs.declared.counts.Counts.{Counts}
 use Rattle.dead_pass_rule.specs.Asking.{Turns, TellsAsked}
 use Rattle.dead_pass_rule.specs.Checked.{AreRight, IsRightBlock}
 use Rattle.dead_pass_rule.specs.Counting.{IsCountOf, AreFree}
-use Rattle.dead_pass_rule.specs.Walks.{AreSameBut, AreSameBelow, IsAskedAt, AreAsked, EachBehind, IsAskedWhere, IsToldWhere}
-use Rattle.dead_pass_rule.proofs.Certificate.{tells_more}
+use Rattle.dead_pass_rule.specs.Walks.{AreSameBelow, AreAsked, AreTold, EachBehind, IsAskedWhere, IsToldWhere}
 
 -- what is told of blocks in the same way
 tells_same : (turns : Turns) (one two : ℕ → Bool) (count x n : ℕ) (here : Bool) (rest : List Instruction) (e : End) → ((l : ℕ) → l < count → two l ≡ one l) → TellsAsked turns one count x n here rest e → TellsAsked turns two count x n here rest e
@@ -39,19 +37,17 @@ right_same turns counts all names led first now n b lt same r = record {
   right = r.right;
 }
 
--- A block that was walked over, and at whose start nothing new came.
-pub right_block : {A : Type 0} (view : A → Block) (turns : Turns) (counts : Counts) (all : List A) (names n : ℕ) (led : ℕ → Bool) (old walked last : Marks) (b : A) (reached : Bool) (free asked : List Bool) → n < length all → b ≡ get_or all n b → reached ≡ led n
-    → AreSameBut (length all) old walked → ((row bit : ℕ) → bits_of last row bit ≡ bits_of walked row bit) → ((bit : ℕ) → bits_of last n bit ≡ (bits_of walked (length all) bit || bits_of walked n bit))
-    → ((x : ℕ) → x < names → TellsAsked turns (λ l. bits_of old l x) (length all) x n (bits_of walked (length all) x) (view b).instructions (view b).end)
+-- A block that was walked over.
+pub right_block : {A : Type 0} (view : A → Block) (turns : Turns) (counts : Counts) (all : List A) (names n : ℕ) (led : ℕ → Bool) (old : Marks) (b : A) (reached : Bool) (free asked : List Bool) → n < length all → b ≡ get_or all n b → reached ≡ led n
+    → AreTold turns (map view all) names old
     → ((blocks : List Block) → AreAsked turns blocks (length all) names old → EachBehind (IsAskedWhere turns blocks names n (view b).end) asked (view b).instructions)
     → EachBehind (IsToldWhere turns old (length all) names n (view b).end) asked (view b).instructions
     → ((g : Graph) → IsCountOf g counts → AreFree g (view b).place (view b).instructions free)
     → AreRight turns names n reached free asked (view b).instructions
     → (c : Block) → slice_get (map view all) n ≡ Some c → IsRightBlock turns counts (map view all) names led old n c
-right_block view turns counts all names n led old walked last b reached free asked lt is_b is_reached others quiet there tells asked_behind told_behind are_free right c at =
+right_block view turns counts all names n led old b reached free asked lt is_b is_reached told asked_behind told_behind are_free right c at =
     subst (λ (d : Block). IsRightBlock turns counts (map view all) names led old n d) (same_Some (view b) c (sym (block_there view all n b lt is_b) ∙ at)) (record {
-      tells = λ x named. subst (λ k. TellsAsked turns (λ l. bits_of old l x) k x n (bits_of old n x) (view b).instructions (view b).end) count
-          (tells_more turns [] (λ l. bits_of old l x) (length all) x n (bits_of walked (length all) x) (bits_of old n x) (view b).instructions (view b).end (λ come. had x come) (tells x named));
+      tells = λ x named. told n x (view b) (block_there view all n b lt is_b) named;
       free = free;
       asked = asked;
       are_free = are_free;
@@ -63,8 +59,11 @@ right_block view turns counts all names n led old walked last b reached free ask
     count : length all ≡ length (map view all)
     count = sym (length-map all view)
 
-    had : (x : ℕ) → bits_of walked (length all) x ≡ true → bits_of old n x ≡ true
-    had x come = sym (others n x (λ q. omega (arith, q, lt))) ∙ sym (quiet n x) ∙ there x ∙ or_left (bits_of walked (length all) x) (bits_of walked n x) come
+-- where the rows of blocks are the same, it is told of names as it was
+pub told_same : (turns : Turns) (all : List Block) (names : ℕ) (first now : Marks) → AreSameBelow (length all) first now → AreTold turns all names first → AreTold turns all names now
+told_same turns all names first now same told n x b at named =
+    subst (λ v. TellsAsked turns (λ l. bits_of now l x) (length all) x n v b.instructions b.end) (sym (same n x (slice_get_within all n b at)))
+    (tells_same turns (λ l. bits_of first l x) (λ l. bits_of now l x) (length all) x n (bits_of first n x) b.instructions b.end (λ l small. same l x small) (told n x b at named))
 
 pub below_on : (blocks : ℕ) (one two three : Marks) → AreSameBelow blocks one two → AreSameBelow blocks two three → AreSameBelow blocks one three
 below_on blocks one two three a b m bit lt = b m bit lt ∙ a m bit lt

@@ -1,17 +1,14 @@
 -- Walks back over blocks, and what they tell.
-use Rattle.std.proofs.Common.{◌≡◌, ◌≢◌, ℕ, zero, suc, ◌+◌, ◌-◌, ◌<◌, ◌≤◌, ◌⊎◌, inl, inr, Bool, true, false, true≢false, Option, Some, None, List, [], ◌∷◌, ◌++◌, length, map, refl, sym, ap, ◌∙◌, subst, arith, get_or, drop}
-use Rattle.std.specs.Prelude.{◌==◌, ◌&&◌, ◌||◌, not, slice_get, slice_index_or}
-use Rattle.std.specs.List.{list_any}
-use Rattle.std.proofs.lemmas.Bool.{and_parts, or_cases, or_left, or_right, cases_eq, eq-eqb, ne_eqb}
-use Rattle.std.proofs.lemmas.List.{at_drop_more}
-use Rattle.std.proofs.lemmas.Option.{same_Some, none-some, slice_get_within}
+use Rattle.std.proofs.Common.{◌≡◌, ℕ, suc, ◌+◌, ◌<◌, ◌≤◌, ◌⊎◌, inl, inr, Bool, true, false, Some, List, [], ◌∷◌, ◌++◌, length, refl, sym, ap, ◌∙◌, subst, arith}
+use Rattle.std.specs.Prelude.{◌&&◌, ◌||◌, not, slice_index_or}
+use Rattle.std.proofs.lemmas.Bool.{and_parts, or_cases, or_left, or_right}
 use Rattle.graph_core.specs.Graphs.{Instruction, End, Block}
 use Rattle.graph_core.specs.Uses.{target_of, targets_of, reads_of_end}
 use Rattle.graph_core.specs.Paths.{Among, reads, writes}
 use Rattle.graph_paths.specs.declared.marks.Marks.{Marks}
 use Rattle.graph_paths.specs.PathMarksTable.{bits_of}
-use Rattle.dead_pass_rule.specs.Asking.{Turns, is_gone, asks, IsAsked, by_end, next, later, leads, TellsAsked}
-use Rattle.dead_pass_rule.specs.Walks.{IsTable, AreSameBut, AreSameBelow, IsAskedAt, AreAsked, IsToldOfOne, EachBehind, IsAskedWhere, IsToldWhere}
+use Rattle.dead_pass_rule.specs.Asking.{Turns, is_gone, IsAsked, by_end, next, later, leads, TellsAsked}
+use Rattle.dead_pass_rule.specs.Walks.{IsTable, AreSameBut, AreSameBelow, AreAsked, IsToldOfOne, EachBehind, IsAskedWhere, IsToldWhere}
 use Rattle.dead_pass_rule.proofs.Backward.{at_last, before_last}
 use Rattle.dead_pass_rule.proofs.Certificate.{tells_more}
 
@@ -79,19 +76,13 @@ module _ (turns : Turns) (blocks names n : ℕ) (e : End) (first : Marks) where
       at_either all are x lt (inl a) = next (ap (λ z. not z && reads x i) (sym is_gone_now) ∙ a)
       at_either all are x lt (inr b) = (let both = and_parts (not (writes x i)) (bits_of now blocks x) b in later (not_not (writes x i) both.0) (w.asked all are x lt both.1))
 
--- what a walk has found goes to its block
-pub asked_more : (turns : Turns) (all : List Block) (blocks names n : ℕ) (b : Block) (old walked new : Marks) → n < blocks → slice_get all n ≡ Some b → AreSameBut blocks old walked
-    → ((other bit : ℕ) → other ≢ n → bits_of new other bit ≡ bits_of walked other bit) → ((bit : ℕ) → bits_of new n bit ≡ (bits_of walked blocks bit || bits_of walked n bit))
-    → ((x : ℕ) → x < names → bits_of walked blocks x ≡ true → IsAsked turns all x n b.instructions b.end) → AreAsked turns all blocks names old → AreAsked turns all blocks names new
-asked_more turns all blocks names n b old walked new small at others rows there came are m x lt named told = elim (cases_eq m n) [
-  | inl q ↦ (let here : (bits_of walked blocks x || bits_of walked n x) ≡ true = sym (there x) ∙ ap (λ k. bits_of new k x) (sym q) ∙ told in
-      subst (λ k. IsAskedAt turns all x k) (sym q) (by_either (or_cases (bits_of walked blocks x) (bits_of walked n x) here)))
-  | inr q ↦ are m x lt named (sym (others m x (λ p. omega (arith, p, lt))) ∙ sym (rows m x q) ∙ told)
-]
-  where
-    by_either : ((bits_of walked blocks x ≡ true) ⊎ (bits_of walked n x ≡ true)) → IsAskedAt turns all x n
-    by_either (inl come) = record { block = b; is = at; asked = came x named come }
-    by_either (inr had) = are n x small named (sym (others n x (λ p. omega (arith, p, small))) ∙ had)
+-- the rows stay in order where that of a walk changes
+pub table_but : (blocks names : ℕ) (old new : Marks) → IsTable blocks names old → new.count ≡ old.count → new.width ≡ old.width → AreSameBut blocks old new → IsTable blocks names new
+table_but blocks names old new table count width others = record {
+  count = count ∙ table.count;
+  width = width ∙ table.width;
+  zero_row = λ bit. others (blocks + 1) bit (λ q. omega (arith, q)) ∙ table.zero_row bit;
+}
 
 -- what is told of one of the blocks behind an end was told before
 pub one_kept : (blocks : ℕ) (e : End) (old new : Marks) (x : ℕ) → AreSameBelow blocks old new → IsToldOfOne blocks e new x → IsToldOfOne blocks e old x

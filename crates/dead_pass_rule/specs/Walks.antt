@@ -1,14 +1,16 @@
 -- Rows by which it is found which names are asked for: one for each of so many blocks, that tells of its start, one for the point to which a walk back has come, and one without bits.
-use Rattle.std.specs.Prelude.{◌≡◌, ◌≢◌, ℕ, ◌+◌, ◌<◌, ◌==◌, ◌&&◌, Bool, true, false, not, Option, Some, None, List, [], ◌∷◌, length, slice_get, slice_index_or, ⊤}
+use Rattle.std.specs.Prelude.{◌≡◌, ◌≢◌, ℕ, ◌+◌, ◌<◌, ◌==◌, ◌&&◌, ◌||◌, Bool, true, false, not, Option, Some, None, List, [], ◌∷◌, length, slice_get, slice_index_or, ⊤}
 use Rattle.std.specs.Option.{option_map_or}
+use Rattle.std.specs.List.{list_any}
 use Rattle.std.specs.declared.vec.Vec.{Vec}
 use Rattle.std.specs.declared.alloc.Global.{Global}
 use Rattle.graph_core.specs.Graphs.{Instruction, End, Block}
-use Rattle.graph_core.specs.Uses.{target_of, targets_of}
-use Rattle.graph_core.specs.Paths.{Among}
+use Rattle.graph_core.specs.Uses.{target_of, targets_of, reads_of_end}
+use Rattle.graph_core.specs.Paths.{Among, writes}
 use Rattle.graph_paths.specs.declared.marks.Marks.{Marks}
 use Rattle.graph_paths.specs.PathMarksTable.{bits_of}
-use Rattle.dead_pass_rule.specs.Asking.{Turns, IsAsked, TellsAsked}
+use Rattle.graph_paths.specs.Flood.{Course}
+use Rattle.dead_pass_rule.specs.Asking.{Turns, IsAsked, TellsAsked, asks}
 
 abbrev pub turn_in : Option (Vec ℕ Global) → (left : ℕ) → ℕ
 turn_in None left = 0
@@ -64,3 +66,25 @@ IsAskedWhere turns all names n e x told rest = x < names → told ≡ true → I
 -- and it is told where it is asked for
 abbrev pub IsToldWhere : Turns → Marks → (blocks names n : ℕ) → End → (x : ℕ) → Bool → List Instruction → Type 0
 IsToldWhere turns marks blocks names n e x told rest = x < names → TellsAsked turns (λ l. bits_of marks l x) blocks x n told rest e
+
+-- it is told of each name that is asked for at the start of a block
+abbrev pub AreTold : Turns → List Block → (names : ℕ) → Marks → Type 0
+AreTold turns all names marks =
+    (n x : ℕ) (b : Block) → slice_get all n ≡ Some b → x < names → TellsAsked turns (λ l. bits_of marks l x) (length all) x n (bits_of marks n x) b.instructions b.end
+
+-- whether a name is asked for before instructions of a block, from whether it is behind them
+abbrev pub asked_along : Turns → (x n : ℕ) → List Instruction → (behind : Bool) → Bool
+asked_along turns x n [] behind = behind
+asked_along turns x n (i ∷ rest) behind = asks turns n (length rest) i x || (not (writes x i) && asked_along turns x n rest behind)
+
+-- whether it is at the start of a block, from whether it is where its end leads
+abbrev pub asked_before : Turns → (x n : ℕ) → Block → (behind : Bool) → Bool
+asked_before turns x n b behind = asked_along turns x n b.instructions (list_any (λ y. y == x) (reads_of_end b.end) || behind)
+
+abbrev pub asked_before_some : Turns → (x n : ℕ) → Option Block → (behind : Bool) → Bool
+asked_before_some turns x n None behind = false
+asked_before_some turns x n (Some b) behind = asked_before turns x n b behind
+
+-- how the names flow that are asked for: against execution, through all blocks
+abbrev pub asking : Turns → List Block → (names : ℕ) → Course
+asking turns all names = record { blocks = all; is_open = λ n. true; forward = false; width = names; does = λ n x behind. asked_before_some turns x n (slice_get all n) behind }

@@ -8,68 +8,82 @@ ghost use Rattle.graph_core.specs.Paths.{Among, reads, writes};
 ghost use Rattle.graph_core.specs.Uses.{numbers, reads_of_end, targets_of};
 ghost use Rattle.graph_paths.specs.PathMarksTable.{bits_of};
 ghost use Rattle.dead_pass_rule.specs.Asking.{IsAsked, TellsAsked};
-ghost use Rattle.dead_pass_rule.specs.Walks.{AreAsked, AreSameBut, EachBehind, IsAskedWhere, IsTable, IsToldOfOne, IsToldWhere, is_written, turn_of};
+ghost use Rattle.dead_pass_rule.specs.Walks.{AreAsked, AreSameBut, AreTold, EachBehind, IsAskedWhere, IsTable, IsToldOfOne, IsToldWhere, asked_before, is_written, turn_of};
 
 use crate::turns::is_gone;
 use graph_core::{Block, End, Instr, Name};
-use graph_paths::Marks;
+use graph_paths::{Marks, Transfer, settle};
 use std::alloc::{AllocError, Global};
 
-/// Tells at the walk's point whether a name is asked for.
-fn put_name(blocks: u32, names: u32, marks: &mut Marks, name: u32, value: bool)
-    requires table { IsTable blocks names marks.old }
-    ensures table { IsTable blocks names marks.new }
-    ensures others { AreSameBut blocks marks.old marks.new }
-    ensures there { name < names → bits_of marks.new blocks name ≡ value }
-    ensures rest { (x : ℕ) → x ≢ name → bits_of marks.new blocks x ≡ bits_of marks.old blocks x }
+/// Tells in a row whether a name is asked for.
+fn put_name(row: u32, names: u32, marks: &mut Marks, name: u32, value: bool)
+    requires row { row < marks.old.count }
+    requires width { marks.old.width ≡ names }
+    ensures others { AreSameBut row marks.old marks.new }
+    ensures there { name < names → bits_of marks.new row name ≡ value }
+    ensures rest { (x : ℕ) → x ≢ name → bits_of marks.new row x ≡ bits_of marks.old row x }
+    ensures same_count { marks.new.count ≡ marks.old.count }
+    ensures same_width { marks.new.width ≡ marks.old.width }
 {
     if name < names {
-        marks.put(blocks, name, value);
+        marks.put(row, name, value);
     }
 }
 
-/// Names are asked for at the walk's point.
-fn ask_all(blocks: u32, names: u32, marks: &mut Marks, all: &[Name])
-    requires table { IsTable blocks names marks.old }
-    ensures table { IsTable blocks names marks.new }
-    ensures others { AreSameBut blocks marks.old marks.new }
-    ensures walk { (x : ℕ) → x < names → bits_of marks.new blocks x ≡ (list_any (λ y. y == x) (numbers all.now) || bits_of marks.old blocks x) }
+/// Names are asked for in a row.
+fn ask_all(row: u32, names: u32, marks: &mut Marks, all: &[Name])
+    requires row { row < marks.old.count }
+    requires width { marks.old.width ≡ names }
+    ensures others { AreSameBut row marks.old marks.new }
+    ensures walk { (x : ℕ) → x < names
+        → bits_of marks.new row x ≡ (list_any (λ y. y == x) (numbers all.now) || bits_of marks.old row x) }
+    ensures same_count { marks.new.count ≡ marks.old.count }
+    ensures same_width { marks.new.width ≡ marks.old.width }
 {
     for name in all {
-        put_name(blocks, names, marks, name.0, true);
+        put_name(row, names, marks, name.0, true);
     }
 }
 
 /// A name that is written is not asked for before.
-fn forget(blocks: u32, names: u32, marks: &mut Marks, target: Option<Name>)
-    requires table { IsTable blocks names marks.old }
-    ensures table { IsTable blocks names marks.new }
-    ensures others { AreSameBut blocks marks.old marks.new }
-    ensures walk { (x : ℕ) → x < names → bits_of marks.new blocks x ≡ (not (is_written x (option_map (λ (n : declared-name.Name). n.0) target)) && bits_of marks.old blocks x) }
+fn forget(row: u32, names: u32, marks: &mut Marks, target: Option<Name>)
+    requires row { row < marks.old.count }
+    requires width { marks.old.width ≡ names }
+    ensures others { AreSameBut row marks.old marks.new }
+    ensures walk { (x : ℕ) → x < names
+        → bits_of marks.new row x
+        ≡ (not (is_written x (option_map (λ (n : declared-name.Name). n.0) target)) && bits_of marks.old row x) }
+    ensures same_count { marks.new.count ≡ marks.old.count }
+    ensures same_width { marks.new.width ≡ marks.old.width }
 {
     if let Some(name) = target {
-        put_name(blocks, names, marks, name.0, false);
+        put_name(row, names, marks, name.0, false);
     }
 }
 
 /// Goes back over an instruction.
 fn step_back(
     alloc: Global,
-    blocks: u32,
+    row: u32,
     names: u32,
     marks: &mut Marks,
     instruction: &Instr,
     is_gone: bool,
 ) -> Result<(), AllocError>
-    requires table { IsTable blocks names marks.old }
-    ensures table { OnOk result (IsTable blocks names marks.new) }
-    ensures others { OnOk result (AreSameBut blocks marks.old marks.new) }
-    ensures walk { OnOk result ((x : ℕ) → x < names → bits_of marks.new blocks x ≡ ((not is_gone && reads x (instruction_view instruction.now)) || (not (writes x (instruction_view instruction.now)) && bits_of marks.old blocks x))) }
+    requires row { row < marks.old.count }
+    requires width { marks.old.width ≡ names }
+    ensures others { OnOk result (AreSameBut row marks.old marks.new) }
+    ensures walk { OnOk result ((x : ℕ) → x < names
+        → bits_of marks.new row x
+        ≡ ((not is_gone && reads x (instruction_view instruction.now))
+        || (not (writes x (instruction_view instruction.now)) && bits_of marks.old row x))) }
+    ensures same_count { OnOk result (marks.new.count ≡ marks.old.count) }
+    ensures same_width { OnOk result (marks.new.width ≡ marks.old.width) }
 {
-    forget(blocks, names, marks, instruction.target());
+    forget(row, names, marks, instruction.target());
     if !is_gone {
         let read = instruction.reads(alloc)?;
-        ask_all(blocks, names, marks, &read);
+        ask_all(row, names, marks, &read);
     }
     Ok(())
 }
@@ -176,75 +190,78 @@ pub fn walk_back(
     Ok(told)
 }
 
-/// Walks back over a block, whose start is told what has come there. Tells whether anything was new before, or is.
-fn visit(
+/// Goes back over a block in a row.
+fn pass_back(
     alloc: Global,
     turns: &[Vec<u32>],
+    row: u32,
     names: u32,
     marks: &mut Marks,
     number: u32,
-    all: &[Block],
-    was_new: bool,
-) -> Result<bool, AllocError>
-    requires table { IsTable (length all.now) names marks.old }
-    requires few { length all.now + 2 < 2 ^ 32 }
-    requires block { number < length all.now }
-    requires asked { AreAsked (turn_of turns.now) (map block_view all.now) (length all.now) names marks.old }
-    ensures table { OnOk result (IsTable (length all.now) names marks.new) }
-    ensures asked { OnOk result (AreAsked (turn_of turns.now) (map block_view all.now) (length all.now) names marks.new) }
-{
-    let blocks = all.len() as u32;
-    let block = &all[number as usize];
-    let _told = walk_back(alloc, turns, blocks, names, marks, number, block)?;
-    let is_new = marks.unite(blocks, number);
-    Ok(was_new || is_new)
-}
-
-/// Walks back over each block once, the last first. Tells whether anything was new.
-fn round(
-    alloc: Global,
-    turns: &[Vec<u32>],
-    names: u32,
-    marks: &mut Marks,
-    all: &[Block],
-) -> Result<bool, AllocError>
-    requires table { IsTable (length all.now) names marks.old }
-    requires few { length all.now + 2 < 2 ^ 32 }
-    requires asked { AreAsked (turn_of turns.now) (map block_view all.now) (length all.now) names marks.old }
-    ensures table { OnOk result (IsTable (length all.now) names marks.new) }
-    ensures asked { OnOk result (AreAsked (turn_of turns.now) (map block_view all.now) (length all.now) names marks.new) }
-{
-    let mut is_new = false;
-    for passed in 0..all.len() {
-        let number = all.len() - 1 - passed;
-        is_new = visit(alloc, turns, names, marks, number as u32, all, is_new)?;
-    }
-    Ok(is_new)
-}
-
-/// Walks back over the blocks until nothing is new.
-fn settle(
-    alloc: Global,
-    turns: &[Vec<u32>],
-    names: u32,
-    marks: &mut Marks,
-    all: &[Block],
+    block: &Block,
 ) -> Result<(), AllocError>
-    requires table { IsTable (length all.now) names marks.old }
-    requires few { length all.now + 2 < 2 ^ 32 }
-    requires asked { AreAsked (turn_of turns.now) (map block_view all.now) (length all.now) names marks.old }
-    ensures table { OnOk result (IsTable (length all.now) names marks.new) }
-    ensures asked { OnOk result (AreAsked (turn_of turns.now) (map block_view all.now) (length all.now) names marks.new) }
+    requires row { row < marks.old.count }
+    requires width { marks.old.width ≡ names }
+    ensures others { OnOk result (AreSameBut row marks.old marks.new) }
+    ensures walk { OnOk result ((x : ℕ) → x < names
+        → bits_of marks.new row x
+        ≡ asked_before (turn_of turns.now) x number (block_view block.now) (bits_of marks.old row x)) }
+    ensures same_count { OnOk result (marks.new.count ≡ marks.old.count) }
+    ensures same_width { OnOk result (marks.new.width ≡ marks.old.width) }
 {
-    for _ in 0..u64::MAX {
-        if !round(alloc, turns, names, marks, all)? {
-            break;
-        }
+    let read = block.end.reads(alloc)?;
+    ask_all(row, names, marks, &read);
+    let instructions: &[Instr] = &block.instructions;
+    for left in 0..instructions.len() {
+        let at = instructions.len() - 1 - left;
+        let instruction = &instructions[at];
+        let gone = is_gone(turns, number, left, instruction);
+        step_back(alloc, row, names, marks, instruction, gone)?;
     }
     Ok(())
 }
 
-/// Names that are asked for at the starts of blocks. That these are all is still to be seen.
+/// The names that are asked for, as facts that flow against execution.
+#[derive(Drop)]
+struct Asking<'a> {
+    alloc: Global,
+    turns: &'a [Vec<u32>],
+    names: u32,
+    all: &'a [Block],
+}
+
+impl Transfer for Asking<'_> {
+    ghost use Rattle.dead_pass_rule.specs.Walks.{asking};
+
+    ghost course = { λ a. asking (turn_of a.turns.now) (map block_view a.all.now) a.names };
+
+    fn forward(&self) -> bool {
+        false
+    }
+
+    fn is_open(&self, _block: u32) -> bool {
+        true
+    }
+
+    fn pass(&self, block: u32, rows: &mut Marks, row: u32) -> Result<(), AllocError> {
+        let block_of = &self.all[block as usize];
+        pass_back(
+            self.alloc, self.turns, row, self.names, rows, block, block_of,
+        )?;
+        Ok(())
+    }
+}
+
+/// The numbers of so many blocks, the last first.
+fn from_last(alloc: Global, count: u32) -> Result<Vec<u32>, AllocError> {
+    let mut order = Vec::new(alloc);
+    for passed in 0..count {
+        order.push(count - 1 - passed)?;
+    }
+    Ok(order)
+}
+
+/// The names that are asked for at the starts of blocks: just these.
 pub fn asked_names(
     alloc: Global,
     turns: &[Vec<u32>],
@@ -254,8 +271,18 @@ pub fn asked_names(
     requires few { length all.now + 2 < 2 ^ 32 }
     ensures table { IfOk result (IsTable (length all.now) names) }
     ensures asked { IfOk result (AreAsked (turn_of turns.now) (map block_view all.now) (length all.now) names) }
+    ensures told { IfOk result (AreTold (turn_of turns.now) (map block_view all.now) names) }
 {
-    let mut marks = Marks::new(alloc, all.len() as u32 + 2, names)?;
-    settle(alloc, turns, names, &mut marks, all)?;
-    Ok(marks)
+    let count = all.len() as u32;
+    let order = from_last(alloc, count)?;
+    let mut ends = Marks::new(alloc, count, names)?;
+    let mut starts = Marks::new(alloc, count + 2, names)?;
+    let asking = Asking {
+        alloc,
+        turns,
+        names,
+        all,
+    };
+    settle(&asking, all, &order, &mut ends, &mut starts)?;
+    Ok(starts)
 }

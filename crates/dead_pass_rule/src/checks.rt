@@ -11,7 +11,7 @@ ghost use Rattle.dead_pass_rule.specs.Checked as checked;
 ghost use Rattle.dead_pass_rule.specs.Checked.{AreRight, IsRightBlock};
 ghost use Rattle.graph_paths.specs.Reached.{AreLed};
 ghost use Rattle.dead_pass_rule.specs.Counting.{IsCountOf};
-ghost use Rattle.dead_pass_rule.specs.Walks.{AreAsked, AreSameBelow, IsTable, turn_of};
+ghost use Rattle.dead_pass_rule.specs.Walks.{AreSameBelow, AreTold, IsTable, turn_of};
 
 use crate::asked::{asked_names, walk_back};
 use crate::counts::Counts;
@@ -80,7 +80,7 @@ fn are_right(
     true
 }
 
-/// Whether what a block writes is right, and nothing is asked for at its start but what is told of it.
+/// Whether what a block writes is right, by what is told to be asked for.
 fn is_right_block(
     alloc: Global,
     turns: &[Vec<u32>],
@@ -94,6 +94,7 @@ fn is_right_block(
     requires table { IsTable (length all.now) names marks.old }
     requires few { length all.now + 2 < 2 ^ 32 }
     requires block { number < length all.now }
+    requires told { AreTold (turn_of turns.now) (map block_view all.now) names marks.old }
     ensures table { OnOk result (IsTable (length all.now) names marks.new) }
     ensures same { IfOk result (λ ok. ok ≡ true → AreSameBelow (length all.now) marks.old marks.new) }
     ensures right { IfOk result (λ ok. ok ≡ true → (b : BlockForm) → slice_get (map block_view all.now) number ≡ Some b → IsRightBlock (turn_of turns.now) counts.now (map block_view all.now) names (bits_of reached.now 0) marks.old number b) }
@@ -101,9 +102,6 @@ fn is_right_block(
     let blocks = all.len() as u32;
     let block = &all[number as usize];
     let asked = walk_back(alloc, turns, blocks, names, marks, number, block)?;
-    if marks.unite(blocks, number) {
-        return Ok(false);
-    }
     let Some(free) = counts.free_writes(alloc, block)? else {
         return Ok(false);
     };
@@ -131,6 +129,7 @@ fn are_right_blocks(
 ) -> Result<bool, AllocError>
     requires table { IsTable (length all.now) names marks.old }
     requires few { length all.now + 2 < 2 ^ 32 }
+    requires told { AreTold (turn_of turns.now) (map block_view all.now) names marks.old }
     ensures { IfOk result (λ ok. ok ≡ true → (n : ℕ) (b : BlockForm) → n < length all.now → slice_get (map block_view all.now) n ≡ Some b → IsRightBlock (turn_of turns.now) counts.now (map block_view all.now) names (bits_of reached.now 0) marks.old n b) }
 {
     for number in 0..all.len() as u32 {
@@ -161,9 +160,7 @@ pub fn are_idle(
     if !heights.are_later(alloc, turns, blocks)? {
         return Ok(None);
     }
-    let Some(reached) = reached_blocks(alloc, blocks)? else {
-        return Ok(None);
-    };
+    let reached = reached_blocks(alloc, blocks)?;
     let Some(counts) = Counts::of(alloc, graph)? else {
         return Ok(None);
     };

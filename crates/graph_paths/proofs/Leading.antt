@@ -1,13 +1,12 @@
 -- Ways that lead on, block by block.
-use Rattle.std.proofs.Common.{◌≡◌, ◌≢◌, ℕ, ◌+◌, ◌<◌, ◌≤◌, ◌⊎◌, inl, inr, Bool, true, false, true≢false, Option, Some, None, List, [], ◌∷◌, length, map, refl, sym, ap, ◌∙◌, subst, arith, get_or}
+use Rattle.std.proofs.Common.{◌≡◌, ℕ, ◌<◌, ◌≤◌, ◌⊎◌, inl, inr, Bool, true, Some, List, [], ◌∷◌, length, map, refl, sym, ap, ◌∙◌, subst, arith, get_or}
 use Rattle.std.specs.Prelude.{option_map, slice_get}
-use Rattle.std.proofs.lemmas.Bool.{cases_eq}
-use Rattle.std.proofs.lemmas.List.{length-map}
-use Rattle.std.proofs.lemmas.Option.{slice_get-map, slice_get_read, slice_get_within, same_Some, none-some}
+use Rattle.std.proofs.lemmas.Bool.{cases_lt}
+use Rattle.std.proofs.lemmas.Option.{slice_get-map, slice_get_read, slice_get_within}
 use Rattle.graph_core.specs.Graphs.{Block}
-use Rattle.graph_core.specs.Uses.{targets_of}
 use Rattle.graph_core.specs.Paths.{Among, front as here, behind as later}
-use Rattle.graph_paths.specs.Reached.{IsLed, entry, leads, LeadsOn, AreLed}
+use Rattle.graph_paths.specs.Reached.{IsLed, entry, leads, LeadsOn, AreLed, leading}
+use Rattle.graph_paths.specs.Flood.{Flows, IsBrought, begun, handed, Bits, AreSettled}
 
 pub among_one : {l a : ℕ} → Among l (a ∷ []) → l ≡ a
 among_one here = refl
@@ -21,37 +20,28 @@ among_two (later a) = inr (among_one a)
 pub block_there : {A : Type 0} (view : A → Block) (all : List A) (n : ℕ) (x : A) → n < length all → x ≡ get_or all n x → slice_get (map view all) n ≡ Some (view x)
 block_there view all n x lt e = slice_get-map view all n ∙ ap (option_map view) (slice_get_read all (length all) n x refl lt e)
 
--- what is led to from a block to which a way leads
-pub led_more : (blocks : List Block) (old new : ℕ → Bool) (n : ℕ) (b : Block) → slice_get blocks n ≡ Some b → old n ≡ true → ((m : ℕ) → old m ≡ true → IsLed blocks m)
-    → ((m : ℕ) → new m ≡ true → (old m ≡ true) ⊎ Among m (targets_of b.end)) → (m : ℕ) → new m ≡ true → IsLed blocks m
-led_more blocks old new n b at way are more m e = elim (more m e) [ inl was ↦ are m was | inr among ↦ leads b (are n way) at among ]
+-- what flows from the first block comes along a way
+brought_led : (blocks : List Block) (begins : ℕ → Bool) → ((m : ℕ) → begins m ≡ true → m ≡ 0) → {n : ℕ} → IsBrought (Flows (leading blocks)) (λ m before. before) begins n → IsLed blocks n
+brought_led blocks begins only {n} (begun e) = subst (λ k. IsLed blocks k) (sym (only n e)) entry
+brought_led blocks begins only (handed before edge come e) = leads edge.block (brought_led blocks begins only (come e)) edge.is edge.leads
 
--- where nothing is new, blocks lead on as they did
-pub still_on : (blocks : List Block) (old new : ℕ → Bool) (n : ℕ) → ((m : ℕ) → new m ≡ old m) → LeadsOn blocks old n → LeadsOn blocks new n
-still_on blocks old new n same on b l at way among lt = same l ∙ on b l at (sym (same n) ∙ way) among lt
+-- where a flood from the first block settles, just the blocks are told to which ways lead
+module _ (blocks : List Block) (begins comes leaves : Bits) (row : ℕ → Bool) (first : begins 0 0 ≡ true) (only : (m : ℕ) → begins m 0 ≡ true → m ≡ 0) (settled : AreSettled (leading blocks) begins comes leaves)
+    (spare : (n : ℕ) → length blocks ≤ n → comes n 0 ≡ begins n 0) (same : (n : ℕ) → row n ≡ comes n 0) where
+  told_led : (n : ℕ) → comes n 0 ≡ true → IsLed blocks n
+  told_led n e = elim (cases_lt n (length blocks)) [
+    | inl lt ↦ brought_led blocks (λ m. begins m 0) only (settled.brought.brought n 0 lt (omega arith) e)
+    | inr out ↦ subst (λ k. IsLed blocks k) (sym (only n (sym (spare n out) ∙ e))) entry
+  ]
 
--- one block more leads on
-pub on_more : (blocks : List Block) (count : ℕ) (old new : ℕ → Bool) → ((m : ℕ) → new m ≡ old m) → ((n : ℕ) → n < count → LeadsOn blocks old n) → LeadsOn blocks new count → (n : ℕ) → n < count + 1 → LeadsOn blocks new n
-on_more blocks count old new same are on n lt = elim (cases_eq n count) [
-  | inl q ↦ subst (λ m. LeadsOn blocks new m) (sym q) on
-  | inr q ↦ (let below : n < count = omega (arith, lt, q) in still_on blocks old new n same (are n below))
-]
+  leads_on : (n : ℕ) → LeadsOn blocks row n
+  leads_on n b l at led among lt =
+      let n_lt : n < length blocks = slice_get_within blocks n b at in
+      same l ∙ settled.closed n l 0 (record { block = b; is = at; comes = refl; leads = among }) n_lt lt (settled.brought.made n 0 n_lt (omega arith) ∙ sym (same n) ∙ led)
 
--- what a block leads to is told, where its targets are
-pub leads_there : (blocks : List Block) (led : ℕ → Bool) (n : ℕ) (b : Block) → slice_get blocks n ≡ Some b → ((l : ℕ) → Among l (targets_of b.end) → l < length blocks → led l ≡ true) → LeadsOn blocks led n
-leads_there blocks led n b at there c l at_c way among lt =
-    let same : b ≡ c = same_Some b c (sym at ∙ at_c) in
-    there l (subst (λ (d : Block). Among l (targets_of d.end)) (sym same) among) lt
-
--- from the first block
-pub led_first : (blocks : List Block) (m : ℕ) → m ≡ 0 → IsLed blocks m
-led_first blocks m e = subst (λ k. IsLed blocks k) (sym e) entry
-
-pub are_led : {A : Type 0} (view : A → Block) (all : List A) (led : ℕ → Bool) → led 0 ≡ true → ((n : ℕ) → led n ≡ true → IsLed (map view all) n) → ((n : ℕ) → n < length all → LeadsOn (map view all) led n) → AreLed (map view all) led
-are_led view all led first is on = record {
-  first = first;
-  is_led = is;
-  leads_on = λ n b l at way among lt. (let small : n < length (map view all) = slice_get_within (map view all) n b at in
-      let count : length (map view all) ≡ length all = length-map all view in
-      on n (omega (arith, small, count)) b l at way among lt);
-}
+  pub are_led : AreLed blocks row
+  are_led = record {
+    first = same 0 ∙ settled.brought.begun 0 0 first;
+    is_led = λ n e. told_led n (sym (same n) ∙ e);
+    leads_on = leads_on;
+  }

@@ -6,7 +6,7 @@ use Rattle.graph_core.specs.declared.value.Value.{Value}
 use Rattle.graph_core.specs.declared.value.Value.TheVariants.{Odd}
 use Rattle.graph_core.specs.Graphs.{Instruction, End, Block, Graph}
 use Rattle.graph_core.specs.Uses.{targets_of}
-use Rattle.graph_core.specs.Paths.{Passed, History, Among, Way, stays, passes, goes, Path, path}
+use Rattle.graph_core.specs.Paths.{History, Among, Way, stays, passes, goes, Path, path}
 use Rattle.graph_paths.specs.Reached.{IsReached, IsLed, entry, leads, AreLed}
 use Rattle.base_laws.proofs.Lists.{append_nil}
 

@@ -3,7 +3,7 @@ use Rattle.std.proofs.Common.{◌≡◌, ℕ, ◌<◌, Bool, List, [], ◌∷◌
 use Rattle.std.specs.Prelude.{slice_set, ◌&&◌, ◌||◌}
 use Rattle.std.proofs.lemmas.Bool.{cases_eq}
 use Rattle.std.proofs.lemmas.List.{length-set, get_or-set_same, get_or-set_other}
-use Rattle.bit_rows.specs.Grid.{row_at, with_bit, joined, met, met_bit, passed}
+use Rattle.bit_rows.specs.Grid.{row_at, joined, met, met_bit, passed}
 use Rattle.graph_paths.specs.Table.{AreWide}
 
 pub wide_set : (width : ℕ) (rows : List (List Bool)) (row : ℕ) (new : List Bool) → length new ≡ width → AreWide width rows → AreWide width (slice_set rows row new)
@@ -15,7 +15,7 @@ wide_set width rows row new e wide k lt =
       | inr other ↦ ap (λ r. length r) (get_or-set_other rows row k new [] other) ∙ wide k inside
     ]
 
-joined_length : (f : Bool → Bool → Bool) (xs ys : List Bool) → length xs ≡ length ys → length (joined f xs ys) ≡ length ys
+pub joined_length : (f : Bool → Bool → Bool) (xs ys : List Bool) → length xs ≡ length ys → length (joined f xs ys) ≡ length ys
 joined_length f [] [] e = refl
 joined_length f [] (y ∷ ys) e = omega (arith, e)
 joined_length f (x ∷ xs) [] e = omega (arith, e)

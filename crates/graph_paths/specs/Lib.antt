@@ -1,3 +1,4 @@
 pub mod Table
 pub mod PathMarksTable
 pub mod Reached
+pub mod Flood

@@ -3,6 +3,7 @@ use Rattle.std.specs.Prelude.{◌≡◌, ℕ, ◌<◌, Bool, true, Some, List, l
 use Rattle.graph_core.specs.Graphs.{Instruction, End, Block, Graph}
 use Rattle.graph_core.specs.Uses.{targets_of}
 use Rattle.graph_core.specs.Paths.{History, Among, Path}
+use Rattle.graph_paths.specs.Flood.{Course}
 
 -- Some path from the entry leads to a point.
 pub record IsReached (g : Graph) (n : ℕ) (rest : List Instruction) (e : End) : Type 0 where
@@ -24,3 +25,7 @@ pub record AreLed (blocks : List Block) (led : ℕ → Bool) : Type 0 where
   pub first : led 0 ≡ true
   pub is_led : (n : ℕ) → led n ≡ true → IsLed blocks n
   pub leads_on : (n : ℕ) → LeadsOn blocks led n
+
+-- how one fact flows through all blocks: that some way leads to them
+abbrev pub leading : List Block → Course
+leading blocks = record { blocks = blocks; is_open = λ block. true; forward = true; width = 1; does = λ block fact before. before }

@@ -1,22 +1,22 @@
 -- What is done on an edge, and the rule.
-use Rattle.std.proofs.Common.{◌≡◌, ◌↔◌, ◌⊎◌, inl, inr, ℕ, zero, suc, ◌+◌, ◌<◌, ◌≤◌, Bool, true, false, true≢false, not, ◌&&◌, ◌||◌, List, [], ◌∷◌, ◌++◌, length, map, Option, Some, None, refl, sym, ap, ◌∙◌, subst, arith}
+use Rattle.std.proofs.Common.{◌≡◌, ◌↔◌, ◌⊎◌, inl, inr, ℕ, zero, suc, ◌+◌, ◌<◌, ◌≤◌, Bool, true, false, true≢false, List, [], ◌∷◌, ◌++◌, length, map, Some, sym, ap, ◌∙◌, subst, arith}
 use Rattle.std.specs.Prelude.{slice_get}
 use Rattle.std.proofs.lemmas.Bool.{and_from, and_parts, cases_Bool, cases_eq, not_from_false}
 use Rattle.std.proofs.lemmas.List.{map-append}
-use Rattle.std.proofs.lemmas.Option.{none-some, same_Some, slice_get_within}
+use Rattle.std.proofs.lemmas.Option.{slice_get_within}
 use Rattle.graph_core.specs.declared.name.Name as declared-name
 use Rattle.graph_core.specs.declared.instruction.Instr.{Instr}
-use Rattle.graph_core.specs.Graphs.{Instruction, Block, Graph, instruction_view}
+use Rattle.graph_core.specs.Graphs.{Instruction, Block, instruction_view}
 use Rattle.graph_core.specs.Computations.{Computation}
-use Rattle.motion_pass_points.specs.Ways.{Point, within, along, Leads, enters, IsCome, goes, IsPast, IsWanted, wanted_here, wanted_later, IsUsed, IsRead, IsInserted}
+use Rattle.motion_pass_points.specs.Ways.{Point, within, along, Leads, enters, IsCome, goes, IsPast, IsWanted, wanted_here, wanted_later, IsInserted}
 use Rattle.motion_pass_points.specs.MotionPointsComputing.{doing}
-use Rattle.motion_pass_problems.specs.Facts.{AreFacts, AreReached}
+use Rattle.motion_pass_problems.specs.Facts.{AreReached}
 use Rattle.motion_pass_problems.proofs.Bools.{not_true}
 use Rattle.motion_pass_problems.proofs.Standing.{come_at, one_block}
 use Rattle.motion_pass_problems.specs.declared.problems.Facts.{Facts}
 use Rattle.motion_pass_placement.specs.declared.placement.Placement.{Placement}
 use Rattle.motion_pass_placement.specs.Columns.{HasFacts}
-use Rattle.motion_pass_placement.specs.Placed.{AreDone, none_done, one_done, one_passed, IsPlaced, IsReadSomewhere, all_of, is_on_edge, reached_by, temporary_of}
+use Rattle.motion_pass_placement.specs.Placed.{AreDone, none_done, one_done, one_passed, IsReadSomewhere, all_of, is_on_edge, temporary_of}
 
 -- what is used from a point on is read somewhere
 wanted_read : (blocks : List Block) (e : Computation) {q : Point} → IsWanted blocks e q → IsCome blocks q → IsReadSomewhere blocks e

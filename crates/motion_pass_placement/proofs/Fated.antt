@@ -5,7 +5,7 @@ use Rattle.std.proofs.lemmas.Bool.{cases_eq, ne_eqb}
 use Rattle.graph_core.specs.Graphs.{Instruction, Block}
 use Rattle.graph_core.specs.Uses.{target_of}
 use Rattle.graph_core.specs.Computations.{Computation}
-use Rattle.motion_pass_points.specs.Computing.{does, spoils}
+use Rattle.motion_pass_points.specs.Computing.{does}
 use Rattle.motion_pass_points.specs.Ways.{IsUnsafe, IsPast, IsWanted, IsUsed}
 use Rattle.motion_pass_points.specs.Words.{has}
 use Rattle.motion_pass_points.specs.declared.columns.Column.{Column}

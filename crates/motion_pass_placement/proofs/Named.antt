@@ -1,13 +1,12 @@
 -- A computation does not stay somewhere just where it is read somewhere.
-use Rattle.std.proofs.Common.{◌≡◌, ◌↔◌, ◌⊎◌, inl, inr, ℕ, ◌+◌, ◌<◌, Bool, true, false, true≢false, List, [], ◌∷◌, ◌++◌, length, drop, Option, Some, None, refl, sym, ap, ◌∙◌, subst, arith}
-use Rattle.std.specs.Prelude.{is_some, slice_get, slice_index_or}
+use Rattle.std.proofs.Common.{◌≡◌, ◌↔◌, inl, inr, ℕ, ◌<◌, Bool, true, true≢false, List, [], ◌∷◌, ◌++◌, length, drop, Option, Some, None, refl, sym, ap, ◌∙◌, subst, arith}
+use Rattle.std.specs.Prelude.{is_some, slice_get}
 use Rattle.std.specs.Global.{Vec}
 use Rattle.std.proofs.lemmas.Bool.{cases_Bool}
 use Rattle.std.proofs.lemmas.List.{length-append}
-use Rattle.std.proofs.lemmas.Option.{none-some, same_Some, slice_get_within}
-use Rattle.graph_core.specs.Graphs.{Instruction, End, Block}
+use Rattle.std.proofs.lemmas.Option.{none-some, slice_get_within}
+use Rattle.graph_core.specs.Graphs.{Block}
 use Rattle.graph_core.specs.Computations.{Computation}
-use Rattle.motion_pass_points.specs.Computing.{key_of}
 use Rattle.motion_pass_points.specs.Ways.{Point, within, along, IsCome, IsRead}
 use Rattle.motion_pass_points.specs.Columns.{number_at}
 use Rattle.motion_pass_points.specs.Numbers.{AreNumbersOf, Key}
@@ -15,9 +14,9 @@ use Rattle.motion_pass_problems.specs.Inner.{point_at}
 use Rattle.motion_pass_problems.proofs.Inner.{at_inside}
 use Rattle.motion_pass_problems.proofs.Standing.{come_at}
 use Rattle.motion_pass_placement.specs.declared.fates.Fate.{Fate}
-use Rattle.motion_pass_placement.specs.Columns.{AreSizes, fates_of, row_of}
+use Rattle.motion_pass_placement.specs.Columns.{AreSizes, row_of}
 use Rattle.motion_pass_placement.specs.Placed.{IsMovedAnywhere, IsReadSomewhere}
-use Rattle.motion_pass_placement.proofs.Acted.{AreToldOf, come_there, computed_here, done, keep_unnumbered, moves, one, reads, reached_there}
+use Rattle.motion_pass_placement.proofs.Acted.{AreToldOf, come_there, computed_here, done, keep_unnumbered, moves, one, reads}
 
 dropped_to : {A : Type 0} (before rest : List A) → drop (length before) (before ++ rest) ≡ rest
 dropped_to [] rest = refl

@@ -1,5 +1,5 @@
 -- The computations of a graph, 64 after the other.
-use Rattle.std.specs.Prelude.{◌≡◌, ℕ, ◌+◌, ◌/◌, ◌<◌, Bool, true, false, Option, Some, None, List, [], length, map, slice_get, slice_index_or}
+use Rattle.std.specs.Prelude.{◌≡◌, ℕ, ◌/◌, ◌<◌, ◌^◌, Bool, true, false, Option, Some, List, [], length, map, slice_get, slice_index_or}
 use Rattle.std.specs.Option.{option_map_or}
 use Rattle.std.specs.Global.{Vec}
 use Rattle.graph_core.specs.Graphs.{Block, block_view}
@@ -52,6 +52,7 @@ all_in p = views_of p.computations.now
 
 -- What is placed is a graph, with just the blocks told that paths reach, none of which leads to the first, and with the numbers of its computations.
 pub record IsPlacing (p : Placing) : Type 0 where
+  pub few : length (blocks_in p) < 2 ^ 32
   pub reached : AreReached (blocks_in p) (reached_in p)
   pub once : (m : ℕ) → HasEdge (blocks_in p) (reached_in p) m 0 → ⊥
   pub known : AreNumbers p.computations.now

@@ -1,5 +1,5 @@
 -- Where computations are done, and where their values are read instead: by the rule of lazy code motion.
-use Rattle.std.specs.Prelude.{◌≡◌, ◌↔◌, ◌⊎◌, ℕ, suc, ◌<◌, ◌/◌, ◌&&◌, ◌||◌, not, Bool, true, false, Option, Some, None, List, [], ◌∷◌, ◌++◌, length, slice_get, slice_index_or}
+use Rattle.std.specs.Prelude.{◌≡◌, ◌↔◌, ℕ, suc, ◌<◌, ◌/◌, ◌&&◌, ◌||◌, not, Bool, true, false, Option, Some, None, List, [], ◌∷◌, ◌++◌, length, slice_get, slice_index_or}
 use Rattle.std.specs.Global.{Vec}
 use Rattle.graph_core.specs.declared.name.Name as declared-name
 use Rattle.graph_core.specs.Graphs.{Block, Graph, Instruction}

@@ -85,7 +85,7 @@ impl Placing<'_> {
         Ok(locals)
     }
 
-    /// What is so of a column's computations at each block. None where the search for it failed.
+    /// What is so of a column's computations at each block. None where an operand of one has no name.
     fn solved(&self, index: u32) -> Result<Option<Solved>, AllocError>
         requires { IsPlacing self.now }
         ensures { IfOk result (λ o. IfSome o (λ solved. IsSolved self.now index solved)) }
@@ -103,13 +103,11 @@ impl Placing<'_> {
             back: self.back,
             locals: &locals,
         };
-        let Some(facts) = problems.solve()? else {
-            return Ok(None);
-        };
+        let facts = problems.solve()?;
         Ok(Some(Solved { column, facts }))
     }
 
-    /// What is so of the computations of all columns. None where the search for it failed.
+    /// What is so of the computations of all columns. None where there are 2^32 or more.
     pub fn columns(&self) -> Result<Option<Vec<Solved>>, AllocError>
         requires { IsPlacing self.now }
         ensures { IfOk result (λ o. IfSome o (λ columns. AreSolved self.now columns.items)) }

@@ -1,6 +1,6 @@
 //! Where computations are done, and where their values are read instead.
 
-ghost use Rattle.std.specs.Prelude.{◌≡◌, ◌↔◌, ◌⊎◌, ℕ, ◌+◌, ◌*◌, ◌<◌, ◌/◌, ◌&&◌, ◌||◌, not, false, IfOk, IfSome, List, [], ◌∷◌, ◌++◌, None, Some, is_some, length, map, slice_get, slice_index_or, true};
+ghost use Rattle.std.specs.Prelude.{◌≡◌, ◌↔◌, ◌⊎◌, ℕ, ◌+◌, ◌*◌, ◌<◌, ◌^◌, ◌/◌, ◌&&◌, ◌||◌, not, false, IfOk, IfSome, List, [], ◌∷◌, ◌++◌, None, Some, is_some, length, map, slice_get, slice_index_or, true};
 ghost use Rattle.graph_core.specs.Computations as spec-computation;
 ghost use Rattle.graph_core.specs.Graphs as spec;
 ghost use Rattle.graph_core.specs.Graphs.{block_view, graph_view, instruction_view};
@@ -21,7 +21,7 @@ use crate::fates::{Fate, NO_FATE, fate_at};
 use graph_core::{Graph, Instr, Name};
 use graph_paths::reached_in_order;
 use motion_pass_points::{Computation, Computations, both, either, is_flagged, is_in, without};
-use motion_pass_problems::{Facts, comes_back, reached_blocks, word_of};
+use motion_pass_problems::{Facts, comes_back, reached_flags, word_of};
 use std::alloc::{AllocError, Global};
 
 /// What becomes of an instruction.
@@ -343,7 +343,7 @@ fn numbered(
     Ok(Some(made))
 }
 
-/// The placement of the computations of reached code. None where the search for it failed, or names run out.
+/// The placement of the computations of reached code. None where names run out.
 fn placed(
     alloc: Global,
     graph: &Graph,
@@ -351,6 +351,7 @@ fn placed(
     computations: Computations,
     reached: Vec<bool>,
 ) -> Result<Option<Placement>, AllocError>
+    requires few { length graph.now.blocks.items < 2 ^ 32 }
     requires reached { AreReached (map block_view graph.now.blocks.items) (λ n. slice_index_or reached.items n false) }
     requires once { (m : ℕ) → HasEdge (map block_view graph.now.blocks.items) (λ n. slice_index_or reached.items n false) m 0 → ⊥ }
     requires known { AreNumbers computations }
@@ -388,14 +389,15 @@ fn placed(
     }))
 }
 
-/// Where the computations of a graph's reached code are done by lazy code motion. None where the search for it failed, or names run out.
+/// Where the computations of a graph's reached code are done by lazy code motion. None where there are 2^32 blocks or more, or names run out.
 pub fn place(alloc: Global, graph: &Graph) -> Result<Option<Motion>, AllocError>
     ensures { IfOk result (λ o. IfSome o (λ motion. IsAnswered (graph_view graph.now) motion)) }
 {
-    let order = reached_in_order(alloc, &graph.blocks)?;
-    let Some(reached) = reached_blocks(alloc, &graph.blocks, &order)? else {
+    if graph.blocks.len() > 0xffff_ffff {
         return Ok(None);
-    };
+    }
+    let order = reached_in_order(alloc, &graph.blocks)?;
+    let reached = reached_flags(alloc, &graph.blocks)?;
     let back = comes_back(&graph.blocks, &reached);
     if back {
         return Ok(Some(Motion::EnteredAgain));

@@ -1,6 +1,4 @@
-pub mod Carried
 pub mod Leading
-pub mod Whole
 pub mod Bools
 pub mod Walks
 pub mod Standing
@@ -15,5 +13,5 @@ pub mod Pushed
 pub mod Posed
 pub mod Inner
 pub mod Zeros
-pub mod Reached
 pub mod Returning
+pub mod Flooded

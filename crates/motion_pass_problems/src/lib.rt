@@ -5,6 +5,6 @@ mod flow;
 mod problems;
 mod reach;
 
-pub use flow::{Flow, Passage, leaving, word_at};
+pub use flow::{Flow, Passage, leaving};
 pub use problems::{Facts, Problems, word_of};
-pub use reach::{comes_back, reached_blocks};
+pub use reach::{comes_back, reached_flags};

@@ -1,13 +1,14 @@
 //! The four problems of data flow of lazy code motion, each for 64 computations at once.
 
-ghost use Rattle.std.specs.Prelude.{◌≡◌, ℕ, ◌<◌, ◌&&◌, ◌||◌, Bool, IfOk, IfSome, Some, length, slice_get, slice_index_or, true};
+ghost use Rattle.std.specs.Prelude.{◌≡◌, ℕ, ◌<◌, ◌&&◌, ◌||◌, Bool, IfOk, ◌^◌, ◌≤◌, Some, length, slice_get, slice_index_or, true};
 ghost use Rattle.graph_core.specs.Graphs as spec;
 ghost use Rattle.graph_core.specs.Graphs.{block_view, end_view};
 ghost use Rattle.motion_pass_problems.specs.Facts.{is_return};
 ghost use Rattle.motion_pass_problems.specs.Flowing.{is_at};
 ghost use Rattle.motion_pass_points.specs.Words.{has};
-ghost use Rattle.motion_pass_problems.specs.Problems.{AreLeaving, IsPastPassage, IsUnhadPassage, IsUnsafePassage, IsUsedPassage, local_of, passage_of};
+ghost use Rattle.motion_pass_problems.specs.Problems.{AreLeaving, IsPastPassage, IsUnhadPassage, IsUnsafePassage, IsUsedPassage, local_of};
 
+use crate::flow::passage_at;
 use crate::{Flow, Passage, leaving};
 use graph_core::{Block, End};
 use motion_pass_points::{Local, NOTHING, both, either, without};
@@ -35,9 +36,6 @@ struct BlockWords {
     ends: Vec<u64>,
 }
 
-/// Of what is no block.
-const NO_PASSAGE: Passage = Passage { made: 0, passed: 0 };
-
 /// The word of this number; no facts where there is none.
 pub fn word_of(words: &[u64], number: usize) -> u64
     ensures { result ≡ slice_index_or words.now number 0 }
@@ -54,15 +52,6 @@ fn local_at(locals: &[Local], number: usize) -> Local
     match locals.get(number) {
         Some(local) => *local,
         None => NOTHING,
-    }
-}
-
-fn passage_at(passages: &[Passage], number: usize) -> Passage
-    ensures { result ≡ passage_of passages.now number }
-{
-    match passages.get(number) {
-        Some(passage) => *passage,
-        None => NO_PASSAGE,
     }
 }
 
@@ -177,11 +166,19 @@ impl Problems<'_> {
     ghost use Rattle.motion_pass_problems.specs.Problems.{AreBroughtBy};
     ghost use Rattle.motion_pass_problems.specs.MotionProblemsProblems.{ArePastPassages, AreUnhadPassages, AreUnsafePassages, AreUsedPassages, TellFacts, TellPast, TellUnhadEnds, TellUnsafeEnds, TellUnsafeStarts, TellUsed, blocks_of, reached_of};
 
-    /// What some way brings to blocks through these passages, where this begins. None where the search for it does not end, which no graph is known to meet.
-    fn brought(&self, passages: &[Passage], forward: bool, begins: Vec<u64>) -> Option<Vec<u64>>
-        requires { length begins.items ≡ length (blocks_of self.now) }
-        ensures size { IfSome result (λ words. length words.items ≡ length (blocks_of self.now)) }
-        ensures exact { IfSome result (λ words. AreBroughtBy (blocks_of self.now) (reached_of self.now) forward passages.now begins.items words.items) }
+    /// What some way brings to blocks through these passages, where this begins.
+    fn brought(
+        &self,
+        passages: &[Passage],
+        forward: bool,
+        begins: &[u64],
+    ) -> Result<Vec<u64>, AllocError>
+        requires few { length (blocks_of self.now) < 2 ^ 32 }
+        requires begins { length begins.now ≡ length (blocks_of self.now) }
+        requires passages { length passages.now ≡ length (blocks_of self.now) }
+        ensures size { IfOk result (λ words. length words.items ≡ length (blocks_of self.now)) }
+        ensures exact { IfOk result (λ words.
+            AreBroughtBy (blocks_of self.now) (reached_of self.now) forward passages.now begins.now words.items) }
     {
         let flow = Flow {
             blocks: self.blocks,
@@ -189,11 +186,9 @@ impl Problems<'_> {
             passages,
             forward,
         };
-        if forward {
-            flow.solve(begins, self.order)
-        } else {
-            flow.solve(begins, self.back)
-        }
+        let order = if forward { self.order } else { self.back };
+        let words = flow.solve(self.alloc, begins, order)?;
+        Ok(words)
     }
 
     /// For each block what is not down-safe.
@@ -224,15 +219,14 @@ impl Problems<'_> {
     }
 
     /// At the end of each block those that are not down-safe.
-    fn unsafe_ends(&self, passages: &[Passage]) -> Result<Option<Vec<u64>>, AllocError>
-        requires { AreUnsafePassages self.now passages.now }
-        ensures { IfOk result (λ o. IfSome o (λ words. TellUnsafeEnds self.now words.items)) }
+    fn unsafe_ends(&self, passages: &[Passage]) -> Result<Vec<u64>, AllocError>
+        requires few { length (blocks_of self.now) < 2 ^ 32 }
+        requires passages { AreUnsafePassages self.now passages.now }
+        ensures { IfOk result (λ words. TellUnsafeEnds self.now words.items) }
     {
         let begins = self.unsafe_begins()?;
-        let Some(words) = self.brought(passages, false, begins) else {
-            return Ok(None);
-        };
-        Ok(Some(words))
+        let words = self.brought(passages, false, &begins)?;
+        Ok(words)
     }
 
     /// For each block what is neither down-safe nor up-safe.
@@ -250,17 +244,16 @@ impl Problems<'_> {
     }
 
     /// At the end of each block those that are not down-safe there, and were nowhere on some path since an operand was written.
-    fn unhad_ends(&self, unsafe_ends: &[u64]) -> Result<Option<Vec<u64>>, AllocError>
-        requires { TellUnsafeEnds self.now unsafe_ends.now }
-        ensures { IfOk result (λ o. IfSome o (λ words. TellUnhadEnds self.now words.items)) }
+    fn unhad_ends(&self, unsafe_ends: &[u64]) -> Result<Vec<u64>, AllocError>
+        requires few { length (blocks_of self.now) < 2 ^ 32 }
+        requires open { TellUnsafeEnds self.now unsafe_ends.now }
+        ensures { IfOk result (λ words. TellUnhadEnds self.now words.items) }
     {
         let passages = self.unhad_passages(unsafe_ends)?;
         let begins = at_entry(self.alloc, self.blocks.len())?;
-        let Some(starts) = self.brought(&passages, true, begins) else {
-            return Ok(None);
-        };
+        let starts = self.brought(&passages, true, &begins)?;
         let ends = leaving_all(self.alloc, &passages, &starts)?;
-        Ok(Some(ends))
+        Ok(ends)
     }
 
     /// For each block what can't be delayed further.
@@ -288,20 +281,18 @@ impl Problems<'_> {
         unsafe_ends: &[u64],
         unsafe_starts: &[u64],
         unhad_ends: &[u64],
-    ) -> Result<Option<BlockWords>, AllocError>
+    ) -> Result<BlockWords, AllocError>
+        requires few { length (blocks_of self.now) < 2 ^ 32 }
         requires size { length unsafe_starts.now ≡ length (blocks_of self.now) }
         requires open { TellUnsafeEnds self.now unsafe_ends.now }
         requires starts { TellUnsafeStarts self.now unsafe_starts.now }
         requires had { TellUnhadEnds self.now unhad_ends.now }
-        ensures { IfOk result (λ o. IfSome o (λ words. TellPast self.now unsafe_starts.now unhad_ends.now words.starts.items words.ends.items)) }
+        ensures { IfOk result (λ words. TellPast self.now unsafe_starts.now unhad_ends.now words.starts.items words.ends.items) }
     {
         let passages = self.past_passages(unsafe_ends, unhad_ends)?;
-        let begins = Vec::from_slice(self.alloc, unsafe_starts)?;
-        let Some(starts) = self.brought(&passages, true, begins) else {
-            return Ok(None);
-        };
+        let starts = self.brought(&passages, true, unsafe_starts)?;
         let ends = leaving_all(self.alloc, &passages, &starts)?;
-        Ok(Some(BlockWords { starts, ends }))
+        Ok(BlockWords { starts, ends })
     }
 
     /// For each block what is used.
@@ -324,43 +315,35 @@ impl Problems<'_> {
     }
 
     /// At the start of each block, and then at its end, those whose values are used from there on.
-    fn used(&self, past_starts: &[u64], past_ends: &[u64]) -> Result<Option<BlockWords>, AllocError>
-        ensures { IfOk result (λ o. IfSome o (λ words. TellUsed self.now past_starts.now past_ends.now words.starts.items words.ends.items)) }
+    fn used(&self, past_starts: &[u64], past_ends: &[u64]) -> Result<BlockWords, AllocError>
+        requires few { length (blocks_of self.now) < 2 ^ 32 }
+        ensures { IfOk result (λ words. TellUsed self.now past_starts.now past_ends.now words.starts.items words.ends.items) }
     {
         let passages = self.used_passages(past_starts, past_ends)?;
         let none = vec![in self.alloc; 0u64; self.blocks.len()]?;
-        let Some(behind) = self.brought(&passages, false, none) else {
-            return Ok(None);
-        };
+        let behind = self.brought(&passages, false, &none)?;
         let starts = leaving_all(self.alloc, &passages, &behind)?;
         let ends = both_all(self.alloc, &behind, past_ends)?;
-        Ok(Some(BlockWords { starts, ends }))
+        Ok(BlockWords { starts, ends })
     }
 
-    /// What is so at each block. None where the search for it does not end, which no graph is known to meet.
-    pub fn solve(&self) -> Result<Option<Facts>, AllocError>
-        ensures { IfOk result (λ o. IfSome o (λ facts. TellFacts self.now facts)) }
+    /// What is so at each block.
+    pub fn solve(&self) -> Result<Facts, AllocError>
+        requires few { length (blocks_of self.now) < 2 ^ 32 }
+        ensures { IfOk result (λ facts. TellFacts self.now facts) }
     {
         let open = self.unsafe_passages()?;
-        let Some(unsafe_ends) = self.unsafe_ends(&open)? else {
-            return Ok(None);
-        };
+        let unsafe_ends = self.unsafe_ends(&open)?;
         let unsafe_starts = leaving_all(self.alloc, &open, &unsafe_ends)?;
-        let Some(unhad_ends) = self.unhad_ends(&unsafe_ends)? else {
-            return Ok(None);
-        };
-        let Some(past) = self.past(&unsafe_ends, &unsafe_starts, &unhad_ends)? else {
-            return Ok(None);
-        };
-        let Some(used) = self.used(&past.starts, &past.ends)? else {
-            return Ok(None);
-        };
-        Ok(Some(Facts {
+        let unhad_ends = self.unhad_ends(&unsafe_ends)?;
+        let past = self.past(&unsafe_ends, &unsafe_starts, &unhad_ends)?;
+        let used = self.used(&past.starts, &past.ends)?;
+        Ok(Facts {
             unsafe_starts,
             past_starts: past.starts,
             past_ends: past.ends,
             used_starts: used.starts,
             used_ends: used.ends,
-        }))
+        })
     }
 }

@@ -12,11 +12,10 @@ pub returns : goal.returns
 returns c =
     let g = c.args.graph.now in
     let copies = c.in-Some.copies.all.now in
-    let bits = bits_of c.in-Some-2.marks in
-    let after : List Block = map block_view c.in-Some-3.blocks.items in
-    let found = subst (λ o. IfSome o (λ marks. AreFound (lines_of (map block_view g.blocks.items)) copies (bits_of marks))) c.in-Some-2.is
-    (subst (λ xs. IfSome c.in_ok-marks.field-0 (λ marks. AreFound (lines_of (map block_view xs)) copies (bits_of marks))) c.deref.ensures.value c.in_ok-marks.ensures.found) in
-    let all = subst (λ o. IfSome o (λ made. AreReadBlocks (map scalar_view g.scalars.items) copies bits 0 (map block_view g.blocks.items) (map block_view made.items))) c.in-Some-3.is
+    let bits = bits_of c.in_ok-starts.starts in
+    let after : List Block = map block_view c.in-Some-2.blocks.items in
+    let found = subst (λ xs. AreFound (lines_of (map block_view xs)) copies bits) c.deref.ensures.value c.in_ok-starts.ensures.found in
+    let all = subst (λ o. IfSome o (λ made. AreReadBlocks (map scalar_view g.scalars.items) copies bits 0 (map block_view g.blocks.items) (map block_view made.items))) c.in-Some-2.is
     (subst (λ xs. IfSome c.in_ok-blocks.field-0 (λ made. AreReadBlocks (map scalar_view g.scalars.items) copies bits 0 (map block_view xs) (map block_view made.items))) c.deref-3.ensures.value
     (subst (λ ss. IfSome c.in_ok-blocks.field-0 (λ made. AreReadBlocks (map scalar_view ss) copies bits 0 (map block_view c.deref-3.result.now) (map block_view made.items))) c.deref-2.ensures.value c.in_ok-blocks.ensures)) in
     let made : List Binding → List Scalar → List MemoryObject → Graph =

@@ -4,7 +4,7 @@ use Rattle.std.proofs.lemmas.List.{map-append}
 use Rattle.graph_core.specs.Graphs.{block_view, scalar_view}
 use Rattle.copy_pass_rule.specs.Flow.{IsReadBlock}
 use Rattle.graph_paths.specs.PathMarksTable.{bits_of}
-use Rattle.copy_pass_rule.proofs.Walked.{block_same, blocks_all, blocks_step, rest_count}
+use Rattle.copy_pass_rule.proofs.Walked.{blocks_all, blocks_step, rest_count}
 use Rattle.copy_pass_rule.proofs.blocks.read_blocks.Goals as goal
 
 pub loop-ahead-preserved : goal.loop-ahead-preserved
@@ -15,14 +15,13 @@ loop-ahead-preserved c =
     let rest = rest_count c.loop-ahead.ahead.now some in
     let lt : c.loop-ahead.number < length c.args.blocks.now = omega (arith, counted, some) in
     record {
-      rows = c.in_ok-made.ensures.rows;
-      others = λ n bit small. c.in_ok-made.ensures.others n bit (λ q. omega (arith, q, small)) ∙ inv.others n bit small;
+      count = c.in_ok-made.ensures.same_count ∙ inv.count;
+      width = c.in_ok-made.ensures.same_width ∙ inv.width;
       counted = omega (arith, counted, rest);
-      read = blocks_step block_view (map scalar_view c.args.scalars.now) c.args.copies.now.all.now (bits_of c.args.marks.now) (map block_view c.args.blocks.now) c.loop-ahead.number _ c.block-item.result _ _ _ (block_view c.in-Some.made) some c.block-item.is
-          (ap (λ xs. map block_view xs) c.in_ok-push.ensures.items ∙ map-append block_view _ _) (block_same (map scalar_view c.args.scalars.now) c.args.copies.now.all.now (bits_of c.loop-ahead.marks) (bits_of c.args.marks.now) c.loop-ahead.number (block_view c.block-item.result) (block_view c.in-Some.made)
-          (λ bit. inv.others c.loop-ahead.number bit lt)
-          (subst (λ o. IfSome o (λ made. IsReadBlock (map scalar_view c.args.scalars.now) c.args.copies.now.all.now (bits_of c.loop-ahead.marks) c.loop-ahead.number (block_view c.block-item.result) (block_view made))) c.in-Some.is c.in_ok-made.ensures.read)) inv.read;
+      read = blocks_step block_view (map scalar_view c.args.scalars.now) c.args.copies.now.all.now (bits_of c.args.starts.now) (map block_view c.args.blocks.now) c.loop-ahead.number _ c.block-item.result _ _ _ (block_view c.in-Some.made) some c.block-item.is
+          (ap (λ xs. map block_view xs) c.in_ok-push.ensures.items ∙ map-append block_view _ _)
+          (subst (λ o. IfSome o (λ made. IsReadBlock (map scalar_view c.args.scalars.now) c.args.copies.now.all.now (bits_of c.args.starts.now) c.loop-ahead.number (block_view c.block-item.result) (block_view made))) c.in-Some.is c.in_ok-made.ensures.read) inv.read;
     }
 
 pub returns : goal.returns
-returns c = blocks_all block_view (map scalar_view c.args.scalars.now) c.args.copies.now.all.now (bits_of c.args.marks.now) (map block_view c.args.blocks.now) _ _ _ c.in_default.len_below c.loop-ahead.invariant.read
+returns c = blocks_all block_view (map scalar_view c.args.scalars.now) c.args.copies.now.all.now (bits_of c.args.starts.now) (map block_view c.args.blocks.now) _ _ _ c.in_default.len_below c.loop-ahead.invariant.read

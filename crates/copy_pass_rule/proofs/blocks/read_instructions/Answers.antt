@@ -8,15 +8,15 @@ use Rattle.copy_pass_rule.proofs.blocks.read_instructions.Goals as goal
 
 pub loop-ahead-preserved : goal.loop-ahead-preserved
 loop-ahead-preserved c = record {
-  rows = c.step.ensures.rows;
-  others = λ other bit ne. c.step.ensures.others other bit ne ∙ c.loop-ahead.invariant.others other bit ne;
-  read = ahead_step instruction_view (map scalar_view c.args.scalars.now) c.args.copies.now.all.now c.args.number (map instruction_view c.args.instructions.now) (missing_in (bits_of c.args.marks.now) c.args.blocks)
-      (missing_in (bits_of c.loop-ahead.marks) c.args.blocks) (missing_in (bits_of c.step.new.marks) c.args.blocks) _ c.instruction-item.result _ _ _ (instruction_view c.in_ok-made.made) _ _ c.in-len1-up.len_at_least c.instruction-item.is
+  same_count = c.step.ensures.same_count ∙ c.loop-ahead.invariant.same_count;
+  same_width = c.step.ensures.same_width ∙ c.loop-ahead.invariant.same_width;
+  read = ahead_step instruction_view (map scalar_view c.args.scalars.now) c.args.copies.now.all.now c.args.number (map instruction_view c.args.instructions.now) (missing_in (bits_of c.args.walk.now) 0)
+      (missing_in (bits_of c.loop-ahead.walk) 0) (missing_in (bits_of c.step.new.marks) 0) _ c.instruction-item.result _ _ _ (instruction_view c.in_ok-made.made) _ _ c.in-len1-up.len_at_least c.instruction-item.is
       (ap (λ xs. map instruction_view xs) c.in_ok-push.ensures.items ∙ map-append instruction_view _ _) c.in_ok-made.ensures refl (c.is_known.ensures c.if-not-is_known.false)
       c.target-target.ensures (λ k d at. c.step.ensures.walk k d at) c.loop-ahead.invariant.read;
 }
 
 pub returns-clause-read : goal.returns-clause-read
 returns-clause-read c =
-    ahead_all instruction_view (map scalar_view c.args.scalars.now) c.args.copies.now.all.now c.args.number (map instruction_view c.args.instructions.now) (missing_in (bits_of c.args.marks.now) c.args.blocks) (missing_in (bits_of c.loop-ahead.marks) c.args.blocks) _ _
+    ahead_all instruction_view (map scalar_view c.args.scalars.now) c.args.copies.now.all.now c.args.number (map instruction_view c.args.instructions.now) (missing_in (bits_of c.args.walk.now) 0) (missing_in (bits_of c.loop-ahead.walk) 0) _ _
     c.in_default.len_below c.loop-ahead.invariant.read

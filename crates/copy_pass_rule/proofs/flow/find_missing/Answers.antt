@@ -1,14 +1,16 @@
-use Rattle.std.proofs.Common.{map, sym, ◌∙◌, arith}
+use Rattle.std.proofs.Common.{map, inl, inr, true≢false, sym, ◌∙◌, arith}
+use Rattle.std.proofs.lemmas.Bool.{cases_eq}
 use Rattle.graph_core.specs.Graphs.{block_view}
-use Rattle.copy_pass_rule.specs.Flow.{lines_of}
-use Rattle.copy_pass_rule.proofs.Bringing.{brought_first, found_by, lines_count}
+use Rattle.graph_paths.specs.PathMarksTable.{bits_of}
+use Rattle.copy_pass_rule.proofs.Bringing.{found_by}
 use Rattle.copy_pass_rule.proofs.flow.find_missing.Goals as goal
 
-pub settle-requires-clause-brought : goal.settle-requires-clause-brought
-settle-requires-clause-brought c =
-    brought_first c.args.copies.now.all.now c.args.blocks c.args.copies.now.scalars c.put_parts.new.marks c.put_entry.new.marks c.requires.some c.put_entry.ensures.others c.put_parts.ensures.below (λ bit lt. c.put_entry.ensures.entry bit (omega (arith, lt)))
-    (lines_of (map block_view c.args.all.now))
-
-pub returns-then-settle-clause-found : goal.returns-then-settle-clause-found
-returns-then-settle-clause-found c =
-    found_by (lines_of (map block_view c.args.all.now)) c.args.copies.now.all.now c.args.blocks c.settle.new.marks (c.requires.count ∙ sym (lines_count block_view c.args.all.now)) c.settle.ensures.brought (c.settle.ensures.closed c.if-settle.true)
+pub returns-clause-found : goal.returns-clause-found
+returns-clause-found c =
+    found_by (map block_view c.args.all.now) c.args.copies.now.all.now (bits_of c.in_ok-reached.reached 0) c.in_ok-reached.ensures (bits_of c.put_entry.new.marks) (bits_of c.settle.new.comes) (bits_of c.settle.new.leaves)
+    (λ bit lt. c.put_entry.ensures.entry bit (omega (arith, lt, c.requires.narrow)))
+    (λ n bit e. elim (cases_eq n 0) [
+      | inl q ↦ q
+      | inr q ↦ absurd (true≢false (sym e ∙ c.put_entry.ensures.others n bit q ∙ c.in_ok-starts.ensures.clear n bit))
+    ])
+    c.in_ok-settle.ensures.settled

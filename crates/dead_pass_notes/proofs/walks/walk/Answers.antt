@@ -16,10 +16,11 @@ loop-index-preserved c =
     let test = c.loop-index-test.true in
     let inside : k < length xs = omega (arith, test) in
     record {
-      table = c.step.ensures.table;
-      others = λ other bit ne. c.step.ensures.others other bit ne ∙ c.loop-index.invariant.others other bit ne;
-      walk = λ x named. c.step.ensures.walk x named
-          ∙ walk_more instruction_view xs k i i x (is_going (turn_of c.args.turns.now) c.args.number) (bits_of c.args.marks.now c.args.number x) _ (bits_of c.loop-index.marks c.args.blocks x) _ inside c.index-instructions-index.is c.target.ensures
+      same_count = c.step_in.ensures.same_count ∙ c.loop-index.invariant.same_count;
+      same_width = c.step_in.ensures.same_width ∙ c.loop-index.invariant.same_width;
+      others = λ other bit ne. c.step_in.ensures.others other bit ne ∙ c.loop-index.invariant.others other bit ne;
+      walk = λ x named. c.step_in.ensures.walk x named
+          ∙ walk_more instruction_view xs k i i x (is_going (turn_of c.args.turns.now) c.args.number) (bits_of c.args.marks.now c.args.row x) _ (bits_of c.loop-index.marks c.args.row x) _ inside c.index-instructions-index.is c.target.ensures
           (ap (λ t. not (t == 0)) c.turn_at-goes.ensures) (c.loop-index.invariant.walk x named);
     }
 
@@ -28,5 +29,5 @@ returns-clause-walk c = λ x named.
     (let xs = c.args.instructions.now in
     let long = length-map xs instruction_view in
     let test = c.loop-index-test.false in
-    walk_done (map instruction_view xs) (length xs) c.loop-index.index x (is_going (turn_of c.args.turns.now) c.args.number) (bits_of c.args.marks.now c.args.number x) (bits_of c.loop-index.marks c.args.blocks x) (sym long) (omega (arith, test))
+    walk_done (map instruction_view xs) (length xs) c.loop-index.index x (is_going (turn_of c.args.turns.now) c.args.number) (bits_of c.args.marks.now c.args.row x) (bits_of c.loop-index.marks c.args.row x) (sym long) (omega (arith, test))
     (c.loop-index.invariant.walk x named))

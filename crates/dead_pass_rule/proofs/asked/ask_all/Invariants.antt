@@ -3,12 +3,13 @@ use Rattle.std.specs.Prelude.{◌==◌, ◌||◌}
 use Rattle.std.specs.List.{list_any}
 use Rattle.graph_core.specs.Uses.{numbers}
 use Rattle.graph_paths.specs.PathMarksTable.{bits_of}
-use Rattle.dead_pass_rule.specs.Walks.{AreSameBut, IsTable}
+use Rattle.dead_pass_rule.specs.Walks.{AreSameBut}
 use Rattle.dead_pass_rule.proofs.asked.ask_all.Given as goal
 
 abbrev pub invariant-loop-name : goal.invariant-loop-name
 invariant-loop-name l = record {
-  table : IsTable l.blocks l.names l.marks;
-  others : AreSameBut l.blocks l.fn.marks l.marks;
-  walk : (x : ℕ) → x < l.names → (list_any (λ y. y == x) (numbers (drop l.name-index l.all)) || bits_of l.marks l.blocks x) ≡ (list_any (λ y. y == x) (numbers l.all) || bits_of l.fn.marks l.blocks x);
+  same_count : l.marks.count ≡ l.fn.marks.count;
+  same_width : l.marks.width ≡ l.fn.marks.width;
+  others : AreSameBut l.row l.fn.marks l.marks;
+  walk : (x : ℕ) → x < l.names → (list_any (λ y. y == x) (numbers (drop l.name-index l.all)) || bits_of l.marks l.row x) ≡ (list_any (λ y. y == x) (numbers l.all) || bits_of l.fn.marks l.row x);
 }

@@ -1,13 +1,12 @@
-use Rattle.std.proofs.Common.{◌≡◌, ◌<◌, ℕ, List, true, false, true≢false, inl, inr, sym, ap, ◌∙◌, subst, arith}
-use Rattle.std.specs.Prelude.{◌==◌, ◌&&◌, ◌||◌}
+use Rattle.std.proofs.Common.{ℕ, List, true≢false, inl, inr, sym, ap, ◌∙◌, arith}
+use Rattle.std.specs.Prelude.{◌==◌, ◌&&◌}
 use Rattle.std.specs.List.{list_any}
-use Rattle.std.proofs.lemmas.Bool.{or_cases, or_left, and_parts}
+use Rattle.std.proofs.lemmas.Bool.{or_cases, or_left}
 use Rattle.graph_core.specs.Graphs.{end_view}
-use Rattle.graph_core.specs.Uses.{numbers, reads_of_end}
-use Rattle.graph_core.specs.Paths.{Among}
+use Rattle.graph_core.specs.Uses.{numbers}
 use Rattle.graph_paths.specs.PathMarksTable.{bits_of}
 use Rattle.dead_pass_rule.proofs.ReadNames.{among_any, any_among}
-use Rattle.dead_pass_rule.proofs.Walking.{one_kept}
+use Rattle.dead_pass_rule.proofs.Walking.{one_kept, table_but}
 use Rattle.dead_pass_rule.proofs.asked.begin.Goals as goal
 
 pub returns-clause-read : goal.returns-clause-read
@@ -25,3 +24,7 @@ returns-clause-only c = λ x lt b.
         | inr one ↦ inr (one_kept c.args.blocks (end_view c.args.end.now) c.args.marks.now c.keep.new.self x (λ n bit small. c.keep.ensures.rows n bit (λ q. omega (arith, q, small))) one)
       ]
     ])
+
+pub returns-clause-table : goal.returns-clause-table
+returns-clause-table c =
+    table_but c.args.blocks c.args.names c.join_all.new.marks c.ask_all.new.marks c.join_all.ensures.table c.ask_all.ensures.same_count c.ask_all.ensures.same_width c.ask_all.ensures.others

@@ -1,10 +1,10 @@
-use Rattle.std.proofs.Common.{◌≡◌, ◌-◌, ◌∷◌, [], drop, length, map, refl, sym, ap, ◌∙◌, subst, arith}
+use Rattle.std.proofs.Common.{◌-◌, [], drop, length, map, sym, ap, ◌∙◌, subst, arith}
 use Rattle.graph_core.specs.Graphs.{end_view, instruction_view}
 use Rattle.dead_pass_rule.specs.Walks.{turn_of}
 use Rattle.graph_paths.specs.PathMarksTable.{bits_of}
 use Rattle.dead_pass_rule.specs.Asking.{TellsAsked, is_gone}
 use Rattle.dead_pass_rule.proofs.Backward.{back_all, back_count, back_first, back_step}
-use Rattle.dead_pass_rule.proofs.Walking.{IsWalked, walked_first, walked_next}
+use Rattle.dead_pass_rule.proofs.Walking.{IsWalked, table_but, walked_first, walked_next}
 use Rattle.dead_pass_rule.proofs.asked.walk_back.Goals as goal
 
 pub loop-left-init : goal.loop-left-init
@@ -27,7 +27,7 @@ loop-left-preserved c =
     let left = c.loop-left.left in
     let count = back_count instruction_view _ left (omega arith) in
     record {
-      table = c.in_ok-step_back.ensures.table;
+      table = table_but c.args.blocks c.args.names c.loop-left.marks c.step_back.new.marks c.loop-left.invariant.table c.in_ok-step_back.ensures.same_count c.in_ok-step_back.ensures.same_width c.in_ok-step_back.ensures.others;
       others = λ other bit ne. c.in_ok-step_back.ensures.others other bit ne ∙ c.loop-left.invariant.others other bit ne;
       walked = subst (λ l. IsWalked T c.args.blocks c.args.names c.args.number e c.args.marks.now c.step_back.new.marks c.push.new.self.items l) (sym (back_step instruction_view _ left c.index-instructions-at.result c.loop-left-test.true c.index-instructions-at.is))
           (walked_next T c.args.blocks c.args.names c.args.number e c.args.marks.now c.loop-left.marks c.step_back.new.marks c.loop-left.told.items _ i _ c.is_told-asked.result c.is_gone-gone.result c.in_ok-push.ensures.items

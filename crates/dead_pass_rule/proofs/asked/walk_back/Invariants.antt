@@ -1,5 +1,5 @@
-use Rattle.std.proofs.Common.{◌≡◌, ◌-◌, drop, length, map}
-use Rattle.graph_core.specs.Graphs.{block_view, end_view, instruction_view}
+use Rattle.std.proofs.Common.{◌-◌, drop, length, map}
+use Rattle.graph_core.specs.Graphs.{end_view, instruction_view}
 use Rattle.dead_pass_rule.specs.Walks.{AreSameBut, IsTable, turn_of}
 use Rattle.dead_pass_rule.proofs.Walking.{IsWalked}
 use Rattle.dead_pass_rule.proofs.asked.walk_back.Given as goal

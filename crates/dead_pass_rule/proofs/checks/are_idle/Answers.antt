@@ -1,4 +1,4 @@
-use Rattle.std.proofs.Common.{◌≡◌, length, map, sym, ap, ◌∙◌, subst, arith}
+use Rattle.std.proofs.Common.{length, map, sym, ap, subst}
 use Rattle.std.specs.Prelude.{IfSome}
 use Rattle.std.proofs.lemmas.List.{length-map}
 use Rattle.graph_core.specs.Graphs.{block_view, graph_view}
@@ -11,13 +11,13 @@ use Rattle.dead_pass_rule.proofs.checks.are_idle.Goals as goal
 
 pub returns-then-branch-clause-reached : goal.returns-then-branch-clause-reached
 returns-then-branch-clause-reached c =
-    subst (λ xs. AreLed (map block_view xs) (bits_of c.in-Some.reached 0)) c.deref-blocks.ensures.value (subst (λ o. IfSome o (λ marks. AreLed (map block_view c.deref-blocks.result.now) (bits_of marks 0))) c.in-Some.is c.in_ok-reached.ensures)
+    subst (λ xs. AreLed (map block_view xs) (bits_of c.in_ok-reached.reached 0)) c.deref-blocks.ensures.value c.in_ok-reached.ensures
 
 pub returns-then-branch-clause-idle : goal.returns-then-branch-clause-idle
 returns-then-branch-clause-idle c =
     let g = c.args.graph.now in
     let xs = c.deref-blocks.result.now in
-    let led = subst (λ o. IfSome o (λ marks. AreLed (map block_view xs) (bits_of marks 0))) c.in-Some.is c.in_ok-reached.ensures in
-    let counted = subst (λ o. IfSome o (IsCountOf (graph_view g))) c.in-Some-2.is c.in_ok-counts.ensures in
-    idle_by (graph_view g) (map block_view xs) (length xs) (ap (λ l. map block_view l) c.deref-blocks.ensures.value) (sym (length-map xs block_view)) (turn_of c.args.turns.now) g.name_count (bits_of c.in-Some.reached 0) c.in-Some-2.counts counted c.in_ok-marks.marks c.args.heights
+    let led : AreLed (map block_view xs) (bits_of c.in_ok-reached.reached 0) = c.in_ok-reached.ensures in
+    let counted = subst (λ o. IfSome o (IsCountOf (graph_view g))) c.in-Some.is c.in_ok-counts.ensures in
+    idle_by (graph_view g) (map block_view xs) (length xs) (ap (λ l. map block_view l) c.deref-blocks.ensures.value) (sym (length-map xs block_view)) (turn_of c.args.turns.now) g.name_count (bits_of c.in_ok-reached.reached 0) c.in-Some.counts counted c.in_ok-marks.marks c.args.heights
     led c.in_ok-marks.ensures.asked (c.in_ok-are_right_blocks.ensures c.if-branch.true) (c.in_ok-are_later.ensures.above c.if-not-branch.false) (c.in_ok-are_later.ensures.later c.if-not-branch.false)

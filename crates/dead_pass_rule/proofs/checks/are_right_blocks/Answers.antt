@@ -4,8 +4,14 @@ use Rattle.graph_core.specs.Graphs.{Block, block_view}
 use Rattle.graph_paths.specs.PathMarksTable.{bits_of}
 use Rattle.dead_pass_rule.specs.Checked.{IsRightBlock}
 use Rattle.dead_pass_rule.specs.Walks.{turn_of}
-use Rattle.dead_pass_rule.proofs.RightBlocks.{below_on, right_blocks, right_same}
+use Rattle.dead_pass_rule.proofs.RightBlocks.{below_on, right_blocks, right_same, told_same}
 use Rattle.dead_pass_rule.proofs.checks.are_right_blocks.Goals as goal
+
+pub is_right_block-requires-clause-told : goal.is_right_block-requires-clause-told
+is_right_block-requires-clause-told c =
+    let xs = c.args.all.now in
+    let count : length (map block_view xs) ≡ length xs = length-map xs block_view in
+    told_same (turn_of c.args.turns.now) (map block_view xs) c.args.names c.args.marks.now c.loop-number.marks (λ m bit lt. c.loop-number.invariant.same m bit (omega (arith, lt, count))) c.requires.told
 
 pub loop-number-preserved : goal.loop-number-preserved
 loop-number-preserved c =

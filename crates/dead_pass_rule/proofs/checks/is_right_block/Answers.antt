@@ -1,4 +1,4 @@
-use Rattle.std.proofs.Common.{◌≡◌, List, length, map, sym, ap, ◌∙◌, subst, arith}
+use Rattle.std.proofs.Common.{List, map, subst}
 use Rattle.std.specs.Prelude.{Bool, IfSome}
 use Rattle.graph_core.specs.Graphs.{Graph, block_view, instruction_view}
 use Rattle.graph_paths.specs.PathMarksTable.{bits_of}
@@ -19,6 +19,6 @@ returns-clause-right c = λ e b at.
     let right = subst (λ xs. AreRight T c.args.names c.args.number r free asked (map instruction_view xs)) c.deref.ensures.value
     (subst (λ (fs : List Bool). AreRight T c.args.names c.args.number r fs asked (map instruction_view c.deref.result.now)) c.deref-2.ensures.value
     (subst (λ (told : List Bool). AreRight T c.args.names c.args.number r c.deref-2.result.now told (map instruction_view c.deref.result.now)) c.deref-3.ensures.value (c.are_right.ensures e))) in
-    right_block block_view T c.args.counts.now c.args.all.now c.args.names c.args.number (bits_of c.args.reached.now 0) c.args.marks.now c.walk_back.new.marks c.unite.new.self x r free asked
-    c.requires.block c.index-all-number.is c.get-is_reached.ensures c.in_ok-asked.ensures.others (c.unite.ensures.quiet c.if-unite.false) c.unite.ensures.there c.in_ok-asked.ensures.tells c.in_ok-asked.ensures.asked_behind c.in_ok-asked.ensures.told_behind
+    right_block block_view T c.args.counts.now c.args.all.now c.args.names c.args.number (bits_of c.args.reached.now 0) c.args.marks.now x r free asked
+    c.requires.block c.index-all-number.is c.get-is_reached.ensures c.requires.told c.in_ok-asked.ensures.asked_behind c.in_ok-asked.ensures.told_behind
     are_free right b at)

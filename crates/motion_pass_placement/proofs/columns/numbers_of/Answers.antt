@@ -1,4 +1,4 @@
-use Rattle.std.proofs.Common.{◌≡◌, ◌<◌, ◌≤◌, ℕ, inl, inr, Some, List, Option, length, map, refl, sym, ap, ◌∙◌, subst, arith}
+use Rattle.std.proofs.Common.{◌≡◌, ℕ, inl, inr, Some, List, Option, length, map, refl, sym, ap, ◌∙◌, subst, arith}
 use Rattle.std.specs.Prelude.{false, option_map, slice_get, slice_index_or}
 use Rattle.motion_pass_placement.specs.Columns.{row_of}
 use Rattle.std.proofs.lemmas.Bool.{cases_eq, cases_lt}

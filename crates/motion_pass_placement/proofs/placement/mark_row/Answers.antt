@@ -1,4 +1,4 @@
-use Rattle.std.proofs.Common.{◌≡◌, ◌<◌, ℕ, false, true, inl, inr, length, ◌∙◌, arith, refl}
+use Rattle.std.proofs.Common.{◌≡◌, false, true, inl, inr, ◌∙◌, arith, refl}
 use Rattle.std.specs.Prelude.{slice_index_or}
 use Rattle.motion_pass_placement.proofs.Marks.{marked_on}
 use Rattle.motion_pass_placement.proofs.placement.mark_row.Goals as goal

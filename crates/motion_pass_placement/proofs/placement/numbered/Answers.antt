@@ -1,4 +1,4 @@
-use Rattle.std.proofs.Common.{◌≡◌, ◌<◌, ℕ, inl, inr, None, false, length, sym, ap, ◌∙◌, arith}
+use Rattle.std.proofs.Common.{inl, inr, None, false, length, sym, ap, ◌∙◌, arith}
 use Rattle.std.specs.Prelude.{is_some, slice_index_or}
 use Rattle.std.proofs.lemmas.Bool.{cases_eq}
 use Rattle.motion_pass_placement.specs.Placed.{nothing_yet}

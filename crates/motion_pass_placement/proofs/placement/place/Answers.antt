@@ -1,6 +1,5 @@
-use Rattle.std.proofs.Common.{◌≡◌, ℕ, Bool, false, List, map, subst}
+use Rattle.std.proofs.Common.{ℕ, Bool, false, List, map, subst}
 use Rattle.std.specs.Prelude.{IfSome, slice_index_or}
-use Rattle.std.specs.Global.{Vec}
 use Rattle.graph_core.specs.declared.block.Block as declared-block
 use Rattle.graph_core.specs.Graphs.{block_view, graph_view}
 use Rattle.motion_pass_points.specs.declared.computations.Computations.{Computations}
@@ -14,36 +13,36 @@ use Rattle.motion_pass_placement.proofs.placement.place.Goals as goal
 
 pub placed-requires-clause-reached : goal.placed-requires-clause-reached
 placed-requires-clause-reached c =
-    subst (λ (bs : List declared-block.Block). AreReached (map block_view bs) (λ n. slice_index_or c.in-Some.reached.items n false)) c.deref-2.ensures.value
-    (subst (λ o. IfSome o (λ (flags : Vec Bool). AreReached (map block_view c.deref-2.result.now) (λ n. slice_index_or flags.items n false))) c.in-Some.is c.in_ok-reached.ensures)
+    subst (λ (bs : List declared-block.Block). AreReached (map block_view bs) (λ n. slice_index_or c.in_ok-reached.reached.items n false)) c.deref-2.ensures.value
+    c.in_ok-reached.ensures
 
 pub placed-requires-clause-once : goal.placed-requires-clause-once
 placed-requires-clause-once c =
-    subst (λ (rs : List Bool). (m : ℕ) → HasEdge (map block_view c.args.graph.now.blocks.items) (λ n. slice_index_or rs n false) m 0 → ⊥) c.deref-5.ensures.value
-    (subst (λ (bs : List declared-block.Block). (m : ℕ) → HasEdge (map block_view bs) (λ n. slice_index_or c.deref-5.result.now n false) m 0 → ⊥) c.deref-4.ensures.value (c.comes_back-back.ensures.never c.if-back.false))
+    subst (λ (rs : List Bool). (m : ℕ) → HasEdge (map block_view c.args.graph.now.blocks.items) (λ n. slice_index_or rs n false) m 0 → ⊥) c.deref-4.ensures.value
+    (subst (λ (bs : List declared-block.Block). (m : ℕ) → HasEdge (map block_view bs) (λ n. slice_index_or c.deref-4.result.now n false) m 0 → ⊥) c.deref-3.ensures.value (c.comes_back-back.ensures.never c.if-back.false))
 
 pub placed-requires-clause-known : goal.placed-requires-clause-known
-placed-requires-clause-known c = subst (λ o. IfSome o AreNumbers) c.in-Some-2.is c.in_ok-computations.ensures.numbers
+placed-requires-clause-known c = subst (λ o. IfSome o AreNumbers) c.in-Some.is c.in_ok-computations.ensures.numbers
 
 pub placed-requires-clause-order : goal.placed-requires-clause-order
 placed-requires-clause-order c =
-    subst (λ (rs : List Bool). AreOnce (computed_in (λ n. slice_index_or rs n false) 0 (map block_view c.args.graph.now.blocks.items)) (views_of c.in-Some-2.computations)) c.deref-7.ensures.value
-    (subst (λ (bs : List declared-block.Block). AreOnce (computed_in (λ n. slice_index_or c.deref-7.result.now n false) 0 (map block_view bs)) (views_of c.in-Some-2.computations)) c.deref-6.ensures.value
-    (subst (λ o. IfSome o (λ (made : Computations). AreOnce (computed_in (λ n. slice_index_or c.deref-7.result.now n false) 0 (map block_view c.deref-6.result.now)) (views_of made))) c.in-Some-2.is c.in_ok-computations.ensures.once))
+    subst (λ (rs : List Bool). AreOnce (computed_in (λ n. slice_index_or rs n false) 0 (map block_view c.args.graph.now.blocks.items)) (views_of c.in-Some.computations)) c.deref-6.ensures.value
+    (subst (λ (bs : List declared-block.Block). AreOnce (computed_in (λ n. slice_index_or c.deref-6.result.now n false) 0 (map block_view bs)) (views_of c.in-Some.computations)) c.deref-5.ensures.value
+    (subst (λ o. IfSome o (λ (made : Computations). AreOnce (computed_in (λ n. slice_index_or c.deref-6.result.now n false) 0 (map block_view c.deref-5.result.now)) (views_of made))) c.in-Some.is c.in_ok-computations.ensures.once))
 
 pub returns-then-back : goal.returns-then-back
 returns-then-back c =
-    let reached = subst (λ (bs : List declared-block.Block). AreReached (map block_view bs) (λ n. slice_index_or c.in-Some.reached.items n false)) c.deref-2.ensures.value
-    (subst (λ o. IfSome o (λ (flags : Vec Bool). AreReached (map block_view c.deref-2.result.now) (λ n. slice_index_or flags.items n false))) c.in-Some.is c.in_ok-reached.ensures) in
-    let edge = subst (λ (rs : List Bool). (m : ℕ) × HasEdge (map block_view c.args.graph.now.blocks.items) (λ n. slice_index_or rs n false) m 0) c.deref-5.ensures.value
-    (subst (λ (bs : List declared-block.Block). (m : ℕ) × HasEdge (map block_view bs) (λ n. slice_index_or c.deref-5.result.now n false) m 0) c.deref-4.ensures.value (c.comes_back-back.ensures.comes c.if-back.true)) in
-    (edge.0, edge_come (map block_view c.args.graph.now.blocks.items) (λ n. slice_index_or c.in-Some.reached.items n false) reached edge.0 0 edge.1)
+    let reached = subst (λ (bs : List declared-block.Block). AreReached (map block_view bs) (λ n. slice_index_or c.in_ok-reached.reached.items n false)) c.deref-2.ensures.value
+    c.in_ok-reached.ensures in
+    let edge = subst (λ (rs : List Bool). (m : ℕ) × HasEdge (map block_view c.args.graph.now.blocks.items) (λ n. slice_index_or rs n false) m 0) c.deref-4.ensures.value
+    (subst (λ (bs : List declared-block.Block). (m : ℕ) × HasEdge (map block_view bs) (λ n. slice_index_or c.deref-4.result.now n false) m 0) c.deref-3.ensures.value (c.comes_back-back.ensures.comes c.if-back.true)) in
+    (edge.0, edge_come (map block_view c.args.graph.now.blocks.items) (λ n. slice_index_or c.in_ok-reached.reached.items n false) reached edge.0 0 edge.1)
 
 pub returns : goal.returns
 returns c =
-    let made : IsPlaced (graph_view c.args.graph.now) c.in-Some-3.placement = subst (λ o. IfSome o (λ (made : Placement). IsPlaced (graph_view c.args.graph.now) made)) c.in-Some-3.is c.in_ok-placement.ensures in
-    let never = subst (λ (rs : List Bool). (m : ℕ) → HasEdge (map block_view c.args.graph.now.blocks.items) (λ n. slice_index_or rs n false) m 0 → ⊥) c.deref-5.ensures.value
-    (subst (λ (bs : List declared-block.Block). (m : ℕ) → HasEdge (map block_view bs) (λ n. slice_index_or c.deref-5.result.now n false) m 0 → ⊥) c.deref-4.ensures.value (c.comes_back-back.ensures.never c.if-back.false)) in
-    let reached = subst (λ (bs : List declared-block.Block). AreReached (map block_view bs) (λ n. slice_index_or c.in-Some.reached.items n false)) c.deref-2.ensures.value
-    (subst (λ o. IfSome o (λ (flags : Vec Bool). AreReached (map block_view c.deref-2.result.now) (λ n. slice_index_or flags.items n false))) c.in-Some.is c.in_ok-reached.ensures) in
-    (made, λ again. never again.0 (come_edge (map block_view c.args.graph.now.blocks.items) (λ n. slice_index_or c.in-Some.reached.items n false) reached again.0 0 again.1))
+    let made : IsPlaced (graph_view c.args.graph.now) c.in-Some-2.placement = subst (λ o. IfSome o (λ (made : Placement). IsPlaced (graph_view c.args.graph.now) made)) c.in-Some-2.is c.in_ok-placement.ensures in
+    let never = subst (λ (rs : List Bool). (m : ℕ) → HasEdge (map block_view c.args.graph.now.blocks.items) (λ n. slice_index_or rs n false) m 0 → ⊥) c.deref-4.ensures.value
+    (subst (λ (bs : List declared-block.Block). (m : ℕ) → HasEdge (map block_view bs) (λ n. slice_index_or c.deref-4.result.now n false) m 0 → ⊥) c.deref-3.ensures.value (c.comes_back-back.ensures.never c.if-back.false)) in
+    let reached = subst (λ (bs : List declared-block.Block). AreReached (map block_view bs) (λ n. slice_index_or c.in_ok-reached.reached.items n false)) c.deref-2.ensures.value
+    c.in_ok-reached.ensures in
+    (made, λ again. never again.0 (come_edge (map block_view c.args.graph.now.blocks.items) (λ n. slice_index_or c.in_ok-reached.reached.items n false) reached again.0 0 again.1))

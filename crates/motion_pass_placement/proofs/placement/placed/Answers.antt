@@ -32,6 +32,7 @@ numbers_of-requires c = c.requires.known
 
 pub columns-requires : goal.columns-requires
 columns-requires c = record {
+  few = omega (arith, c.requires.few, length-map c.args.graph.now.blocks.items block_view);
   reached = subst (λ (rs : List Bool). AreReached (map block_view c.args.graph.now.blocks.items) (λ n. slice_index_or rs n false)) (sym c.deref-4.ensures.value) c.requires.reached;
   once = subst (λ (rs : List Bool). (m : ℕ) → HasEdge (map block_view c.args.graph.now.blocks.items) (λ n. slice_index_or rs n false) m 0 → ⊥) (sym c.deref-4.ensures.value) c.requires.once;
   known = c.requires.known;
@@ -40,6 +41,7 @@ columns-requires c = record {
 
 pub fates-requires-clause-placing : goal.fates-requires-clause-placing
 fates-requires-clause-placing c = record {
+  few = omega (arith, c.requires.few, length-map c.args.graph.now.blocks.items block_view);
   reached = subst (λ (rs : List Bool). AreReached (map block_view c.args.graph.now.blocks.items) (λ n. slice_index_or rs n false)) (sym c.deref-4.ensures.value) c.requires.reached;
   once = subst (λ (rs : List Bool). (m : ℕ) → HasEdge (map block_view c.args.graph.now.blocks.items) (λ n. slice_index_or rs n false) m 0 → ⊥) (sym c.deref-4.ensures.value) c.requires.once;
   known = c.requires.known;

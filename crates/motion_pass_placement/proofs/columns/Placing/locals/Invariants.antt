@@ -1,6 +1,6 @@
-use Rattle.std.proofs.Common.{◌≡◌, ◌<◌, ◌/◌, ℕ, true, Some, length, map}
+use Rattle.std.proofs.Common.{◌≡◌, ◌<◌, ◌/◌, ℕ, true, Some, length}
 use Rattle.std.specs.Prelude.{slice_get}
-use Rattle.graph_core.specs.Graphs.{Block, block_view}
+use Rattle.graph_core.specs.Graphs.{Block}
 use Rattle.graph_core.specs.Computations.{Computation}
 use Rattle.motion_pass_points.specs.MotionPointsComputing.{nothing, told_along}
 use Rattle.motion_pass_points.specs.Columns.{IsColumn, told_in}

@@ -1,4 +1,4 @@
-use Rattle.std.proofs.Common.{◌≡◌, ◌<◌, ◌/◌, ℕ, true, Some, length, map}
+use Rattle.std.proofs.Common.{◌≡◌, ◌<◌, ◌/◌, ℕ, true, Some, length}
 use Rattle.std.specs.Prelude.{slice_get}
 use Rattle.graph_core.specs.Graphs.{Block}
 use Rattle.graph_core.specs.Computations.{Computation}

@@ -1,4 +1,4 @@
-use Rattle.std.proofs.Common.{◌≡◌, ◌/◌, ℕ, List, Bool, map, sym, ap, ◌∙◌, subst}
+use Rattle.std.proofs.Common.{◌≡◌, ℕ, List, Bool, map, sym, ◌∙◌, subst}
 use Rattle.std.specs.Prelude.{IfSome}
 use Rattle.graph_core.specs.Graphs.{Block, block_view}
 use Rattle.motion_pass_points.specs.declared.columns.Column.{Column}
@@ -17,7 +17,7 @@ pub returns : goal.returns
 returns c =
     let s = c.args.self.now in
     let column = c.in-Some.column in
-    let facts = c.in-Some-2.facts in
+    let facts = c.in_ok-facts.facts in
     let locals = c.in_ok-locals.locals.items in
     let of_is : column.index ≡ c.args.index = subst (λ o. IfSome o (λ (made : Column). made.index ≡ c.args.index)) c.in-Some.is c.in_ok-column.ensures.index in
     let marked : IsColumn (all_in s) column.index column.spoiled.items
@@ -25,7 +25,7 @@ returns c =
     let told : Tell (blocks_in s) (reached_in s) locals facts
     = subst (λ xs. Tell (map block_view xs) (reached_in s) locals facts) c.deref.ensures.value
     (subst (λ (ls : List Local). Tell (map block_view c.deref.result.now) (reached_in s) ls facts) c.deref-2.ensures.value
-    (subst (λ o. IfSome o (λ (f : Facts). Tell (map block_view c.deref.result.now) (reached_in s) c.deref-2.result.now f)) c.in-Some-2.is c.in_ok-facts.ensures)) in
+    c.in_ok-facts.ensures) in
     record {
       of = of_is;
       marked = marked;

@@ -1,9 +1,9 @@
-use Rattle.std.proofs.Common.{◌≡◌, ℕ, true, false, List, Option, Some, None, sym, ap, ◌∙◌, subst}
+use Rattle.std.proofs.Common.{◌≡◌, Some, None, sym, ap, ◌∙◌, subst}
 use Rattle.std.specs.Prelude.{slice_get}
 use Rattle.std.proofs.lemmas.Option.{none-some}
 use Rattle.motion_pass_points.specs.Columns.{number_at}
 use Rattle.motion_pass_problems.specs.Inner.{point_at}
-use Rattle.motion_pass_placement.specs.Columns.{fates_of, row_of}
+use Rattle.motion_pass_placement.specs.Columns.{row_of}
 use Rattle.motion_pass_placement.specs.Placed.{IsActed, all_of, moved_by, reached_by, stays_by, temporary_of}
 use Rattle.motion_pass_placement.proofs.Acted.{keep_staying, keep_unnumbered, moved_rule, no_number_there, reached_there, told_so}
 use Rattle.motion_pass_placement.proofs.placement.Placement.action.Goals as goal

@@ -1,4 +1,4 @@
-use Rattle.std.proofs.Common.{◌≡◌, ◌*◌, ℕ, Some, map}
+use Rattle.std.proofs.Common.{◌≡◌, ◌*◌, Some, map}
 use Rattle.std.specs.Prelude.{slice_get}
 use Rattle.graph_core.specs.Graphs.{Block, Graph, instruction_view}
 use Rattle.motion_pass_points.specs.Ways.{IsCome, along}

@@ -1,8 +1,8 @@
-use Rattle.std.proofs.Common.{◌≡◌, ℕ, ◌+◌, ◌*◌, ◌/◌, ◌%◌, ◌<◌, true, false, true≢false, map, refl, sym, ap, ◌∙◌, subst, arith}
+use Rattle.std.proofs.Common.{◌≡◌, ◌+◌, ◌*◌, ◌/◌, ◌%◌, ◌<◌, true≢false, map, sym, ap, ◌∙◌, subst, arith}
 use Rattle.std.specs.Prelude.{◌==◌}
 use Rattle.std.specs.Int.{bit_at}
 use Rattle.graph_core.specs.Graphs.{instruction_view}
-use Rattle.motion_pass_points.specs.Ways.{IsInserted, along}
+use Rattle.motion_pass_points.specs.Ways.{along}
 use Rattle.motion_pass_points.specs.Words.{has}
 use Rattle.motion_pass_problems.proofs.Pushed.{has_none}
 use Rattle.motion_pass_placement.specs.Placed.{AreDone}

@@ -1,8 +1,7 @@
-use Rattle.std.proofs.Common.{◌≡◌, ℕ, true, false, true≢false, List, Option, Some, None, length, map, refl, sym, ap, ◌∙◌, subst}
+use Rattle.std.proofs.Common.{◌≡◌, true≢false, List, Option, Some, None, sym, ap, ◌∙◌}
 use Rattle.std.specs.Prelude.{option_map, slice_get, slice_index_or}
 use Rattle.std.proofs.lemmas.Option.{none-some, slice_get-map}
 use Rattle.graph_core.specs.declared.name.Name as declared-name
-use Rattle.graph_core.specs.Graphs.{instruction_view}
 use Rattle.motion_pass_points.specs.Ways.{along}
 use Rattle.motion_pass_points.specs.declared.computation.Computation as declared-computation
 use Rattle.motion_pass_points.specs.MotionPointsComputing.{computation_view}

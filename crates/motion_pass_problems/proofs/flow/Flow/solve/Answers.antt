@@ -1,16 +1,17 @@
-use Rattle.std.proofs.Common.{◌≡◌, ℕ, List, length, take, drop, ◌++◌, sym, ap, ◌∙◌, subst, arith}
-use Rattle.motion_pass_problems.specs.Flowing.{AreBrought, AreBroughtThere, Grows, begin}
-use Rattle.motion_pass_problems.proofs.Whole.{brought_there, whole_written}
+use Rattle.std.proofs.Common.{◌≡◌, false, length, map, arith}
+use Rattle.std.specs.Prelude.{slice_index_or}
+use Rattle.std.proofs.lemmas.List.{length-map}
+use Rattle.graph_core.specs.Graphs.{block_view}
+use Rattle.graph_paths.specs.PathMarksTable.{bits_of}
+use Rattle.motion_pass_problems.proofs.Flooded.{told_there}
 use Rattle.motion_pass_problems.proofs.flow.Flow.solve.Goals as goal
 
-pub returns-then-settle-clause-exact : goal.returns-then-settle-clause-exact
-returns-then-settle-clause-exact c = λ first.
-    (let items = c.args.begins.items in
-    let new = c.settle.new.values in
-    let value : c.deref_mut.result.now ≡ items = c.deref_mut.ensures.value in
-    let size : length new ≡ length items = c.settle.ensures.size ∙ ap length value in
-    let grows : Grows items new = subst (λ (xs : List ℕ). Grows xs new) value c.settle.ensures.grows in
-    let are : AreBrought c.args.self.now items new = c.settle.ensures.brought items (subst (λ (xs : List ℕ). AreBrought c.args.self.now items xs) (sym value) (λ k n so. begin so)) in
-    let count : c.args.begins.len ≡ length items = omega arith in
-    subst (λ (xs : List ℕ). AreBroughtThere c.args.self.now items xs) (sym (whole_written items new c.args.begins.len count size))
-    (brought_there c.args.self.now items new (size ∙ first) first grows (c.settle.ensures.settled c.if-settle.true) are))
+pub returns-clause-exact : goal.returns-clause-exact
+returns-clause-exact c =
+    let flow = c.args.self.now in
+    let bs = map block_view flow.blocks.now in
+    let count : length bs ≡ length flow.blocks.now = length-map flow.blocks.now block_view in
+    let size : length c.in_ok-words.words.items ≡ length bs = omega (arith, c.in_ok-words.ensures.size, c.requires.few, count) in
+    told_there bs (λ n. slice_index_or flow.reached.now n false) flow.forward flow.passages.now (omega (arith, c.requires.passages, count)) c.args.begins.now c.in_ok-words.words.items
+    (bits_of c.in_ok-comes.comes) (bits_of c.settle.new.comes) (bits_of c.settle.new.leaves) size c.in_ok-comes.ensures.same
+    (λ n k lt low. c.in_ok-words.ensures.same n k (omega (arith, lt, count, c.requires.few)) low) c.in_ok-settle.ensures.settled

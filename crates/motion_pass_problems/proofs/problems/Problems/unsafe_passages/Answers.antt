@@ -1,5 +1,4 @@
-use Rattle.std.proofs.Common.{◌≡◌, ◌<◌, ℕ, length, subst, ◌∙◌, arith}
-use Rattle.std.specs.Prelude.{slice_index_or}
+use Rattle.std.proofs.Common.{subst, arith}
 use Rattle.std.proofs.lemmas.List.{length-map}
 use Rattle.graph_core.specs.Graphs.{block_view}
 use Rattle.motion_pass_problems.specs.Flowing.{no_passage}

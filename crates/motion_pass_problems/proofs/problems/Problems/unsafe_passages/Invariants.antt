@@ -1,5 +1,4 @@
 use Rattle.std.proofs.Common.{◌≡◌, ◌<◌, ℕ, length}
-use Rattle.std.specs.Prelude.{slice_index_or}
 use Rattle.motion_pass_problems.specs.Problems.{IsUnsafePassage, local_of, passage_of}
 use Rattle.motion_pass_problems.proofs.problems.Problems.unsafe_passages.Given as goal
 

@@ -1,0 +1,17 @@
+use Rattle.std.proofs.Common.{◌≡◌, ◌-◌, ◌*◌, length}
+use Rattle.graph_paths.specs.Flood.{AreBrought, AreTables, AreSameFrom}
+use Rattle.graph_paths.specs.PathMarksTable.{bits_of, told}
+use Rattle.graph_paths.proofs.flood.settle.Given as goal
+
+abbrev pub invariant-loop : goal.invariant-loop
+invariant-loop g l = record {
+  tables : AreTables (g.T.Transfer.course l.transfer) l.comes l.leaves;
+  brought : AreBrought (g.T.Transfer.course l.transfer) (bits_of l.fn.comes) (bits_of l.comes) (bits_of l.leaves);
+  comes_count : l.comes.count ≡ l.fn.comes.count;
+  leaves_count : l.leaves.count ≡ l.fn.leaves.count;
+  spare_comes : AreSameFrom (length l.blocks) (bits_of l.fn.comes) (bits_of l.comes);
+  spare_leaves : AreSameFrom (length l.blocks) (bits_of l.fn.leaves) (bits_of l.leaves);
+}
+
+abbrev pub decreases-loop : goal.decreases-loop
+decreases-loop g l = l.comes.count * l.comes.width - told l.comes

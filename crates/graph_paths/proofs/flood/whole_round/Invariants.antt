@@ -1,0 +1,11 @@
+use Rattle.std.proofs.Common.{◌≡◌, ℕ, ◌<◌, false}
+use Rattle.graph_paths.specs.Flood.{AreTables, IsStep, IsClosedAt}
+use Rattle.graph_paths.specs.PathMarksTable.{bits_of}
+use Rattle.graph_paths.proofs.flood.whole_round.Given as goal
+
+abbrev pub invariant-loop-number : goal.invariant-loop-number
+invariant-loop-number g l = record {
+  tables : AreTables (g.T.Transfer.course l.transfer) l.comes l.leaves;
+  step : IsStep (g.T.Transfer.course l.transfer) l.fn.comes l.fn.leaves l.comes l.leaves l.is_new;
+  closed : l.is_new ≡ false → (n : ℕ) → n < l.number → IsClosedAt (g.T.Transfer.course l.transfer) n (bits_of l.comes) (bits_of l.leaves);
+}
