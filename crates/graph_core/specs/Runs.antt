@@ -13,12 +13,13 @@ use Rattle.graph_core.specs.Bounds.{most_activations}
 use Rattle.graph_core.specs.Values.{pointer_at, operate, truncate, same, holds, is_odd}
 use Rattle.graph_core.specs.Memory.{Memory, is_live, address_of, address_in, static_bytes, read, write, zeroed, copied, new_object, ended_from, first_memory}
 
--- An activation of a function: its function, its graph, the place that it has come to, the values of its names, the shadows of its scalars, the number of its first
--- object, what is left of its block, and the name that a call's value goes to while it waits.
+-- An activation of a function: its function, its graph, the place that it has come to, the block that it stands in, the values of its names, the shadows of its scalars,
+-- the number of its first object, what is left of its block, and the name that a call's value goes to while it waits. Its block and what is left of it tell at which call it waits.
 pub record Activation : Type 0 where
   pub function : ℕ
   pub graph : Graph
   pub place : ℕ
+  pub block : ℕ
   pub names : ℕ → Value
   pub shadows : ℕ → Shadow
   pub first_object : ℕ
@@ -131,14 +132,14 @@ marked c = if c.here.place == c.here.graph.entry then Goes c else Shows (Stop (f
 abbrev pub at_place : ℕ → Configuration → Configuration
 at_place p c = record c { here = record c.here { place = p } }
 
--- control goes to a block
-abbrev pub entered : Configuration → Option Block → Stepped
-entered c None = Wild
-entered c (Some b) = Goes (record c { here = record c.here { rest = b.instructions; end = b.end } })
+-- control goes to the block with this number, if there is one
+abbrev pub entered : Configuration → (number : ℕ) → Option Block → Stepped
+entered c l None = Wild
+entered c l (Some b) = Goes (record c { here = record c.here { block = l; rest = b.instructions; end = b.end } })
 
 -- control goes to the block with this number
 abbrev pub go_to : Configuration → ℕ → Stepped
-go_to c l = entered c (slice_get c.here.graph.blocks l)
+go_to c l = entered c l (slice_get c.here.graph.blocks l)
 
 -- control goes to one of two blocks by a test, if its outcome is known
 abbrev pub branched : Configuration → Option Bool → (if_true if_false : ℕ) → Stepped
@@ -199,6 +200,7 @@ new_activation function g b first vs = record {
   function = function;
   graph = g;
   place = g.entry;
+  block = 0;
   names = bind_names g.parameters vs (λ x. Odd);
   shadows = λ x. shadow.Gone;
   first_object = first;

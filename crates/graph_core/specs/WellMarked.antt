@@ -1,11 +1,12 @@
 -- Well marked units: markers follow the flow of the program, and notes say what becomes of each scalar.
-use Rattle.std.specs.Prelude.{◌≡◌, ◌≢◌, ℕ, ◌<◌, ◌≤◌, ◌⊎◌, true, false, Option, Some, option_map, List, [], ◌∷◌, length, slice_get}
+use Rattle.std.specs.Prelude.{◌≡◌, ◌≢◌, ℕ, ◌<◌, ◌≤◌, ◌⊎◌, true, false, Option, Some, option_map, List, [], ◌∷◌, ◌++◌, length, map, slice_get}
 use Rattle.places.specs.Flow.{can_go, assigns}
 use Rattle.debug_records.specs.Change.{is_taken}
+use Rattle.debug_records.specs.declared.change.Kind.TheVariants.{Sunk}
 use Rattle.graph_core.specs.Graphs.{Operand, Name, Of, Scalar, NoteValue, Is, Instruction, Marker, Note, Zero, CopyWords, End, Return, Block, Graph, Logged, UnitForm}
-use Rattle.graph_core.specs.Uses.{reads_of, reads_of_end, targets_of}
+use Rattle.graph_core.specs.Uses.{target_of, reads_of, reads_of_end, targets_of}
 use Rattle.graph_core.specs.Paths.{History, Among, Path, place_of, writes, is_call, called, is_bound, written, unnoted, owed}
-use Rattle.graph_core.specs.Validity.{IsValid, place_behind}
+use Rattle.graph_core.specs.Validity.{AreAllDifferent, IsValid, place_behind}
 use Rattle.graph_core.specs.Bounds.{most_words}
 
 -- An instruction stands in a place, whether a path reaches it or not: here among these instructions, of which the first stands where this place is in force.
@@ -49,7 +50,32 @@ pub data WrittenIn (g : Graph) (p x : ℕ) : Type 0 where
   instruction : (i : Instruction) → InPlace g p i → writes x i ≡ true → WrittenIn g p x
   bound : p ≡ g.entry → is_bound x g.parameters ≡ true → WrittenIn g p x
 
+-- the log has a change by which an assignment of a variable sank
+pub record WasSunk (log : List Logged) (variable : ℕ) : Type 0 where
+  pub change : Logged
+  pub logged : Among change log
+  pub sunk : change.kind ≡ Sunk
+  pub of : change.variable ≡ variable
+
+-- In a place a scalar is written and noted in pairs: directly behind each instruction that writes it stands the scalar's own note, and each note of it there is its own and stands directly
+-- behind an instruction that writes it. No call binds it there.
+pub record ArePaired (g : Graph) (p x : ℕ) : Type 0 where
+  pub noted : (n : ℕ) (b : Block) (before rest : List Instruction) (i : Instruction) → slice_get g.blocks n ≡ Some b → b.instructions ≡ before ++ i ∷ rest → place_behind before b.place ≡ Some p → writes x i ≡ true
+      → (more : List Instruction) × (rest ≡ Note x (Is (Of (Name x))) ∷ more)
+  pub written : (n : ℕ) (b : Block) (before rest : List Instruction) (v : NoteValue) → slice_get g.blocks n ≡ Some b → b.instructions ≡ before ++ Note x v ∷ rest → place_behind before b.place ≡ Some p
+      → (v ≡ Is (Of (Name x))) × (front : List Instruction) × (i : Instruction) × (before ≡ front ++ i ∷ []) × (writes x i ≡ true)
+  pub unbound : p ≡ g.entry → is_bound x g.parameters ≡ false
+
 module _ (u : UnitForm) (g : Graph) where
+  -- A scalar may be written and noted in a place: the place assigns its variable, or an assignment of the variable sank, and the place writes and notes the scalar in pairs.
+  abbrev pub MayStand : (p x variable : ℕ) → Type 0
+  MayStand p x variable = (assigns u.assignments p variable ≡ true) ⊎ (WasSunk u.log variable × ArePaired g p x)
+
+  -- An instruction behind a history may read what another place wrote to a temporary: it writes a temporary that code motion made, or a scalar in a place that does not assign its variable.
+  pub data ReadsAcross (h : History) (i : Instruction) : Type 0 where
+    moved : (t : ℕ) → target_of i ≡ Some t → g.first_moved ≤ t → ReadsAcross h i
+    sunk : (x variable p : ℕ) → target_of i ≡ Some x → IsVariable g x variable → place_of h ≡ Some p → assigns u.assignments p variable ≡ false → ReadsAcross h i
+
   -- A note is that of the scalar itself, in a place that writes it; or it stands in the place of an assignment of its variable that went, and does not write it any more.
   abbrev pub IsRightNote : (p x variable : ℕ) → NoteValue → Type 0
   IsRightNote p x variable v =
@@ -72,9 +98,11 @@ module _ (u : UnitForm) (g : Graph) where
     pub copies : (p object bytes words : ℕ) → InPlace g p (CopyWords object bytes words) → words ≤ most_words
     pub zeroes_first : (h : History) (n : ℕ) (object words : ℕ) (rest : List Instruction) (e : End) → Path g h n (Zero object words ∷ rest) e → called h ≡ false
     pub copies_first : (h : History) (n : ℕ) (object bytes words : ℕ) (rest : List Instruction) (e : End) → Path g h n (CopyWords object bytes words ∷ rest) e → called h ≡ false
-    -- A scalar is written and noted only in places that assign its variable.
-    pub written_where : (p x variable : ℕ) → IsVariable g x variable → WrittenIn g p x → assigns u.assignments p variable ≡ true
-    pub noted_where : (p x variable : ℕ) (v : NoteValue) → IsVariable g x variable → InPlace g p (Note x v) → assigns u.assignments p variable ≡ true
+    -- No variable has two scalars.
+    pub variables : AreAllDifferent (map (λ (s : Scalar). s.variable) g.scalars)
+    -- A scalar is written and noted only where it may.
+    pub written_where : (p x variable : ℕ) → IsVariable g x variable → WrittenIn g p x → MayStand p x variable
+    pub noted_where : (p x variable : ℕ) (v : NoteValue) → IsVariable g x variable → InPlace g p (Note x v) → MayStand p x variable
     -- From the marker of a place that assigns a variable, and from each write of its scalar, each path to the next marker notes the scalar.
     pub noted : (h : History) (n : ℕ) (p x variable : ℕ) (rest : List Instruction) (e : End) → IsVariable g x variable → Path g h n (Marker p ∷ rest) e → owed (λ q. assigns u.assignments q variable) x h ≡ false
     -- Each note that a path comes to is right, and one that is of the scalar itself stands behind a write of it.
@@ -82,8 +110,9 @@ module _ (u : UnitForm) (g : Graph) where
     pub behind_write : (h : History) (n : ℕ) (x : ℕ) (rest : List Instruction) (e : End) → Path g h n (Note x (Is (Of (Name x))) ∷ rest) e → written g x h ≡ true
     -- No call stands between a write of a scalar and its note.
     pub calls : (h : History) (n : ℕ) (i : Instruction) (x variable : ℕ) (rest : List Instruction) (e : End) → IsVariable g x variable → Path g h n (i ∷ rest) e → is_call i ≡ true → unnoted x h ≡ false
-    -- A temporary that code motion did not make is read only behind a write of it in the same place.
-    pub local : (h : History) (n : ℕ) (i : Instruction) (t : ℕ) (rest : List Instruction) (e : End) → IsLocal g t → Path g h n (i ∷ rest) e → Among t (reads_of i) → written g t h ≡ true
+    -- A temporary that code motion did not make is read only behind a write of it in the same place, but by what may read across places.
+    pub local : (h : History) (n : ℕ) (i : Instruction) (t : ℕ) (rest : List Instruction) (e : End) → IsLocal g t → Path g h n (i ∷ rest) e → Among t (reads_of i)
+        → (written g t h ≡ true) ⊎ ReadsAcross h i
     pub local_at_end : (h : History) (n : ℕ) (t : ℕ) (e : End) → IsLocal g t → Path g h n [] e → Among t (reads_of_end e) → written g t h ≡ true
 
 -- A unit is well marked.
