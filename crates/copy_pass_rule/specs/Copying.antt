@@ -13,10 +13,12 @@ module _ (read_as : ℕ → ℕ) where
   reading_operand (Constant word) = Constant word
   reading_operand (StaticAddress object offset) = StaticAddress object offset
 
+  -- operands, each led back through the copies
   abbrev pub reading_all : List Operand → List Operand
   reading_all [] = []
   reading_all (a ∷ more) = reading_operand a ∷ reading_all more
 
+  -- a location of which the address is led back through the copies
   abbrev pub reading_at : Location → Location
   reading_at (Automatic object offset) = Automatic object offset
   reading_at (Static object) = Static object

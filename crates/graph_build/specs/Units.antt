@@ -35,6 +35,7 @@ abbrev pub object_element : ObjectType → declared-element.Element
 object_element (of-object.Scalar s) = element_of s
 object_element (of-object.Array s count) = element_of s
 
+-- how many elements an object has
 abbrev pub object_count : ObjectType → ℕ
 object_count (of-object.Scalar s) = 1
 object_count (of-object.Array s count) = count
@@ -45,10 +46,12 @@ add_if_some None x more = more
 add_if_some (Some k) x more = x ∷ more
 
 module _ (n : Names) where
+  -- those of these variables that are scalars
   abbrev pub scalars_among : List ℕ → List ℕ
   scalars_among [] = []
   scalars_among (x ∷ more) = add_if_some (scalar_of n x) x (scalars_among more)
 
+  -- those of these variables that lie in memory
   abbrev pub kept_among : List ℕ → List ℕ
   kept_among [] = []
   kept_among (x ∷ more) = add_if_some (object_of n x) x (kept_among more)
@@ -58,6 +61,7 @@ module _ (n : Names) where
   note_if None m = m
   note_if (Some k) m = note k m
 
+  -- each parameter that is a scalar is noted
   abbrev pub note_parameters : List ℕ → Made → Made
   note_parameters [] m = m
   note_parameters (x ∷ more) m = note_if (scalar_of n x) (note_parameters more m)
@@ -67,6 +71,7 @@ module _ (n : Names) where
   bound_to (Some k) x = ToScalar k
   bound_to None x = ToObject (or_zero (object_of n x))
 
+  -- what a call binds a parameter to
   abbrev pub binding_of : (variable : ℕ) → Binding
   binding_of x = bound_to (scalar_of n x) x
 
@@ -80,6 +85,7 @@ module _ (p : ProgramTree) where
   both_are (Some a) (Some b) = same_object a.of b.of
   both_are _ _ = false
 
+  -- two automatic variables have one type
   abbrev pub are_of_one_type : (one other : ℕ) → Bool
   are_of_one_type x y = both_are (slice_get p.automatics x) (slice_get p.automatics y)
 
@@ -94,9 +100,11 @@ module _ (p : ProgramTree) where
       if nat_lt x (f.first_variable + f.parameters) then entry
       else option_map_or (λ (a : AutomaticTree). number_at (places_of_program p) a.spot.at) (slice_get p.automatics x) entry
 
+  -- a scalar as the graph lists it: its variable, its type, and the place that declares it
   abbrev pub scalar_record : TypedFunctionTree → (entry : ℕ) → (scalars : List ℕ) → (variable : ℕ) → Scalar
   scalar_record f entry scalars x = record { variable = variable_of p x; of = type_index scalars x; place = declared_at f entry x }
 
+  -- an automatic object as the graph lists it: its variable, its element and its count
   abbrev pub memory_object : (variable : ℕ) → MemoryObject
   memory_object x = record { var = record { 0 = variable_of p x }; element = object_element (object_type_of p x); count = object_count (object_type_of p x) }
 
@@ -117,6 +125,7 @@ module _ (p : ProgramTree) where
 
 -- the closing brace, where flow reaches it: `main` returns 0
 module _ (c : Coding) where
+  -- the place at the closing brace of a function, if it has one: there it returns, with 0 in main
   abbrev pub add_close : (is_main : Bool) → (closing : Option ℕ) → Part → Part
   add_close is_main None part = part
   add_close is_main (Some at) part = placed_at c at (ending (unit.Return (if is_main then Some (unit.Constant 0) else None)) part.inner) part.placed
@@ -125,6 +134,7 @@ module _ (c : Coding) where
   abbrev pub body_part : TypedFunctionTree → (is_main : Bool) → Part
   body_part f is_main = add_all c f.body c.scalars (ways_of_body f) (add_close is_main (ways_of_body f).next (record { placed = []; inner = [] }))
 
+  -- the code of a function, from its entry to its closing brace
   abbrev pub function_part : TypedFunctionTree → (is_main : Bool) → Part
   function_part f is_main =
       let body = body_part f is_main in
@@ -147,6 +157,7 @@ module _ (p : ProgramTree) where
   abbrev pub block_count : TypedFunctionTree → (is_main : Bool) → ℕ
   block_count f is_main = let c = coding_of p f (is_again f) 0 in length (blocks_in c (function_part c f is_main))
 
+  -- how the names and blocks of a function are numbered
   abbrev pub function_coding : TypedFunctionTree → (is_main : Bool) → Coding
   function_coding f is_main = coding_of p f (is_again f) (block_count f is_main)
 
@@ -178,12 +189,15 @@ module _ (p : ProgramTree) where
   static_number (object.Literal n) = length p.statics + n
   static_number (object.Automatic x) = 0
 
+  -- an address among the first bytes of an object, as the unit lists it
   abbrev pub relocation_of : source-relocation.Relocation → Relocation
   relocation_of r = record { at = r.at; object = static_number r.object; offset = r.offset }
 
+  -- a static variable as the unit lists it
   abbrev pub static_of : StaticTree → StaticObject
   static_of v = record { element = object_element v.of; count = object_count v.of; bytes = v.bytes; relocations = map relocation_of v.relocations }
 
+-- a string literal as the unit lists it: an object of bytes
 abbrev pub literal_of : LiteralTree → StaticObject
 literal_of l = record { element = Unsigned8; count = length l.bytes; bytes = l.bytes; relocations = [] }
 

@@ -62,6 +62,7 @@ passed_view q = record { values = map operand_view q.values.items; next = q.next
 abbrev pub behind_move : (taken : Bool) → ℕ → ℕ
 behind_move taken t = if taken then t + 1 else t
 
+-- two operands, one behind the other: the first is moved to a temporary where the second may write what it names
 abbrev pub pair : (written : ℕ → Bool) → Laid → (ℕ → Laid) → Pair
 pair written a b =
     let moved = is_moved written a.value in
@@ -91,9 +92,11 @@ use_for None Anywhere = Anywhere
 use_for None Nothing = Anywhere
 use_for None Tested = Anywhere
 
+-- a value as an address: the place that it leads to
 abbrev pub at_laid : Laid → PlaceLaid
 at_laid r = record { location = At r.value; next = r.next; top = r.top }
 
+-- a layout in which at least so many names are in use at once
 abbrev pub behind_top : ℕ → Laid → Laid
 behind_top t r = record { value = r.value; next = r.next; top = max t r.top }
 
@@ -122,6 +125,7 @@ old_laid Nothing x t = record { value = unit.Name x; next = t; top = t }
 old_laid (In y) x t = if y == x then record { value = unit.Name t; next = t + 1; top = t + 1 } else record { value = unit.Name y; next = t; top = t }
 old_laid u x t = record { value = unit.Name t; next = t + 1; top = t + 1 }
 
+-- the arguments of a call, one behind the other: one is moved to a temporary where a later one may write what it names
 abbrev pub passed_behind : (written : ℕ → Bool) → Laid → (ℕ → PassedLaid) → PassedLaid
 passed_behind written a rest =
     let moved = is_moved written a.value in
@@ -139,9 +143,11 @@ module _ (n : Names) where
   standing (In x) begun r = record { value = unit.Name x; next = pick n begun r.next; top = r.top }
   standing _ begun r = r
 
+  -- an operand that takes no instruction, as it is used
   abbrev pub leaf_laid : Use → Operand → ℕ → Laid
   leaf_laid u a t = standing u t (record { value = a; next = t; top = t })
 
+  -- the result of an operation on two operands
   abbrev pub after_pair : Use → (begun : ℕ) → Pair → Laid
   after_pair u begun q = operation_laid u begun q.next q.top
 
@@ -166,10 +172,12 @@ module _ (n : Names) where
   abbrev pub joined_laid : Use → ℕ → (top : ℕ) → Laid
   joined_laid u k top = standing u k (record { value = unit.Name k; next = pick n (k + 1) top; top = top })
 
+  -- the value 0 or 1 of a condition, or nothing where it is only tested
   abbrev pub truth_laid : Use → ℕ → (top : ℕ) → Laid
   truth_laid Tested k top = unused_laid k top
   truth_laid u k top = joined_laid u k top
 
+  -- two conditions of which the first decides whether the second is asked
   abbrev pub both_laid : Use → ℕ → (ℕ → Laid) → (ℕ → Laid) → Laid
   both_laid u k a b = let r = a (behind_own u k) in let s = b (pick n (behind_own u k) r.top) in truth_laid u k (max r.top s.top)
 
@@ -177,15 +185,19 @@ module _ (n : Names) where
   abbrev pub arms_top : ℕ → (condition : Laid) → (ℕ → Laid) → (ℕ → Laid) → ℕ
   arms_top k c a b = let x = a (pick n k c.top) in let y = b (pick n k x.top) in max x.top y.top
 
+  -- the names in use behind a condition and its two arms, at most
   abbrev pub choice_top : ℕ → (condition : Laid) → (ℕ → Laid) → (ℕ → Laid) → ℕ
   choice_top k c a b = max c.top (arms_top k c a b)
 
+  -- a choice between two arms without a value
   abbrev pub void_arms_laid : ℕ → (condition : Laid) → (ℕ → Laid) → (ℕ → Laid) → Laid
   void_arms_laid k c a b = unused_laid (pick n k (arms_top k c a b)) (choice_top k c a b)
 
+  -- a choice between two arms, of which each writes its value to one name
   abbrev pub arms_laid : Use → ℕ → (condition : Laid) → (ℕ → Laid) → (ℕ → Laid) → Laid
   arms_laid u k c a b = joined_laid u k (choice_top (k + 1) c a b)
 
+  -- the value of an assignment: that of the scalar, or what was stored in memory
   abbrev pub assigned_laid : Use → Option ℕ → ℕ → PlaceLaid → Laid → Laid
   assigned_laid u (Some x) k place r = standing u k (record { value = unit.Name x; next = r.next; top = r.top })
   assigned_laid u None k place r = behind_top place.top r
@@ -225,6 +237,7 @@ module _ (n : Names) where
   left_laid u narrow (Some x) k place = left_scalar_laid u narrow x k
   left_laid u narrow None k place = left_memory_laid u narrow k place
 
+  -- the value of an increment or decrement: the new one, or the one before
   abbrev pub step_laid : Given → Use → (narrow : Bool) → Option ℕ → ℕ → PlaceLaid → Laid
   step_laid New u narrow x k place = stepped_laid u narrow x k place
   step_laid Old u narrow x k place = left_laid u narrow x k place
@@ -235,6 +248,7 @@ module _ (n : Names) where
   called_laid Nothing false k next top = unused_laid (pick n k next) top
   called_laid u false k next top = operation_laid u k next top
 
+  -- the value of a variable: the scalar itself, or what is loaded from memory
   abbrev pub loaded_laid : Use → Option ℕ → ℕ → PlaceLaid → Laid
   loaded_laid u (Some x) k place = leaf_laid u (unit.Name x) k
   loaded_laid u None k place = operation_laid u k place.next place.top

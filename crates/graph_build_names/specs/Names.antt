@@ -42,11 +42,13 @@ names_of p f again = record {
   again = again;
 }
 
+-- the number of the scalar that a variable is, if it is one
 abbrev pub scalar_in : Option Home → Option ℕ
 scalar_in (Some (home.Scalar x)) = Some x
 scalar_in (Some (home.Object o)) = None
 scalar_in None = None
 
+-- the number of the object that a variable is, if it is one
 abbrev pub object_in : Option Home → Option ℕ
 object_in (Some (home.Scalar x)) = None
 object_in (Some (home.Object o)) = Some o

@@ -73,6 +73,7 @@ module _ (c : Coding) where
   declare_as (Some x) d t m = declare_scalar d.spot.at x d.initial t m
   declare_as None d t m = declare_kept d.spot.at (or_zero (object_of c.names d.variable)) (object_type_of c.program d.variable) d.initial t m
 
+  -- a declaration with its initial value, as a scalar or as an object
   abbrev pub declare : DeclaredTree → (free : ℕ) → Made → Made
   declare d t m = declare_as (scalar_of c.names d.variable) d t m
 

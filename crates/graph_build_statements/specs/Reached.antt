@@ -44,14 +44,17 @@ module _ (c : Coding) where
   start_reached (Value spot e) t = reached e use-of.Nothing t
   start_reached (Declares all) t = declared_reached all t
 
+  -- the names in use behind the condition of a loop, at most
   abbrev pub condition_reached : Option RvalueTree → (free : ℕ) → ℕ
   condition_reached None t = t
   condition_reached (Some e) t = reached e Tested t
 
+  -- the names in use behind the step of a loop, at most
   abbrev pub step_reached : Option StepTree → (free : ℕ) → ℕ
   step_reached None t = t
   step_reached (Some s) t = reached s.value use-of.Nothing t
 
+  -- the names in use behind the value of a return statement, at most
   abbrev pub result_reached : Option RvalueTree → (free : ℕ) → ℕ
   result_reached None t = t
   result_reached (Some e) t = reached e Anywhere t

@@ -56,6 +56,7 @@ computing (computation.Same a b) x = Same x (operand_view a) (operand_view b)
 computing (computation.Address object) x = Address x object
 computing (computation.Load e l) x = unit.Load x e (location_view l)
 
+-- how a value is used that is wanted in a scalar, or anywhere
 abbrev pub use_by : Option ℕ → Use
 use_by None = Anywhere
 use_by (Some x) = In x
@@ -66,12 +67,15 @@ use_of (To want m) = use_by want
 use_of (Unused m) = Nothing
 use_of (Either one other inner) = Tested
 
+-- an instruction before what was made
 abbrev pub before : Instruction → Made → Made
 before i m = record { ops = i ∷ m.ops; end = m.end; inner = m.inner }
 
+-- the end of a block, and the blocks behind it
 abbrev pub ending : End → List Block → Made
 ending e inner = record { ops = []; end = e; inner = inner }
 
+-- the operand 0
 abbrev pub zero : Operand
 zero = unit.Constant 0
 
@@ -104,6 +108,7 @@ abbrev pub scaling : Option ℕ → (size : ℕ) → (t : ℕ) → Operand → I
 scaling (Some k) size t a = Operate t operation.Sll a (unit.Constant k)
 scaling None size t a = Operate t operation.Mul a (scaled size (unit.Constant 1) 0)
 
+-- a name becomes an index times a size, by a shift or a multiplication, where that is not the index itself
 abbrev pub scale : ℕ → Operand → ℕ → Made → Made
 scale size a t m = if is_scaled size a then before (scaling (shift_of size) size t a) m else m
 
@@ -112,6 +117,7 @@ abbrev pub unscaling : Option ℕ → (size : ℕ) → (x t : ℕ) → Instructi
 unscaling (Some k) size x t = Operate x operation.Sra (unit.Name t) (unit.Constant k)
 unscaling None size x t = Operate x operation.Div (unit.Name t) (scaled size (unit.Constant 1) 0)
 
+-- an operand is moved to a temporary, if it has to be
 abbrev pub move_if : Bool → ℕ → Operand → Made → Made
 move_if moved t a m = if moved then before (unit.Move t a) m else m
 
@@ -142,6 +148,7 @@ compare_pointers_by o x t a b m = compare_by o false x t a b m
 abbrev pub less : (signed : Bool) → declared-branch.Comparison
 less signed = if signed then branch.Less else branch.LessUnsigned
 
+-- the test that one word is at least another, as signed numbers or not
 abbrev pub not_less : (signed : Bool) → declared-branch.Comparison
 not_less signed = if signed then branch.AtLeast else branch.AtLeastUnsigned
 
@@ -158,6 +165,7 @@ branch_by comparison.NotEqual s a b one other = Branch branch.NotEqual a b one o
 abbrev pub next_label : (top : ℕ) → List Block → ℕ
 next_label top inner = top - (length inner + 1)
 
+-- the number of the next block before what was made
 abbrev pub label_of : (top : ℕ) → Made → ℕ
 label_of top m = next_label top m.inner
 
@@ -192,6 +200,7 @@ valued g a = g
 abbrev pub hold_location : Bool → ℕ → Location → Made → Made
 hold_location moved t l m = move_if moved t (operand_at l) m
 
+-- a location of which the address was moved to a temporary, if it had to be
 abbrev pub held_location : Bool → ℕ → Location → Location
 held_location moved t l = if moved then located l (unit.Name t) else l
 
@@ -207,6 +216,7 @@ keep_old Nothing x t m = m
 keep_old (In y) x t m = if y == x then before (unit.Move t (unit.Name x)) m else before (unit.Move y (unit.Name x)) m
 keep_old u x t m = before (unit.Move t (unit.Name x)) m
 
+-- what becomes of the value that a scalar had before an increment
 abbrev pub use_old : Goal → (x t : ℕ) → Made
 use_old (Unused k) x t = k
 use_old (To (Some y) k) x t = if y == x then before (unit.Move x (unit.Name t)) k else k
@@ -273,6 +283,7 @@ module _ (n : Names) where
   compared_pointers_value g o begun q =
       let own = pick n begun (behind_move (is_two_pointers o) q.next) in compare_pointers_by o (target g own) (pick n begun q.next) q.left q.right (follow g own)
 
+  -- two pointers are compared: tested, or told by 0 and 1
   abbrev pub compared_pointers : Goal → declared-comparison.Comparison → (begun : ℕ) → Pair → Made
   compared_pointers (Either one other inner) o begun q = ending (branch_by o false q.left q.right one other) inner
   compared_pointers g o begun q = compared_pointers_value g o begun q

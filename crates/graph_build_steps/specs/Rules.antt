@@ -18,6 +18,7 @@ use Rattle.graph_core.specs.declared.instruction.Element.TheVariants.{Unsigned8,
 use Rattle.graph_core.specs.declared.instruction.Callee as unit-callee
 use Rattle.graph_core.specs.declared.instruction.Callee.TheVariants as unit-called
 
+-- the element of so many bits, signed or not; a pointer is a word
 abbrev pub element_by : ℕ → (stars : ℕ) → Bool → declared-element.Element
 element_by width stars signed =
     if not (stars == 0) then Word
@@ -28,9 +29,11 @@ element_by width stars signed =
 abbrev pub element_of : Scalar → declared-element.Element
 element_of s = element_by (integer s.base).width s.stars (integer s.base).is_signed
 
+-- the element of an integer type
 abbrev pub integer_element : named.IntegerType → declared-element.Element
 integer_element t = element_of (record { base = t; stars = 0 })
 
+-- the truncation to 8 or 16 bits, signed or not
 abbrev pub truncation_by : ℕ → Bool → declared-truncation.Truncation
 truncation_by width signed =
     if signed then (if width == 8 then truncation.Signed8 else truncation.Signed16) else (if width == 8 then truncation.Unsigned8 else truncation.Unsigned16)
@@ -62,9 +65,11 @@ abbrev pub steps_by : Direction → declared-arithmetic.Arithmetic
 steps_by Up = arithmetic.Add
 steps_by Down = arithmetic.Subtract
 
+-- the operation that tells whether one word is less than another, as signed numbers or not
 abbrev pub less_by : (signed : Bool) → declared-operation.Operation
 less_by signed = if signed then operation.Slt else operation.Sltu
 
+-- what a call in the source calls in the unit
 abbrev pub callee_for : source-callee.Callee → unit-callee.Callee
 callee_for (called.Function f) = unit-called.Function f
 callee_for called.Getchar = unit-called.Getchar

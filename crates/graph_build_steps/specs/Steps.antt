@@ -56,9 +56,11 @@ changed (change.Pointer d bytes) x t free old by m = scale bytes by free (before
 abbrev pub arm_use : (void : Bool) → ℕ → Use
 arm_use void t = if void then Nothing else In t
 
+-- the operand that an arm of a choice gives
 abbrev pub arm_value : (void : Bool) → ℕ → Operand
 arm_value void t = if void then zero else unit.Name t
 
+-- what an arm of a choice is asked for: nothing, or its value in the name of the choice
 abbrev pub arm_goal : (void : Bool) → ℕ → Made → Goal
 arm_goal void t m = if void then Unused m else To (Some t) m
 
@@ -79,6 +81,7 @@ abbrev pub left_scalar : declared-change.Change → (x begun : ℕ) → Goal →
 left_scalar change x t g =
     keep_old (use_of g) x t (changed change x (behind_old (use_of g) x t) (behind_old (use_of g) x t) (unit.Name x) (unit.Constant 1) (note x (use_old g x t)))
 
+-- an object in memory is incremented or decremented, and the value that it had is given
 abbrev pub left_memory : declared-change.Change → PlaceLaid → Goal → Made
 left_memory change q g =
     let old = target g q.next in let free = left_free (use_of g) q.next in let own = behind_move (takes_more change (unit.Constant 1)) free in

@@ -13,6 +13,7 @@ use Rattle.graph_core.specs.Validity.{taken_by_object, total}
 abbrev pub home_registers : List ℕ
 home_registers = 9 ∷ 18 ∷ 19 ∷ 20 ∷ 21 ∷ 22 ∷ 23 ∷ 24 ∷ 25 ∷ 26 ∷ 27 ∷ 28 ∷ 29 ∷ 30 ∷ 31 ∷ []
 
+-- a home is this register
 abbrev pub is_register : (r : ℕ) → Home → Bool
 is_register r (Register q) = q == r
 is_register r (Slot k) = false
@@ -22,6 +23,7 @@ module _ (home : ℕ → Home) where
   abbrev pub writes_register : (r : ℕ) → Instruction → Bool
   writes_register r i = option_map_or (λ x. is_register r (home x)) (target_of i) false
 
+  -- a parameter is bound to a name whose home is this register
   abbrev pub binds_register : (r : ℕ) → Binding → Bool
   binds_register r (ToScalar x) = is_register r (home x)
   binds_register r (ToObject object) = false

@@ -58,11 +58,13 @@ module _ (home : ℕ → Home) where
   abbrev pub placed : ℕ → ℕ
   placed x = home_number (home x)
 
+  -- an operand over homes
   abbrev pub placed_operand : Operand → Operand
   placed_operand (Name x) = Name (placed x)
   placed_operand (Constant w) = Constant w
   placed_operand (StaticAddress object offset) = StaticAddress object offset
 
+  -- a location over homes
   abbrev pub placed_location : Location → Location
   placed_location (Automatic object offset) = Automatic object offset
   placed_location (Static object) = Static object
@@ -83,14 +85,17 @@ module _ (home : ℕ → Home) where
   placed_instruction (CopyWords object bytes words) = CopyWords object bytes words
   placed_instruction (Call x f all) = Call (option_map placed x) f (map placed_operand all)
 
+  -- the end of a block over homes
   abbrev pub placed_end : End → End
   placed_end (Jump l) = Jump l
   placed_end (Branch k a b l m) = Branch k (placed_operand a) (placed_operand b) l m
   placed_end (Return a) = Return (option_map placed_operand a)
 
+  -- a block over homes
   abbrev pub placed_block : Block → Block
   placed_block b = record { place = b.place; instructions = map placed_instruction b.instructions; end = placed_end b.end }
 
+  -- what a parameter is bound to, over homes
   abbrev pub placed_binding : Binding → Binding
   placed_binding (ToScalar x) = ToScalar (placed x)
   placed_binding (ToObject object) = ToObject object
@@ -99,6 +104,7 @@ module _ (home : ℕ → Home) where
   abbrev pub placed_graph : Graph → Graph
   placed_graph g = record g { parameters = map placed_binding g.parameters; blocks = map placed_block g.blocks }
 
+-- the graphs of a unit over homes, from this function on
 abbrev pub placed_graphs : HomedForm → (function : ℕ) → List Graph → List Graph
 placed_graphs h f [] = []
 placed_graphs h f (g ∷ graphs) = placed_graph (home_of h f) g ∷ placed_graphs h (f + 1) graphs

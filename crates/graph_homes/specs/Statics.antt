@@ -22,6 +22,7 @@ addresses_from address (bytes ∷ more) = address ∷ addresses_from (address + 
 abbrev pub static_sizes : UnitForm → List ℕ
 static_sizes u = map static_bytes u.statics ++ map (λ (b : List ℕ). length b) u.array_bytes
 
+-- the addresses of the static objects and of the bytes that initialise arrays, one behind the other
 abbrev pub static_addresses : UnitForm → List ℕ
 static_addresses u = addresses_from statics_start (static_sizes u)
 
@@ -50,9 +51,11 @@ relocation_at (r ∷ more) at = if r.at == at then Some r else relocation_at mor
 abbrev pub word_there : UnitForm → StaticObject → (index : ℕ) → (bytes : List ℕ) → List ℕ
 word_there u o index bytes = option_map_or (λ (r : Relocation). word_bytes (static_at u r.object + r.offset)) (relocation_at o.relocations (4 * index)) bytes
 
+-- the four bytes of a word of an object
 abbrev pub word_of_bytes : List ℕ → (index : ℕ) → List ℕ
 word_of_bytes bytes index = slice_index bytes (4 * index) ∷ slice_index bytes (4 * index + 1) ∷ slice_index bytes (4 * index + 2) ∷ slice_index bytes (4 * index + 3) ∷ []
 
+-- so many words of an object from an index on, with addresses where it has relocations
 abbrev pub words_there : UnitForm → StaticObject → (index count : ℕ) → List ℕ
 words_there u o index zero = []
 words_there u o index (suc count) = word_there u o index (word_of_bytes o.bytes index) ++ words_there u o (index + 1) count

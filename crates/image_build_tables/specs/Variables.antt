@@ -52,9 +52,11 @@ pub record Shape : Type 0 where
   pub element : ElementType
   pub count : ℕ
 
+-- what is compared of a variable of an image
 abbrev pub shape : Variable → Shape
 shape v = record { name_length = v.name_length; position = v.position; element = v.element; count = v.count }
 
+-- a named static variable has its name, the line and column where it is declared, its element and its count
 abbrev pub static_shape : StaticTree → Shape
 static_shape v = record { name_length = counted (length v.name); position = v.spot.at; element = element_of v.of; count = count_of v.of }
 
@@ -62,6 +64,7 @@ static_shape v = record { name_length = counted (length v.name); position = v.sp
 abbrev pub literal_shape : LiteralTree → Shape
 literal_shape l = record { name_length = 0; position = l.spot.at; element = U8; count = counted (length l.bytes) }
 
+-- an automatic variable has its name, the line and column where it is declared, its element and its count
 abbrev pub automatic_shape : AutomaticTree → Shape
 automatic_shape v = record { name_length = counted (length v.name); position = v.spot.at; element = element_of v.of; count = count_of v.of }
 
@@ -102,5 +105,6 @@ pass_names log = flat_map (λ (c : Logged). letters c.pass) log
 abbrev pub name_length : Function → ℕ
 name_length f = f.name_length
 
+-- how many letters the name of a function of the program has
 abbrev pub length_of_name : TypedFunctionTree → ℕ
 length_of_name f = counted (length f.name)

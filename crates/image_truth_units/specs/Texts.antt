@@ -16,6 +16,7 @@ use Rattle.event_runs.specs.Agreement.{Pairs}
 abbrev pub static_name : ProgramTree → ℕ → List ℕ
 static_name p n = option_map_or (λ (v : StaticTree). v.name) (slice_get p.statics n) []
 
+-- the name of an automatic variable of the program
 abbrev pub automatic_name : ProgramTree → ℕ → List ℕ
 automatic_name p x = option_map_or (λ (v : AutomaticTree). v.name) (slice_get p.automatics x) []
 

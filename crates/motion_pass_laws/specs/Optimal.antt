@@ -20,6 +20,7 @@ module _ (g : Graph) (e : Computation) (l : Placement) where
   has_along (passes {n = n} {i = i} {left = left} {e = f} way v) = not (spoils e i) && (l.inserts (within n (i ∷ left) f) || has_along way)
   has_along (goes {n = n} {l = to} {e = f} way among b at) = l.inserts (along n to) || (l.inserts (within n [] f) || has_along way)
 
+  -- on this path a placement has the value where the path comes to
   abbrev pub has_on : {history : History} {n : ℕ} {rest : List Instruction} {f : End} → Path g history n rest f → Bool
   has_on (path b at way) = has_along way
 
@@ -38,6 +39,7 @@ module _ (g : Graph) (e : Computation) (l : Placement) where
   spent_along (passes {n = n} {i = i} {left = left} {e = f} way v) = spent_along way + spent_at (within n (i ∷ left) f)
   spent_along (goes {n = n} {l = to} {e = f} way among b at) = (spent_along way + spent_at (within n [] f)) + spent_at (along n to)
 
+  -- how often a placement does the computation on this path
   abbrev pub spent_on : {history : History} {n : ℕ} {rest : List Instruction} {f : End} → Path g history n rest f → ℕ
   spent_on (path b at way) = spent_along way
 
@@ -47,6 +49,7 @@ entered_along stays = []
 entered_along (passes way v) = entered_along way
 entered_along (goes {l = to} way among b at) = to ∷ entered_along way
 
+-- the blocks that a path entered along edges, the latest first
 abbrev pub entered : {g : Graph} {history : History} {n : ℕ} {rest : List Instruction} {f : End} → Path g history n rest f → List ℕ
 entered (path b at way) = entered_along way
 

@@ -46,9 +46,11 @@ key_of (Operating o a b) = (operation_number o, (operand_key a, operand_key b))
 key_of (Truncating t a) = (truncation_number t, (operand_key a, operand_key a))
 key_of (Comparing a b) = (19, (operand_key a, operand_key b))
 
+-- two triples of numbers are the same
 abbrev pub same_three : ℕ × (ℕ × ℕ) → ℕ × (ℕ × ℕ) → Bool
 same_three k q = (k.0 == q.0) && ((k.1.0 == q.1.0) && (k.1.1 == q.1.1))
 
+-- two keys of computations are the same
 abbrev pub same_key : ℕ × ((ℕ × (ℕ × ℕ)) × (ℕ × (ℕ × ℕ))) → ℕ × ((ℕ × (ℕ × ℕ)) × (ℕ × (ℕ × ℕ))) → Bool
 same_key k q = (k.0 == q.0) && (same_three k.1.0 q.1.0 && same_three k.1.1 q.1.1)
 
@@ -56,6 +58,7 @@ same_key k q = (k.0 == q.0) && (same_three k.1.0 q.1.0 && same_three k.1.1 q.1.1
 abbrev pub is_same : Computation → Computation → Bool
 is_same d e = same_key (key_of d) (key_of e)
 
+-- there is a computation, and it is this one
 abbrev pub is_some_same : Computation → Option Computation → Bool
 is_some_same e None = false
 is_some_same e (Some d) = is_same d e

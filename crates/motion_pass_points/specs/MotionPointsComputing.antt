@@ -18,6 +18,7 @@ doing x (Operating o a b) = Operate x o a b
 doing x (Truncating t a) = Truncate x t a
 doing x (Comparing a b) = Same x a b
 
+-- a list with one more before it, if there is one
 abbrev pub with_some : {A : Type 0} → Option A → List A → List A
 with_some None all = all
 with_some (Some a) all = a ∷ all

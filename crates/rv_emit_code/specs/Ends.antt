@@ -61,6 +61,7 @@ loading_code base room (x ∷ more) held =
     then holding_code x base held ++ loading_code base (room - words_of_constant x.word base) more (holding_held x held)
     else loading_code base room more held
 
+-- what the scratch registers hold behind the constants that were loaded
 abbrev pub loading_held : (base room : ℕ) → (loads held : List Held) → List Held
 loading_held base room [] held = held
 loading_held base room (x ∷ more) held =
@@ -185,6 +186,7 @@ end_pieces g held b loads next (Branch k x y if_true if_false) =
     else choosing g held b loads k (source_of g x) (source_of g y) if_true if_false next
 end_pieces g held b loads next (Return v) = []
 
+-- what the scratch registers hold behind the end of a block
 abbrev pub end_held : StorageForm → List Held → (loads : List Held) → End → List Held
 end_held g held loads (Jump to) = loading_held g.base 8 loads held
 end_held g held loads (Branch k x y if_true if_false) =

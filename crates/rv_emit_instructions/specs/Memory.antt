@@ -27,6 +27,7 @@ load_operation element.Unsigned16 = Lhu
 load_operation element.Signed16 = Lh
 load_operation element.Word = Lw
 
+-- the instruction that stores an element
 abbrev pub store_operation : Element → StoreOperation
 store_operation element.Unsigned8 = Sb
 store_operation element.Signed8 = Sb
@@ -44,6 +45,7 @@ pub record Reach : Type 0 where
 abbrev pub upper_of : (address : ℕ) → ℕ
 upper_of address = high_part address * 4096 % 4294967296
 
+-- how a static object is reached: from the register gp where it lies near, else by its upper bits in a register
 abbrev pub static_reach : StorageForm → List Held → (address : ℕ) → Reach
 static_reach g held address =
     if is_small (subtracted address g.base) then (record { code = []; base = 3; offset = subtracted address g.base })
@@ -70,6 +72,7 @@ reach_of g held (At a) = pointer_reach g held (source_of g a)
 abbrev pub loading : StorageForm → (target : Home) → Element → Reach → List Instruction
 loading g target e reach = reach.code ++ instruction.Load (load_operation e) (result_register target) reach.base reach.offset ∷ finishing g target (result_register target)
 
+-- the code that loads an element into a home
 abbrev pub load_code : StorageForm → List Held → (target : Home) → Element → Location → List Instruction
 load_code g held target e location = loading g target e (reach_of g held location)
 

@@ -75,9 +75,11 @@ power_of_two w = power_from 0 32 w
 abbrev pub if_small : ImmediateOperation → (word : ℕ) → Option (ImmediateOperation × ℕ)
 if_small op w = if is_small w then Some (op, w) else None
 
+-- a remainder by a power of two up to 2048 is an AND with one less
 abbrev pub if_low_power : (word exponent : ℕ) → Option (ImmediateOperation × ℕ)
 if_low_power w e = if nat_le e 11 then Some (Andi, subtracted w 1) else None
 
+-- the form of an operation by a constant that the instruction itself can hold, if there is one
 abbrev pub immediate_form : Operation → (word : ℕ) → Option (ImmediateOperation × ℕ)
 immediate_form Add w = if_small Addi w
 immediate_form Sub w = if_small Addi (subtracted 0 w)
@@ -103,6 +105,7 @@ module _ (g : StorageForm) (held : List Held) (target : Home) where
   constant_to (Register r) w = set_constant_code r w g.base held
   constant_to (Slot k) w = fetched_constant w g.base 6 held ++ home_written g (Slot k) (constant_register w g.base 6 held)
 
+  -- the target becomes a constant
   abbrev pub constant_written : (word : ℕ) → List Instruction
   constant_written w = constant_to target w
 
@@ -146,6 +149,7 @@ module _ (g : StorageForm) (held : List Held) (target : Home) where
       fetched_source g held left 6 ++ fetched_source g held right 7
       ++ OnRegisters on.Xor 6 (source_register g held left 6) (source_register g held right 7) ∷ Immediate Sltiu (result_register target) 6 1 ∷ finishing g target (result_register target)
 
+  -- the target becomes whether two words are the same: a comparison with 0 takes one instruction
   abbrev pub comparison_code : (left right : Source) → List Instruction
   comparison_code (Word a) (Word b) = if a == 0 then on_immediate Sltiu (Word b) 1 else if b == 0 then on_immediate Sltiu (Word a) 1 else compared (Word a) (Word b)
   comparison_code (Word a) (OfHome b) = if a == 0 then on_immediate Sltiu (OfHome b) 1 else compared (Word a) (OfHome b)

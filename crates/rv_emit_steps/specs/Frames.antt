@@ -108,6 +108,7 @@ IsWord (Name x) = Unit {0}
 IsWord (Constant n) = n < 4294967296
 IsWord (StaticAddress object offset) = Unit {0}
 
+-- what a location is computed from are words
 abbrev pub IsWordIn : Location → Type 0
 IsWordIn (Automatic object offset) = Unit {0}
 IsWordIn (Static object) = Unit {0}

@@ -57,6 +57,7 @@ with_bytes n a v memory = λ b. if nat_lt b a then memory b else if nat_lt b (a 
 abbrev pub half_at : (ℕ → ℕ) → (address : ℕ) → ℕ
 half_at memory a = memory a + memory (a + 1) * 256
 
+-- the word of four bytes at an address, the lowest first
 abbrev pub word_at : (ℕ → ℕ) → (address : ℕ) → ℕ
 word_at memory a = memory a + memory (a + 1) * 256 + memory (a + 2) * 65536 + memory (a + 3) * 16777216
 

@@ -36,6 +36,7 @@ home_at g x = home_in g.homes x
 abbrev pub slot_at : StorageForm → (slot : ℕ) → ℕ
 slot_at g k = (g.slots + k * 4 % 4294967296) % 4294967296
 
+-- where an automatic object lies, as an offset from the stack pointer
 abbrev pub object_at : StorageForm → (object : ℕ) → ℕ
 object_at g n = slice_index g.objects n
 
@@ -43,6 +44,7 @@ object_at g n = slice_index g.objects n
 abbrev pub static_object_at : StorageForm → (object : ℕ) → ℕ
 static_object_at g n = slice_index g.statics n
 
+-- the address of the bytes that initialise an array
 abbrev pub array_bytes_at : StorageForm → (bytes : ℕ) → ℕ
 array_bytes_at g n = slice_index g.arrays n
 

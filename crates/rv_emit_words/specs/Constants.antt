@@ -16,6 +16,7 @@ is_small w = nat_lt w 2048 || nat_le 4294965248 w
 abbrev pub low_part : (word : ℕ) → ℕ
 low_part w = if nat_lt (w % 4096) 2048 then w % 4096 else w % 4096 + 4294963200
 
+-- the upper 20 bits of a word, one more where its lower 12 are taken as negative
 abbrev pub high_part : (word : ℕ) → ℕ
 high_part w = (w + 2048) / 4096 % 1048576
 
@@ -48,6 +49,7 @@ constant_code r w base = constant_by (words_of_constant w base) r w base
 abbrev pub constant_register : (word base scratch : ℕ) → List Held → ℕ
 constant_register w base scratch held = if w == 0 then 0 else if w == base then 3 else option_map_or (λ r. r) (holder_of w held) scratch
 
+-- the words that bring a constant into a register, none where one holds it already
 abbrev pub fetched_constant : (word base scratch : ℕ) → List Held → List Instruction
 fetched_constant w base scratch held = if w == 0 then [] else if w == base then [] else option_map_or (λ r. []) (holder_of w held) (constant_code scratch w base)
 
@@ -55,6 +57,7 @@ fetched_constant w base scratch held = if w == 0 then [] else if w == base then 
 abbrev pub set_constant_by : (words register word base : ℕ) → List Held → List Instruction
 set_constant_by n r w base held = if is_small w then constant_by n r w base else option_map_or (λ q. Immediate Addi r q 0 ∷ []) (holder_of w held) (constant_by n r w base)
 
+-- a constant is brought into a register by as few words as it takes
 abbrev pub set_constant_code : (register word base : ℕ) → List Held → List Instruction
 set_constant_code r w base held = set_constant_by (words_of_constant w base) r w base held
 

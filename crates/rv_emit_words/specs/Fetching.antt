@@ -10,6 +10,7 @@ abbrev pub most_words_of_home : Home → ℕ
 most_words_of_home (Register r) = 0
 most_words_of_home (Slot k) = 3
 
+-- how many words bring what is read into a register, at most
 abbrev pub most_words_of_source : Source → ℕ
 most_words_of_source (OfHome home) = most_words_of_home home
 most_words_of_source (Word w) = 2

@@ -38,6 +38,7 @@ abbrev pub home_register : Home → (scratch : ℕ) → ℕ
 home_register (Register r) scratch = r
 home_register (Slot k) scratch = scratch
 
+-- the words that bring what a home holds into a register, none where the home is one
 abbrev pub fetched_home : StorageForm → Home → (scratch : ℕ) → List Instruction
 fetched_home g (Register r) scratch = []
 fetched_home g (Slot k) scratch = load_slot_code scratch (slot_at g k)
@@ -47,6 +48,7 @@ abbrev pub source_register : StorageForm → List Held → Source → (scratch :
 source_register g held (OfHome home) scratch = home_register home scratch
 source_register g held (Word w) scratch = constant_register w g.base scratch held
 
+-- the words that bring what is read into a register, none where one has it already
 abbrev pub fetched_source : StorageForm → List Held → Source → (scratch : ℕ) → List Instruction
 fetched_source g held (OfHome home) scratch = fetched_home g home scratch
 fetched_source g held (Word w) scratch = fetched_constant w g.base scratch held

@@ -31,6 +31,7 @@ at_line n (Err code) = Err (code, n)
 unfoldable pub name_of : List ℕ → Result (List ℕ) Code
 name_of word = if is_name word then Ok word else Err COMMAND_NAME
 
+-- the first letter of a word is a digit
 unfoldable pub begins_with_digit : List ℕ → Bool
 begins_with_digit [] = false
 begins_with_digit (b ∷ bs) = is_ascii_digit b

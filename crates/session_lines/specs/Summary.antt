@@ -14,9 +14,11 @@ use Rattle.stop_engine_texts.specs.Sight.{Sight, NoStop, NoName, Value, Recovere
 use Rattle.session_lines.specs.declared.summary.Counts.{Counts}
 use Rattle.session_lines.specs.declared.summary.Summary.{Summary}
 
+-- no pair of a stop and a variable was counted
 abbrev pub no_pairs : PairCounts
 no_pairs = record { pairs = 0; home = 0; recovered = 0; noncurrent = 0; nonresident = 0 }
 
+-- nothing was counted: no stop, no pair, no byte of output
 abbrev pub nothing : Counts
 nothing = record { stops = 0; pairs = no_pairs; out = 0 }
 

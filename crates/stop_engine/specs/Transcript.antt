@@ -53,6 +53,7 @@ pub record Reach : Type 0 where
   pub position : Position
   pub rest : List MachineEvent
 
+-- a byte is put before the output of what was reached
 abbrev pub with_output : ℕ → Reach → Reach
 with_output byte r = record r { output = byte ∷ r.output }
 
@@ -83,6 +84,7 @@ ending_line limit NestsTooDeep = depth_line
 ending_line limit (Faults a) = fault_line a
 ending_line limit Limit = limit_line limit
 
+-- the line that says where the run stands: that there is no stop, the place of the stop, or how the run ended
 abbrev pub position_line : Form → (limit : ℕ) → Position → List ℕ
 position_line m limit Fresh = no_stop_line
 position_line m limit (Standing s) = option_map_or (place_line m s) (place_at m s.pc) []
