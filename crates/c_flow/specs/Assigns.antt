@@ -125,9 +125,11 @@ abbrev mutual
 abbrev pub assigned_by_entry : TypedFunctionTree → List Assigned
 assigned_by_entry f = map (λ (x : ℕ). assigns_object f.spot.at (object.Automatic x)) (numbers_from f.first_variable f.parameters)
 
+-- what the places of a function assign
 abbrev pub assigned_by_function : TypedFunctionTree → List Assigned
 assigned_by_function f = assigned_by_entry f ++ assigned_by_statements f.body
 
+-- what the places of functions assign
 abbrev pub assigned_by_functions : List TypedFunctionTree → List Assigned
 assigned_by_functions [] = []
 assigned_by_functions (f ∷ all) = assigned_by_function f ++ assigned_by_functions all
@@ -151,6 +153,7 @@ abbrev pub numbered_for : ℕ → Option ℕ → List Assignment
 numbered_for place None = []
 numbered_for place (Some x) = record { place = record { 0 = place }; var = record { 0 = x } } ∷ []
 
+-- assignments by the numbers of their places and variables
 abbrev pub numbered_assigned : ProgramTree → List Place → List Assigned → List Assignment
 numbered_assigned p places [] = []
 numbered_assigned p places (a ∷ all) = numbered_for (number_at places a.at) (variable_number p a.object) ++ numbered_assigned p places all

@@ -132,6 +132,7 @@ ways_of_body f = record { next = if reaches_end f.body then Some f.close.at else
 abbrev pub flow_of_function : TypedFunctionTree → List Edge
 flow_of_function f = edge f.spot.at (start_of_all f.body (ways_of_body f).next) ++ flow_of_all (ways_of_body f) f.body
 
+-- the steps of the flow of functions
 abbrev pub flow_of_functions : List TypedFunctionTree → List Edge
 flow_of_functions [] = []
 flow_of_functions (f ∷ all) = flow_of_function f ++ flow_of_functions all
@@ -144,5 +145,6 @@ flow_of_program p = flow_of_functions p.functions
 abbrev pub numbered : List Place → Edge → FlowStep
 numbered places e = record { from = record { 0 = number_at places e.from }; to = record { 0 = number_at places e.to } }
 
+-- the steps of the flow of a program, by the numbers of their places
 abbrev pub steps_of_program : ProgramTree → List FlowStep
 steps_of_program p = map (numbered (places_of_program p)) (flow_of_program p)

@@ -25,6 +25,7 @@ pub record Row : Type 0 where
   pub is_entry : Bool
   pub visible : List ℕ
 
+-- the row of a place, as definitions speak of it
 abbrev pub row_view : PlaceRow → Row
 row_view r = record { position = r.position; line = r.line; function = r.function; is_entry = r.is_entry; visible = map (λ (v : Var). v.0) r.visible.items }
 

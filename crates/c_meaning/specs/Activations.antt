@@ -29,6 +29,7 @@ frames_at here place = record { function = here.function; place = place } ∷ he
 abbrev pub owner_of : Activation → ℕ → Owner
 owner_of here x = Variable x (depth_of here)
 
+-- what a stop shows of a variable: its values in memory
 abbrev pub shown : Activation → Memory → ℕ → Shown
 shown here memory x = record { variable = x; values = contents (owner_of here x) memory }
 
@@ -51,6 +52,7 @@ pub data Begun : Type 0 where
 abbrev pub begin : Activation → Spot → State → Begun
 begin here spot s = elim s.turns [ zero ↦ NoTurn s | suc left ↦ Goes (stopped here spot.at (record s { turns = left })) ]
 
+-- what is done where a turn is left
 abbrev pub on_begun : Begun → (State → Outcome) → Outcome
 on_begun (Goes s) go = go s
 on_begun (NoTurn s) go = Ended Turns s

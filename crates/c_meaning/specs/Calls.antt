@@ -14,6 +14,7 @@ use Rattle.c_meaning.specs.Lifetimes.{objects_of, ending_from}
 abbrev pub bind_one : Activation → ℕ → Value → Memory → Memory
 bind_one here x v memory = memory ++ map (λ o. with_value o 0 v) (objects_of here Live x)
 
+-- the parameters of an activation take the values of the arguments
 abbrev pub bind : Activation → List ℕ → List Value → Memory → Memory
 bind here [] vs memory = memory
 bind here (x ∷ xs) [] memory = memory
@@ -23,6 +24,7 @@ bind here (x ∷ xs) (v ∷ vs) memory = bind here xs vs (bind_one here x v memo
 abbrev pub enter_turn : State → Begun
 enter_turn s = elim s.turns [ zero ↦ NoTurn s | suc left ↦ Goes (record s { turns = left }) ]
 
+-- what is done where a turn is left for a call
 abbrev pub on_entry : Begun → (State → Evaluated) → Evaluated
 on_entry (Goes s) go = go s
 on_entry (NoTurn s) go = Ends Turns s
@@ -31,6 +33,7 @@ on_entry (NoTurn s) go = Ends Turns s
 abbrev pub value_at_close : Bool → State → Evaluated
 value_at_close is_main s = if is_main then Gives (Number (pos 0)) s else Leaves s
 
+-- the value that a call gives, if it gives one
 abbrev pub value_returned : Option Value → State → Evaluated
 value_returned (Some v) s = Gives v s
 value_returned None s = Leaves s

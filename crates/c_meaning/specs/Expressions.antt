@@ -30,6 +30,7 @@ call calls Exit vs s = call_with_one leave vs s
 
 module _ (calls : Calls) (depth : ℕ) where
   abbrev mutual
+    -- what the evaluation of an expression comes to (C11 6.5)
     pub evaluate : RvalueTree → State → Evaluated
     evaluate (Constant z type) s = Gives (value.Number z) s
     evaluate Null s = Gives value.Null s

@@ -37,6 +37,7 @@ pub record SourceRun : Type 0 where
   pub events : List Event
   pub ending : Ending
 
+-- the run of a program with this ending: that the program ends and that a call is too deep can be seen, undefined behaviour can't
 abbrev pub with_ending : Ending → List Event → SourceRun
 with_ending Undefined events = record { events = events; ending = Undefined }
 with_ending (Exit status) events = record { events = events ++ Exited status ∷ []; ending = Exit status }

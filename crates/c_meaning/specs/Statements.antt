@@ -48,6 +48,7 @@ rounds (suc n) round s = round (rounds n round) s
 abbrev pub loop : ((State → Outcome) → State → Outcome) → State → Outcome
 loop round s = rounds s.turns round s
 
+-- two numbers are the same
 abbrev pub is_same_number : ℤ → ℤ → Bool
 is_same_number a b = int_le a b && int_le b a
 
@@ -58,10 +59,12 @@ has_case k (first s rest) = has_case k rest
 has_case k (case j rest) = is_same_number k j || has_case k rest
 has_case k (default rest) = has_case k rest
 
+-- what a switch does where it has the label, and where it has not
 abbrev pub by_label : Bool → (State → Outcome) → (State → Outcome) → State → Outcome
 by_label true labelled unlabelled s = labelled s
 by_label false labelled unlabelled s = unlabelled s
 
+-- what is done with a value that is a number; another one is undefined behaviour
 abbrev pub on_number : Value → State → (ℤ → State → Outcome) → Outcome
 on_number (Number k) s go = go k s
 on_number _ s go = Ended Undefined s
@@ -102,9 +105,11 @@ module _ (calls : ℕ → Calls) (here : Activation) where
       let t = made here Live x s in
       Next (record t { memory = set_values t.memory (length s.memory) 0 (literal_values here.program.array_literals (element_type here x) n) })
 
+  -- a declaration of one variable is executed at its place
   abbrev pub declare : DeclaredTree → State → Outcome
   declare d s = at here d.spot s (declare_with d.spot d.variable d.initial)
 
+  -- a declaration of several variables is executed
   abbrev pub declare_all : List DeclaredTree → State → Outcome
   declare_all [] s = Next s
   declare_all (d ∷ all) s = then_do (declare d s) (declare_all all)
@@ -128,6 +133,7 @@ module _ (calls : ℕ → Calls) (here : Activation) where
   check spot None s = Holds s
   check spot (Some e) s = test_at spot e s
 
+  -- the step of a loop is executed at its place, if it has one
   abbrev pub step : Option StepTree → State → Outcome
   step None s = Next s
   step (Some p) s = run p.spot p.value s
@@ -138,6 +144,7 @@ module _ (calls : ℕ → Calls) (here : Activation) where
   result spot (Some e) s = on_value (value_at spot e s) (λ v t. Returned (Some v) t)
 
   abbrev mutual
+    -- what the execution of a statement comes to (C11 6.8)
     pub execute : TypedStatementTree → State → Outcome
     execute (Block all) s = closed (length s.memory) (execute_all all s)
     execute (Declaration all) s = declare_all all s

@@ -77,16 +77,19 @@ pub data Both : Type 0 where
   Pair : (left right : Value) → State → Both
   NoPair : Ending → State → Both
 
+-- the value of the second operand beside that of the first
 abbrev pub second : Value → Evaluated → Both
 second v (Gives w s) = Pair v w s
 second v (Leaves s) = NoPair Undefined s
 second v (Ends e s) = NoPair e s
 
+-- the values of two operands, the left one first
 abbrev pub both : Evaluated → (State → Evaluated) → Both
 both (Gives v s) right = second v (right s)
 both (Leaves s) right = NoPair Undefined s
 both (Ends e s) right = NoPair e s
 
+-- what is done with the values of two operands
 abbrev pub on_both : Both → (Value → Value → State → Evaluated) → Evaluated
 on_both (Pair v w s) go = go v w s
 on_both (NoPair e s) go = Ends e s
@@ -97,15 +100,18 @@ pub data Tested : Type 0 where
   Fails : State → Tested
   NoTest : Ending → State → Tested
 
+-- a condition holds or fails
 abbrev pub by_truth : Bool → State → Tested
 by_truth true s = Holds s
 by_truth false s = Fails s
 
+-- a condition by its value: it holds where that is not 0
 abbrev pub tested_usable : Evaluated → Tested
 tested_usable (Gives v s) = by_truth (is_true v) s
 tested_usable (Leaves s) = NoTest Undefined s
 tested_usable (Ends e s) = NoTest e s
 
+-- a condition by its value, which must be one that may be used
 abbrev pub tested : Evaluated → Tested
 tested (Gives v s) = tested_usable (usable v s)
 tested (Leaves s) = NoTest Undefined s
@@ -133,11 +139,13 @@ abbrev pub fronted : Value → Listed → Listed
 fronted v (Lists vs s) = Lists (v ∷ vs) s
 fronted v (NoList e s) = NoList e s
 
+-- what is done with the value of an argument, and then the arguments behind it
 abbrev pub listed : Evaluated → (Value → State → Listed) → Listed
 listed (Gives v s) go = go v s
 listed (Leaves s) go = NoList Undefined s
 listed (Ends e s) go = NoList e s
 
+-- what is done with the values of all arguments
 abbrev pub on_list : Listed → (List Value → State → Evaluated) → Evaluated
 on_list (Lists vs s) go = go vs s
 on_list (NoList e s) go = Ends e s
@@ -148,6 +156,7 @@ on_value (Gives v s) go = go v s
 on_value (Leaves s) go = Ended Undefined s
 on_value (Ends e s) go = Ended e s
 
+-- what is done behind an expression whose value nothing uses
 abbrev pub on_effect : Evaluated → (State → Outcome) → Outcome
 on_effect (Gives v s) go = go s
 on_effect (Leaves s) go = go s

@@ -19,6 +19,7 @@ use Rattle.c_meaning_steps.specs.States.{State, Put, seen, Evaluated, Gives, Lea
 abbrev pub load : Value → State → Evaluated
 load p s = with (given (read s.memory p) s) usable
 
+-- memory with a value written, or undefined behaviour where it could not be written
 abbrev pub stored : Option Memory → Value → State → Evaluated
 stored None v s = Ends ending.Undefined s
 stored (Some memory) v s = Gives v (record s { memory = memory })
@@ -33,6 +34,7 @@ named depth (Static n) memory = address_of (owner.Static n) memory
 named depth (Literal n) memory = address_of (owner.Literal n) memory
 named depth (Automatic x) memory = address_of (owner.Variable x depth) memory
 
+-- a value, if another one could be read
 abbrev pub if_read : Option Value → Value → Option Value
 if_read None p = None
 if_read (Some v) p = Some p
@@ -61,9 +63,11 @@ abbrev pub leave : Value → State → Evaluated
 leave (value.Number z) s = Ends (ending.Exit z) s
 leave _ s = Ends ending.Undefined s
 
+-- the value of a condition as a number
 abbrev pub truth : ℤ → State → Evaluated
 truth z s = Gives (value.Number z) s
 
+-- the value that was read through a pointer, beside the pointer
 abbrev pub read_by : Value → Evaluated → Both
 read_by p (Gives old s) = Pair p old s
 read_by p (Leaves s) = NoPair ending.Undefined s
@@ -85,9 +89,11 @@ abbrev pub store_if : Option Value → Value → State → Evaluated
 store_if None p s = Ends ending.Undefined s
 store_if (Some v) p s = store p v s
 
+-- an object's new value is written, if there is one, and the old or the new one is given
 abbrev pub replace_if : Option Value → Given → Value → (old : Value) → State → Evaluated
 replace_if None which p old s = Ends ending.Undefined s
 replace_if (Some new) which p old s = replaced which p old new s
 
+-- the number 1
 abbrev pub one : Value
 one = value.Number (pos 1)

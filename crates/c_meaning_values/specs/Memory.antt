@@ -21,11 +21,13 @@ pub record Object : Type 0 where
 abbrev pub Memory : Type 0
 Memory = List Object
 
+-- an object's lifetime is over
 abbrev pub is_over : Phase → Bool
 is_over Initialising = false
 is_over Live = false
 is_over Ended = true
 
+-- an object has values: its lifetime has begun, and it is initialised
 abbrev pub is_begun : Phase → Bool
 is_begun Initialising = false
 is_begun Live = true
@@ -67,6 +69,7 @@ is_usable memory (Number z) = true
 is_usable memory Null = true
 is_usable memory (Pointer n offset) = option_map_or (λ o. not (is_over o.phase)) (slice_get memory n) false
 
+-- the value of the element at an offset of an object, if the object has values
 abbrev pub value_in : Object → ℕ → Option Value
 value_in o offset = if is_begun o.phase then slice_get o.values (index_at o offset) else None
 
@@ -83,6 +86,7 @@ is_literal (Static n) = false
 is_literal (Literal n) = true
 is_literal (Variable x depth) = false
 
+-- an object with another value at an index
 abbrev pub with_value : Object → ℕ → Value → Object
 with_value o index v = record o { values = slice_set o.values index v }
 
@@ -98,6 +102,7 @@ in_phase phase o = record o { phase = phase }
 abbrev pub begun : Memory → ℕ → Memory
 begun memory n = option_map_or (λ o. slice_set memory n (in_phase Live o)) (slice_get memory n) memory
 
+-- the element at an offset of an object may be written: it is there, alive, and no part of a string literal
 abbrev pub is_writable : Object → ℕ → Bool
 is_writable o offset = not (is_over o.phase) && not (is_literal o.owner) && not (nat_le (length o.values) (index_at o offset))
 
@@ -117,9 +122,11 @@ abbrev pub in_bytes : (bytes : ℕ) → ℤ → Option ℕ
 in_bytes bytes (pos offset) = if nat_le offset bytes then Some offset else None
 in_bytes bytes (negsuc below) = None
 
+-- the pointer into an object at an offset, or directly behind it, if that is there
 abbrev pub in_object : ℕ → Object → ℤ → Option Value
 in_object n o offset = option_map (λ k. Pointer n k) (in_bytes (bytes_of o) offset)
 
+-- a pointer that was moved within an object that lives (C11 6.5.6 p8)
 abbrev pub moved_in : ℕ → ℤ → Object → Option Value
 moved_in n offset o = if is_over o.phase then None else in_object n o offset
 

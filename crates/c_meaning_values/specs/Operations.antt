@@ -37,6 +37,7 @@ convert t _ = None
 abbrev pub compared : Comparison → ℤ → ℤ → ℤ
 compared o a b = truth (constant.compared o a b)
 
+-- the value of a comparison of two numbers
 abbrev pub comparison : Comparison → Value → Value → Option Value
 comparison o (Number a) (Number b) = Some (Number (compared o a b))
 comparison o _ _ = None
@@ -52,6 +53,7 @@ abbrev pub order_of : Comparison → Value → Value → Option Value
 order_of o (Pointer n i) (Pointer m j) = if n == m then Some (Number (compared o (pos i) (pos j))) else None
 order_of o _ _ = None
 
+-- the value of a comparison of two pointers by == or !=
 abbrev pub pointers_compared : Comparison → Value → Value → Option Value
 pointers_compared Equal v w = Some (Number (truth (is_same_pointer v w)))
 pointers_compared NotEqual v w = Some (Number (truth (not (is_same_pointer v w))))
@@ -72,6 +74,7 @@ pointer_comparison memory o v w = if_usable memory v w (pointers_compared o v w)
 abbrev pub elements_from : (size i j : ℕ) → Option ℤ
 elements_from size i j = if size == 0 then None else in_range int_type (int_div (pos i -ℤ pos j) (pos size))
 
+-- the difference of two pointers into one object, in elements (C11 6.5.6 p9)
 abbrev pub elements_between : ℕ → Value → Value → Option Value
 elements_between size (Pointer n i) (Pointer m j) = if n == m then option_map Number (elements_from size i j) else None
 elements_between size _ _ = None

@@ -29,6 +29,7 @@ use Rattle.c_parse_expressions.specs.Expressions.{nesting}
 use Rattle.c_parse_statements.specs.Declarations.{identifier, brackets, named_declarator, begun_declaration}
 use Rattle.c_parse_statements.specs.Statements.{block, statements}
 
+-- a lexeme is an identifier
 abbrev pub is_name : Word → Bool
 is_name (word.Name name) = true
 is_name w = false
@@ -89,6 +90,7 @@ external depth ts =
     option_map_or (λ its. function depth found.0 found.1 (result_stars found.0 found.1).0 name.0 its >>= λ f. Ok (Defines f.0, f.1)) (behind mark.OpenParenthesis name.1)
     (objects depth found.0 ts found.1 (result_stars found.0 found.1).0 name.0 name.1)
 
+-- the header that a lexeme names
 abbrev pub header : token_header.Header → Header
 header token_headers.Stdio = headers.Stdio
 header token_headers.Stdlib = headers.Stdlib
@@ -98,6 +100,7 @@ abbrev pub item_of : ℕ → Word → Lexeme → Parser ItemTree
 item_of depth (word.Include h) t ts = Ok (Include t.spot (header h), ts)
 item_of depth w t ts = external depth (t ∷ ts)
 
+-- a declaration, a function or an include at the outermost level (C11 6.9)
 unfoldable pub item : ℕ → Parser ItemTree
 item depth [] = Err (stuck [])
 item depth (t ∷ ts) = item_of depth t.kind t ts
@@ -121,6 +124,7 @@ abbrev pub fault : List Lexeme → Stuck → Code × ℕ
 fault ts (At code line) = (code, line)
 fault ts AtEnd = (UNEXPECTED_TOKEN, last_line ts)
 
+-- the items that were read, or the refusal of the source where reading was stuck
 abbrev pub answer : List Lexeme → Result (List ItemTree) Stuck → Result (List ItemTree) (Code × ℕ)
 answer ts (Ok items) = Ok items
 answer ts (Err stuck) = Err (fault ts stuck)

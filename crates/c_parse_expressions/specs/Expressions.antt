@@ -68,6 +68,7 @@ primary_of nest (word.Punctuator punctuator.OpenParenthesis) t ts =
     nested nest sort.Comma ts >>= λ e. want mark.CloseParenthesis e.1 >>= λ rest. Ok (tree.Parenthesized (extent_before (t ∷ ts) rest) e.0, rest)
 primary_of nest w t ts = Err (stuck (t ∷ ts))
 
+-- a primary expression (C11 6.5.1)
 unfoldable pub primary : Nesting → Parser ExpressionTree
 primary nest [] = Err (stuck [])
 primary nest (t ∷ ts) = primary_of nest t.kind t ts
@@ -147,6 +148,7 @@ unary_of nest (word.Keyword keyword.Sizeof) t ts = option_map_or (sizeof_type ne
 unary_of nest (word.Punctuator p) t ts = option_map_or (λ o. prefix nest t.spot o ts) (prefix_operator p) (postfix nest (t ∷ ts))
 unary_of nest w t ts = postfix nest (t ∷ ts)
 
+-- a unary expression (C11 6.5.3)
 unfoldable pub unary : Nesting → Parser ExpressionTree
 unary nest [] = postfix nest []
 unary nest (t ∷ ts) = unary_of nest t.kind t ts

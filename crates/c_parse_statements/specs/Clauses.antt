@@ -49,6 +49,7 @@ condition nest ts =
 unfoldable pub optional : Nesting → (end : Mark) → Parser (Option ExpressionTree)
 optional nest end ts = if is_at end ts then Ok (None, ts) else (comma nest ts >>= λ e. Ok (Some e.0, e.1))
 
+-- what a for loop begins with where it declares nothing
 abbrev pub start_of : Option ExpressionTree → StartTree
 start_of None = tree.Nothing
 start_of (Some e) = tree.Value e
@@ -99,6 +100,7 @@ label_of nest (word.Keyword keyword.Case) t ts =
 label_of nest (word.Keyword keyword.Default) t ts = want mark.Colon ts >>= λ rest. Ok (Some (DefaultLabel (extent_before (t ∷ ts) rest), rest))
 label_of nest w t ts = Ok None
 
+-- a case or default label, if one stands in front (C11 6.8.1)
 unfoldable pub label : Nesting → List Lexeme → Result (Option (LabelTree × List Lexeme)) Stuck
 label nest [] = Ok None
 label nest (t ∷ ts) = label_of nest t.kind t ts

@@ -20,6 +20,7 @@ abbrev pub identifier_of : Word → Lexeme → Parser NameTree
 identifier_of (word.Name name) t ts = Ok (record { name = name; spot = t.spot }, ts)
 identifier_of w t ts = Err (stuck (t ∷ ts))
 
+-- an identifier
 unfoldable pub identifier : Parser NameTree
 identifier [] = Err (stuck [])
 identifier (t ∷ ts) = identifier_of t.kind t ts
@@ -62,9 +63,11 @@ unfoldable pub within_braces : ℕ → Option (Parser InitializerTree)
 within_braces zero = None
 within_braces (suc depth) = Some (initializer_in (nesting depth) (within_braces depth))
 
+-- an initializer: an expression, or a list in braces (C11 6.7.9)
 unfoldable pub initializer : ℕ → Parser InitializerTree
 initializer depth ts = initializer_in (nesting depth) (within_braces depth) ts
 
+-- the brackets of a declarator have nothing between them
 abbrev pub are_empty : BracketsTree → Bool
 are_empty Empty = true
 are_empty b = false

@@ -91,6 +91,7 @@ unlabeled_of depth within (word.Keyword keyword.Continue) t ts = want mark.Semic
 unlabeled_of depth within (word.Keyword keyword.Return) t ts = return_statement (nesting depth) (t ∷ ts) ts
 unlabeled_of depth within w t ts = expression_statement (nesting depth) (t ∷ ts)
 
+-- a statement without labels (C11 6.8)
 unfoldable pub unlabeled : ℕ → List StatementLevel → Parser StatementTree
 unlabeled depth within [] = Err (stuck [])
 unlabeled depth within (t ∷ ts) = unlabeled_of depth within t.kind t ts

@@ -5,6 +5,7 @@ use Rattle.c_parse_tokens.specs.declared.fault.Stuck.{Stuck}
 use Rattle.c_parse_tokens.specs.declared.fault.ParseErr.{ParseErr}
 use Rattle.c_parse_tokens.specs.declared.fault.ParseErr.TheVariants as errors
 
+-- what is read from the front of a list of lexemes, with those that are left, or where reading is stuck
 abbrev pub Parser : Type 0 → Type 0
 Parser A = List Lexeme → Result (A × List Lexeme) Stuck
 

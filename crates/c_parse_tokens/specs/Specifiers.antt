@@ -24,14 +24,17 @@ use Rattle.c_parse_tokens.specs.Front.{stuck}
 abbrev pub no_specifiers : SpecifierList
 no_specifiers = record { is_static = false; is_void = false; is_int = false; sign = sign.Unstated; width = width.Unstated }
 
+-- neither signed nor unsigned was said
 abbrev pub is_signless : Sign → Bool
 is_signless sign.Unstated = true
 is_signless s = false
 
+-- no word was said that tells the width of a type
 abbrev pub is_widthless : Width → Bool
 is_widthless width.Unstated = true
 is_widthless w = false
 
+-- the word char was said
 abbrev pub is_char : Width → Bool
 is_char width.Char = true
 is_char w = false
@@ -145,6 +148,7 @@ unfoldable pub begins_type : List Lexeme → Bool
 begins_type [] = false
 begins_type (t ∷ ts) = is_type_word t.kind
 
+-- a lexeme is the keyword void
 abbrev pub is_void_word : Word → Bool
 is_void_word (word.Keyword keyword.Void) = true
 is_void_word w = false
@@ -154,6 +158,7 @@ unfoldable pub names_type : List Lexeme → Bool
 names_type [] = false
 names_type (t ∷ ts) = is_void_word t.kind || is_type_word t.kind
 
+-- a lexeme is an opening parenthesis
 abbrev pub is_parenthesis : Word → Bool
 is_parenthesis (word.Punctuator punctuator.OpenParenthesis) = true
 is_parenthesis w = false
@@ -163,6 +168,7 @@ unfoldable pub type_behind : List Lexeme → Option (List Lexeme)
 type_behind [] = None
 type_behind (t ∷ ts) = if is_parenthesis t.kind && names_type ts then Some ts else None
 
+-- a lexeme is a star
 abbrev pub is_star : Word → Bool
 is_star (word.Punctuator punctuator.Star) = true
 is_star w = false

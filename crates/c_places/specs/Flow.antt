@@ -27,6 +27,7 @@ abbrev pub either : Exits → Exits → Exits
 either e f = record { next = e.next || f.next; breaks = e.breaks || f.breaks; continues = e.continues || f.continues }
 
 abbrev mutual
+  -- how control can leave a statement: to what follows, by break, or by continue
   pub exits_of : TypedStatementTree → Exits
   exits_of (Block all) = exits_of_all onwards all
   exits_of (Declaration all) = onwards

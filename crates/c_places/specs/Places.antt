@@ -44,6 +44,7 @@ module _ (function : ℕ) where
   places_of_declarators scope [] = []
   places_of_declarators scope (d ∷ all) = stop scope d.spot ∷ places_of_declarators (scope ++ d.variable ∷ []) all
 
+  -- the place of what a for loop begins with
   abbrev pub places_of_start : List ℕ → TypedStartTree → List Place
   places_of_start scope Nothing = []
   places_of_start scope (Value spot e) = stop scope spot ∷ []
@@ -109,6 +110,7 @@ close_of function f = if reaches_end f.body then stop function (parameters_of f 
 abbrev pub places_of_function : ℕ → TypedFunctionTree → List Place
 places_of_function function f = entry_of function f ∷ places_of_all function (parameters_of f) f.body ++ close_of function f
 
+-- the places of functions, the first of which has this number
 abbrev pub places_of_functions : ℕ → List TypedFunctionTree → List Place
 places_of_functions function [] = []
 places_of_functions function (f ∷ all) = places_of_function function f ++ places_of_functions (function + 1) all
@@ -117,6 +119,7 @@ places_of_functions function (f ∷ all) = places_of_function function f ++ plac
 abbrev pub places_of_program : ProgramTree → List Place
 places_of_program p = places_of_functions 0 p.functions
 
+-- how many places begin before a position of the source
 abbrev pub count_before : ℕ → List Place → ℕ
 count_before at [] = 0
 count_before at (p ∷ places) = if nat_lt p.spot.at at then count_before at places + 1 else count_before at places

@@ -37,5 +37,6 @@ blanks_from text (suc inside) at (b ∷ rest) = blanks_from text inside (at + 1)
 blanks_from text zero at (b ∷ rest) =
     blank_at text at >>= λ blank. option_map_or (λ end. blanks_from text (end - (at + 1)) (at + 1) rest) blank (Ok at)
 
+-- where the blanks and comments end that begin at a position of the text
 unfoldable pub blanks_end : List ℕ → ℕ → Result ℕ Fault
 blanks_end text at = blanks_from text 0 at (drop at text)

@@ -24,9 +24,11 @@ is_digit_in base b = nat_lt (digit_value b) base
 abbrev pub value_of : ℕ → List ℕ → ℕ
 value_of base digits = fold (λ v b. v * base + digit_value b) 0 digits
 
+-- the letter u or U
 unfoldable pub is_u : ℕ → Bool
 is_u b = b == 117 || b == 85
 
+-- the letter l or L
 unfoldable pub is_l : ℕ → Bool
 is_l b = b == 108 || b == 76
 

@@ -33,6 +33,7 @@ behind_open_brace c = record (behind_other c) { depth = c.depth + 1; in_function
 abbrev pub behind_close_brace : Context → Context
 behind_close_brace c = record (behind_other c) { depth = c.depth - 1 }
 
+-- behind a punctuator
 abbrev pub behind_punctuator : Context → punctuator.Punctuator → Context
 behind_punctuator c mark.CloseParenthesis = record (behind_other c) { after_parenthesis = true }
 behind_punctuator c mark.OpenBrace = behind_open_brace c

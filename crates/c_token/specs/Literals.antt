@@ -19,6 +19,7 @@ abbrev pub find_byte : List (ℕ × ℕ) → ℕ → Option ℕ
 find_byte [] b = None
 find_byte (e ∷ table) b = if e.0 == b then Some e.1 else find_byte table b
 
+-- the character that a backslash and one letter stand for, if they stand for one (C11 6.4.4.4)
 unfoldable pub simple_escape : ℕ → Option ℕ
 simple_escape b = find_byte simple_escapes b
 

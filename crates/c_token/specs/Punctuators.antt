@@ -33,6 +33,7 @@ punctuators =
 abbrev pub digraphs : List (List ℕ)
 digraphs = codes "<:" ∷ codes ":>" ∷ codes "<%" ∷ codes "%>" ∷ codes "%:" ∷ []
 
+-- one of the digraphs stands at a position of the text
 unfoldable pub is_digraph_at : List ℕ → ℕ → Bool
 is_digraph_at text at = list_any (stands text at) digraphs
 

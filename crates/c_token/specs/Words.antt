@@ -36,6 +36,7 @@ abbrev pub find_keyword : List (List ℕ × Keyword) → List ℕ → Option Key
 find_keyword [] s = None
 find_keyword (k ∷ table) s = if bytes_eq s k.0 then Some k.1 else find_keyword table s
 
+-- the keyword that letters spell, if they spell one
 unfoldable pub keyword_of : List ℕ → Option Keyword
 keyword_of s = find_keyword keywords s
 

@@ -30,6 +30,7 @@ mutual
     Value : ExpressionTree → InitializerTree
     Braces : InitializerTrees → InitializerTree
 
+  -- the initializers of a list, in the order of the source
   pub data InitializerTrees : Type 0 where
     none : InitializerTrees
     first : InitializerTree → InitializerTrees → InitializerTrees
@@ -47,6 +48,7 @@ initializer_step (Initializer-F.List initializers) = Braces (chain initializers.
 abbrev pub initializer_view : Initializer → InitializerTree
 initializer_view = fold-Initializer InitializerTree initializer_step
 
+-- what is declared of one variable: its stars, its name, its brackets and its initializer, if it has one
 pub record DeclaratorTree : Type 0 where
   pub extent : Extent
   pub stars : ℕ
@@ -58,6 +60,7 @@ abbrev pub declarator_view : Declarator → DeclaratorTree
 declarator_view d =
     record { extent = d.extent; stars = d.stars; name = identifier_view d.identifier; brackets = brackets_view d.brackets; initializer = option_map initializer_view d.initializer }
 
+-- a declaration: its type, and the variables that it declares
 pub record DeclarationTree : Type 0 where
   pub extent : Extent
   pub type : IntegerType
@@ -66,6 +69,7 @@ pub record DeclarationTree : Type 0 where
 abbrev pub declaration_view : Declaration → DeclarationTree
 declaration_view d = record { extent = d.extent; type = d.integer_type; declarators = map declarator_view d.declarators.items }
 
+-- a parameter: its type, its stars, its name, if it has one, and its brackets
 pub record ParameterTree : Type 0 where
   pub extent : Extent
   pub type : IntegerType

@@ -42,6 +42,7 @@ mutual
     Assignment : AssignmentOperator → (target value : ExpressionTree) → ExpressionTree
     Comma : (left right : ExpressionTree) → ExpressionTree
 
+  -- some expressions, in the order of the source
   pub data ExpressionTrees : Type 0 where
     none : ExpressionTrees
     first : ExpressionTree → ExpressionTrees → ExpressionTrees

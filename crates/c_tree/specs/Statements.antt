@@ -45,6 +45,7 @@ mutual
     Continue : Extent → StatementTree
     Return : Extent → Option ExpressionTree → StatementTree
 
+  -- some statements, in the order of the source
   pub data StatementTrees : Type 0 where
     none : StatementTrees
     first : StatementTree → StatementTrees → StatementTrees

@@ -13,6 +13,7 @@ use Rattle.c_tree.specs.Expressions.{NameTree, identifier_view}
 use Rattle.c_tree.specs.Declarations.{DeclarationTree, declaration_view, ParameterTree, parameter_view}
 use Rattle.c_tree.specs.Statements.{BlockTree, block_view}
 
+-- a function that is declared or defined: its result, its name, its parameters and its body, if it has one
 pub record FunctionTree : Type 0 where
   pub extent : Extent
   pub base : Base

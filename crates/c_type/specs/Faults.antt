@@ -17,5 +17,6 @@ abbrev pub first_behind : Option Fault → List Fault → Option Fault
 first_behind best [] = best
 first_behind best (f ∷ fs) = first_behind (Some (earlier best f)) fs
 
+-- the fault that is told: the first by its position in the source
 abbrev pub first_fault : List Fault → Option Fault
 first_fault fs = first_behind None fs

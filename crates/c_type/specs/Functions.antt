@@ -38,9 +38,11 @@ abbrev pub parameter_stars : BracketsTree → ℕ → ℕ
 parameter_stars Absent stars = stars
 parameter_stars b stars = stars + 1
 
+-- the type of a parameter, where an array is a pointer (C11 6.7.6.3 p7)
 abbrev pub parameter_type : ParameterTree → Scalar
 parameter_type p = record { base = p.type; stars = parameter_stars p.brackets p.stars }
 
+-- the types of parameters
 abbrev pub parameter_types : List ParameterTree → List Scalar
 parameter_types [] = []
 parameter_types (p ∷ ps) = parameter_type p ∷ parameter_types ps
@@ -50,6 +52,7 @@ abbrev pub parameter_size : Extent → BracketsTree → ProgressTree → Progres
 parameter_size extent (Sized e) p = reached_by (size_met extent e p) (λ n q. q)
 parameter_size extent b p = p
 
+-- the sizes in the brackets of parameters are checked
 abbrev pub parameter_sizes : List ParameterTree → ProgressTree → ProgressTree
 parameter_sizes [] p = p
 parameter_sizes (d ∷ ds) p = parameter_sizes ds (parameter_size d.extent d.brackets p)
@@ -59,9 +62,11 @@ abbrev pub parameter_named : Extent → Scalar → NameTree → ProgressTree →
 parameter_named extent s n p =
     with_automatic n (object_type.Scalar s) (declares extent n.name (Variable (object.Automatic (length p.automatics)) (object_type.Scalar s)) p)
 
+-- a parameter is declared, if it has a name
 abbrev pub parameter_met : ParameterTree → ProgressTree → ProgressTree
 parameter_met d p = option_map_or (λ n. parameter_named d.extent (parameter_type d) n p) d.name p
 
+-- parameters are declared, one after the other
 abbrev pub parameters_met : List ParameterTree → ProgressTree → ProgressTree
 parameters_met [] p = p
 parameters_met (d ∷ ds) p = parameters_met ds (parameter_met d p)
@@ -75,11 +80,13 @@ result_type (base.Integer t) stars = loaded (record { base = t; stars = stars })
 abbrev pub names_if : FunctionTree → List (List ℕ)
 names_if f = option_map_or (λ b. f.name.name ∷ []) f.body []
 
+-- the name of the function that an item defines, if it defines one
 abbrev pub defined_by : ItemTree → List (List ℕ)
 defined_by (Include spot header) = []
 defined_by (Declares d) = []
 defined_by (Defines f) = names_if f
 
+-- the names of the functions that items define, in the order of the source
 abbrev pub defined : List ItemTree → List (List ℕ)
 defined [] = []
 defined (i ∷ rest) = defined_by i ++ defined rest
@@ -93,9 +100,11 @@ number_of name (n ∷ ns) = if bytes_eq n name then Some 0 else option_map (λ k
 abbrev pub IsNumbering : {Y S : Type 0} → HashMap (String Y) ℕ S → List (List ℕ) → Type 0
 IsNumbering numbers names = (name : List ℕ) → get_by_text numbers name ≡ number_of name names
 
+-- the function of this name among those that are defined, if it is one of them
 abbrev pub callee_of : List (List ℕ) → List ℕ → Option Callee
 callee_of names name = option_map (λ k. callee.Function k) (number_of name names)
 
+-- what a function takes and gives as it is declared
 abbrev pub signature_of : List (List ℕ) → FunctionTree → SignatureTree
 signature_of names f = record { result = result_type f.base f.stars; parameters = parameter_types f.parameters; callee = callee_of names f.name.name }
 
@@ -104,6 +113,7 @@ abbrev pub is_callee : ℕ → Option Callee → Bool
 is_callee k (Some (callee.Function j)) = j == k
 is_callee k _ = false
 
+-- a function is only declared here, or this is its first definition
 abbrev pub is_first : ℕ → FunctionTree → SignatureTree → Bool
 is_first k f g = not (is_some f.body) || is_callee k g.callee
 
@@ -112,10 +122,12 @@ abbrev pub agrees : ℕ → FunctionTree → SignatureTree → Option SignatureT
 agrees k f g (Some known) = same_type known g && is_first k f g
 agrees k f g None = false
 
+-- a function is declared as it was declared before (C11 6.7 p4)
 abbrev pub agrees_with : ℕ → FunctionTree → SignatureTree → Meaning → ProgressTree → Bool
 agrees_with k f g (Function j) p = agrees k f g (slice_get p.names.signatures j)
 agrees_with k f g m p = false
 
+-- a function is declared, and a fault where its name means something else
 abbrev pub known_as : ℕ → FunctionTree → SignatureTree → Option Meaning → ProgressTree → ProgressTree
 known_as k f g None p = with_function f.name.name g p
 known_as k f g (Some m) p = if agrees_with k f g m p then p else breaks REDECLARED f.extent p
@@ -132,6 +144,7 @@ function_made f g b start ts p =
     (record { name = f.name.name; spot = f.name.spot; result = g.result; first_variable = start; parameters = length f.parameters; variables = length p.automatics - start; body = ts; close = b.closing; weight = capped (definition_weight f.parameters b) } ∷ [])
     (closed p)
 
+-- the setting of a function's body: its result, and outside each loop and switch
 abbrev pub setting_of : SignatureTree → Setting
 setting_of g = record { result = g.result; may_break = false; may_continue = false }
 
@@ -144,9 +157,11 @@ body_met f g b p =
 abbrev pub without_new : ℕ → ProgressTree → ProgressTree
 without_new n p = record p { automatics = take n p.automatics }
 
+-- a function that is only declared leaves none of its parameters behind
 abbrev pub declared_only : FunctionTree → ProgressTree → Met (List TypedFunctionTree)
 declared_only f p = means [] (without_new (length p.automatics) (closed (parameters_met f.parameters (opened p))))
 
+-- the body of a function, if it has one
 abbrev pub rest_met : FunctionTree → SignatureTree → Option BlockTree → ProgressTree → Met (List TypedFunctionTree)
 rest_met f g (Some b) p = body_met f g b p
 rest_met f g None p = declared_only f p

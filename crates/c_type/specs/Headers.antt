@@ -33,6 +33,7 @@ same_type f g = same_value f.result g.result && same_scalars f.parameters g.para
 abbrev pub int_scalar : Scalar
 int_scalar = record { base = Int; stars = 0 }
 
+-- what a function of the library takes and gives (C11 7.21.7, 7.22.4.4)
 abbrev pub library : Callee → SignatureTree
 library callee.Getchar = record { result = Integer Int; parameters = []; callee = Some callee.Getchar }
 library callee.Putchar = record { result = Integer Int; parameters = int_scalar ∷ []; callee = Some callee.Putchar }
@@ -71,6 +72,7 @@ placed Known extent name g p = p
 placed New extent name g p = with_function name g p
 placed Taken extent name g p = breaks REDECLARED extent p
 
+-- a function of the library is declared by its header, and a fault where its name is taken by something else
 abbrev pub library_met : Extent → List ℕ → Callee → ProgressTree → ProgressTree
 library_met extent name c p = placed (stands (library c) p.names.signatures (meaning_of p.names name)) extent name (library c) p
 
@@ -80,6 +82,7 @@ end_beside extent None p = with_name (codes "EOF") EndOfFile p
 end_beside extent (Some EndOfFile) p = p
 end_beside extent (Some m) p = breaks REDECLARED extent p
 
+-- EOF is declared by its header, and a fault where its name is taken by something else
 abbrev pub end_met : Extent → ProgressTree → ProgressTree
 end_met extent p = end_beside extent (meaning_of p.names (codes "EOF")) p
 
@@ -87,6 +90,7 @@ end_met extent p = end_beside extent (meaning_of p.names (codes "EOF")) p
 abbrev pub at_spot : Spot → Extent
 at_spot spot = record { first = spot; last = spot.at }
 
+-- what an include declares: getchar, putchar and EOF, or exit
 abbrev pub included : Spot → Header → ProgressTree → ProgressTree
 included spot header.Stdio p =
     end_met (at_spot spot) (library_met (at_spot spot) (codes "putchar") callee.Putchar (library_met (at_spot spot) (codes "getchar") callee.Getchar p))

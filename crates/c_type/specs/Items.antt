@@ -18,6 +18,7 @@ item_met names k (Defines f) p = function_met names k f p
 abbrev pub behind_item : List (List ℕ) → List TypedFunctionTree → ItemTree → ProgressTree → Met (List TypedFunctionTree)
 behind_item names fs i p = next_met (item_met names (length fs) i p) (λ more. means (fs ++ more))
 
+-- the items of a program, one after the other, behind these functions
 abbrev pub items_met : List (List ℕ) → List TypedFunctionTree → List ItemTree → ProgressTree → Met (List TypedFunctionTree)
 items_met names fs [] p = means fs p
 items_met names fs (i ∷ rest) p = next_met (behind_item names fs i p) (λ gs. items_met names gs rest)

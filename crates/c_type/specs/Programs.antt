@@ -43,12 +43,15 @@ undefined_refusal (spot ∷ more) = Some (UNDECLARED, spot.line)
 abbrev pub main : List ℕ
 main = codes "main"
 
+-- a name is main
 abbrev pub is_main : List ℕ → Bool
 is_main name = bytes_eq name main
 
+-- a type is int
 abbrev pub is_int : ValueType → Bool
 is_int of = same_value of (Integer Int)
 
+-- a list is empty
 abbrev pub has_none : {A : Type 0} → List A → Bool
 has_none [] = true
 has_none (a ∷ more) = false
@@ -66,6 +69,7 @@ object_line (d ∷ ds) = if is_main d.name.name then Some d.name.spot.line else 
 abbrev pub is_definition : FunctionTree → Bool
 is_definition f = option_map_or (λ b. is_main f.name.name) f.body false
 
+-- the definition of main, if there is one
 abbrev pub main_definition : List ItemTree → Option FunctionTree
 main_definition [] = None
 main_definition (Include spot header ∷ rest) = main_definition rest
@@ -78,14 +82,17 @@ misdeclared (Include spot header) = None
 misdeclared (Declares d) = object_line d.declarators
 misdeclared (Defines f) = if is_main f.name.name then main_line f else None
 
+-- the line of the first declaration of `main` as anything but `int main(void)`, if there is one
 abbrev pub first_misdeclared : List ItemTree → Option ℕ
 first_misdeclared [] = None
 first_misdeclared (i ∷ rest) = or_else (misdeclared i) (first_misdeclared rest)
 
+-- the refusal of a program without main: at its wrong declaration, or else at line 1
 abbrev pub no_definition : Option ℕ → Refusal
 no_definition (Some line) = (NO_MAIN, line)
 no_definition None = (NO_MAIN, 1)
 
+-- the refusal of a program whose main is missing, or takes or gives something else (C11 5.1.2.2.1)
 abbrev pub main_refusal : List ItemTree → Option FunctionTree → Option Refusal
 main_refusal items (Some f) = option_map (λ line. (NO_MAIN, line)) (main_line f)
 main_refusal items None = Some (no_definition (first_misdeclared items))

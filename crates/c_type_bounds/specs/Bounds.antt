@@ -62,6 +62,7 @@ abbrev pub or_breach : Option Code → ℕ → List AutomaticTree → Result (Li
 or_breach (Some code) line vs = Err (code, line)
 or_breach None line vs = Ok vs
 
+-- the automatic variables behind a function, or the refusal of the source where the function passes a bound
 abbrev pub behind_function : ℕ → TypedFunctionTree → List AutomaticTree → Result (List AutomaticTree) (Code × ℕ)
 behind_function number f vs = or_breach (function_breach number f (with_kept f vs)) f.spot.line (with_kept f vs)
 

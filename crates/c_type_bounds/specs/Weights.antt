@@ -38,6 +38,7 @@ abbrev pub called_weight : ExpressionTree → ℕ → ℕ
 called_weight e weight = if is_name e then 0 else weight
 
 abbrev mutual
+  -- the weight of an expression: one for each of its parts
   pub weight_of : ExpressionTree → ℕ
   weight_of (Name n) = 1
   weight_of (Constant spot value type) = 1
@@ -57,10 +58,12 @@ abbrev mutual
   weight_of (Assignment o a b) = 1 + weight_of a + weight_of b
   weight_of (Comma a b) = 1 + weight_of a + weight_of b
 
+  -- the weight of expressions
   pub weight_of_all : ExpressionTrees → ℕ
   weight_of_all expression.none = 0
   weight_of_all (expression.first e rest) = weight_of e + weight_of_all rest
 
+-- the weight of an expression, if there is one
 abbrev pub weight_if_any : Option ExpressionTree → ℕ
 weight_if_any (Some e) = weight_of e
 weight_if_any None = 0
@@ -71,30 +74,37 @@ size_weight (Sized e) = weight_of e
 size_weight b = 0
 
 abbrev mutual
+  -- the weight of an initializer: that of its expression, or one and that of its list
   pub initializer_weight : InitializerTree → ℕ
   initializer_weight (Value e) = weight_of e
   initializer_weight (Braces all) = 1 + initializers_weight all
 
+  -- the weight of initializers
   pub initializers_weight : InitializerTrees → ℕ
   initializers_weight declaration.none = 0
   initializers_weight (declaration.first i rest) = initializer_weight i + initializers_weight rest
 
+-- the weight of an initializer, if there is one
 abbrev pub initial_weight : Option InitializerTree → ℕ
 initial_weight (Some i) = initializer_weight i
 initial_weight None = 0
 
+-- the weight of a variable that is declared: two, that of its size and that of its initializer
 abbrev pub declarator_weight : DeclaratorTree → ℕ
 declarator_weight d = 2 + size_weight d.brackets + initial_weight d.initializer
 
+-- the weight of variables that are declared
 abbrev pub declarators_weight : List DeclaratorTree → ℕ
 declarators_weight = sum_by declarator_weight
 
+-- the weight of what a for loop begins with
 abbrev pub start_weight : StartTree → ℕ
 start_weight statement.Nothing = 0
 start_weight (statement.Value e) = weight_of e
 start_weight (statement.Declares d) = declarators_weight d.declarators
 
 abbrev mutual
+  -- the weight of a statement: one, and that of its parts
   pub statement_weight : StatementTree → ℕ
   statement_weight (statement.Compound opening all closing) = 1 + statements_weight all
   statement_weight (statement.Declare d) = declarators_weight d.declarators
@@ -112,6 +122,7 @@ abbrev mutual
   statement_weight (statement.Continue extent) = 1
   statement_weight (statement.Return extent e) = 1 + weight_if_any e
 
+  -- the weight of statements
   pub statements_weight : StatementTrees → ℕ
   statements_weight statement.none = 0
   statements_weight (statement.first s rest) = statement_weight s + statements_weight rest
@@ -124,9 +135,11 @@ abbrev pub label_weight : LabelTree → ℕ
 label_weight (CaseLabel extent e) = 1 + weight_of e
 label_weight (DefaultLabel extent) = 1
 
+-- the weight of a parameter: one, and that of its size
 abbrev pub parameter_weight : ParameterTree → ℕ
 parameter_weight p = 1 + size_weight p.brackets
 
+-- the weight of parameters
 abbrev pub parameters_weight : List ParameterTree → ℕ
 parameters_weight = sum_by parameter_weight
 
@@ -139,10 +152,12 @@ abbrev pub function_weight : List ParameterTree → Option BlockTree → ℕ
 function_weight ps (Some b) = definition_weight ps b
 function_weight ps None = 0
 
+-- the weight of what stands at the outermost level: an include has none
 abbrev pub item_weight : ItemTree → ℕ
 item_weight (Include spot header) = 0
 item_weight (Declares d) = declarators_weight d.declarators
 item_weight (Defines f) = function_weight f.parameters f.body
 
+-- the weight of a program
 abbrev pub items_weight : List ItemTree → ℕ
 items_weight = sum_by item_weight

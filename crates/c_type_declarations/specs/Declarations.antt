@@ -13,6 +13,7 @@ use Rattle.c_type_declarations.specs.Objects.{type_met}
 use Rattle.c_type_declarations.specs.Initials.{initial_met}
 use Rattle.c_type_declarations.specs.Statics.{Contents, contents_met}
 
+-- an object is an array
 abbrev pub is_array : ObjectType → Bool
 is_array (object.Scalar s) = false
 is_array (object.Array element size) = true
@@ -30,9 +31,11 @@ abbrev pub automatic_of_type : DeclaratorTree → ObjectType → ProgressTree �
 automatic_of_type d of p =
     next_met (initial_met of d.extent d.initializer (with_automatic d.name of (declares d.extent d.name.name (Variable (Automatic (length p.automatics)) of) p))) (λ i. means (record { variable = length p.automatics; spot = d.name.spot; initial = i }))
 
+-- an automatic variable is declared
 abbrev pub automatic_met : IntegerType → DeclaratorTree → ProgressTree → Met DeclaredTree
 automatic_met t d p = next_met (type_met (record { base = t; stars = d.stars }) d p) (automatic_of_type d)
 
+-- automatic variables are declared, one after the other
 abbrev pub automatics_met : IntegerType → List DeclaratorTree → ProgressTree → Met (List DeclaredTree)
 automatics_met t [] p = means [] p
 automatics_met t (d ∷ ds) p = next_met (automatic_met t d p) (λ one q. next_met (automatics_met t ds q) (λ rest. means (one ∷ rest)))
@@ -46,6 +49,7 @@ abbrev pub static_of_type : DeclaratorTree → ObjectType → ProgressTree → P
 static_of_type d of p =
     reached_by (contents_met of d.extent d.initializer (declares d.extent d.name.name (Variable (Static (length p.statics)) of) p)) (with_static d.name of)
 
+-- a static variable is declared
 abbrev pub static_met : IntegerType → DeclaratorTree → ProgressTree → ProgressTree
 static_met t d p = reached_by (type_met (record { base = t; stars = d.stars }) d p) (static_of_type d)
 

@@ -28,6 +28,7 @@ abbrev pub fitted : Scalar → Extent → Bool → Option ValueTree → Progress
 fitted s extent zero (Some v) p = or_misfit (converted v (loaded s) zero) extent p
 fitted s extent zero None p = means None p
 
+-- the value that initialises a scalar, and a fault where it does not fit (C11 6.7.9 p11)
 abbrev pub fitting : Scalar → Extent → ExpressionTree → ProgressTree → Met (Option ValueTree)
 fitting s extent e p = next_met (value_met e p) (fitted s extent (is_zero e))
 
@@ -36,6 +37,7 @@ abbrev pub looked_at_one : InitializerTree → ProgressTree → ProgressTree
 looked_at_one (Braces all) p = p
 looked_at_one (Value e) p = reached_by (value_met e p) (λ v q. q)
 
+-- initializers that are too many are checked, and nothing else becomes of them
 abbrev pub looked_at : InitializerTrees → ProgressTree → ProgressTree
 looked_at none p = p
 looked_at (first i more) p = looked_at more (looked_at_one i p)
@@ -49,6 +51,7 @@ abbrev pub braces_met : Scalar → Extent → Option ExpressionTree → Initiali
 braces_met s extent (Some e) all p = fitting s extent e p
 braces_met s extent None all p = means None (looked_at all (breaks INITIALIZER extent p))
 
+-- what initialises a scalar: an expression, or one in braces
 abbrev pub scalar_met : Scalar → Extent → InitializerTree → ProgressTree → Met (Option ValueTree)
 scalar_met s extent (Value e) p = fitting s extent e p
 scalar_met s extent (Braces all) p = braces_met s extent (only_in all) all p
@@ -71,6 +74,7 @@ within_count given size extent p = if nat_lt size given then breaks INITIALIZER 
 abbrev pub with_array_literal : Spot → List ℕ → ProgressTree → ProgressTree
 with_array_literal spot bytes p = record p { array_literals = p.array_literals ++ record { spot = spot; bytes = bytes ++ 0 ∷ [] } ∷ [] }
 
+-- what initialises an array of characters by a string literal (C11 6.7.9 p14)
 abbrev pub array_literal_met : ℕ → Extent → Spot × List ℕ → ProgressTree → Met InitialTree
 array_literal_met size extent l p = means (typed-tree.Literal (length p.array_literals)) (with_array_literal l.0 l.1 (within_count (length l.1) size extent p))
 
@@ -85,6 +89,7 @@ written_met (object.Scalar s) extent i p = next_met (scalar_met s extent i p) (�
 written_met (object.Array element size) extent i p =
     option_map_or (λ l. array_literal_met size extent l p) (literal_for element i) (list_met element size extent i p)
 
+-- what initialises an automatic variable that is declared, zeros where nothing is said
 abbrev pub initial_met : ObjectType → Extent → Option InitializerTree → ProgressTree → Met InitialTree
 initial_met of extent (Some i) p = written_met of extent i p
 initial_met of extent None p = means Zero p

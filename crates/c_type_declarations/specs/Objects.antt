@@ -24,6 +24,7 @@ abbrev pub literal_of_core : CoreTree → Option (Spot × List ℕ)
 literal_of_core (Literally extent bytes) = Some (extent.first, bytes)
 literal_of_core _ = None
 
+-- the string literal that an expression is, within parentheses or not
 abbrev pub literal_in : ExpressionTree → Option (Spot × List ℕ)
 literal_in e = literal_of_core (core_of e)
 
@@ -57,6 +58,7 @@ initialized_count (Some l) i = length l.1 + 1
 initialized_count None (Braces all) = max (count all) 1
 initialized_count None (Value e) = 1
 
+-- how many elements an array has whose brackets are empty (C11 6.7.9 p22)
 abbrev pub implied_count : Scalar → Option InitializerTree → ℕ
 implied_count element (Some i) = initialized_count (literal_for element i) i
 implied_count element None = 1
@@ -70,10 +72,12 @@ abbrev pub count_or : Option ℕ → Extent → ProgressTree → Met ℕ
 count_or (Some n) extent p = counted n extent p
 count_or None extent p = means 1 (breaks UNEXPECTED_KEYWORD extent p)
 
+-- how many elements an array has of which the size is a value, which is checked
 abbrev pub sized_by : Extent → Option ValueTree → ProgressTree → Met ℕ
 sized_by extent (Some v) p = count_or (count_of v.of v.constant) extent p
 sized_by extent None p = means 1 p
 
+-- how many elements an array has of which the size is an expression
 abbrev pub size_met : Extent → ExpressionTree → ProgressTree → Met ℕ
 size_met extent e p = next_met (value_met e p) (sized_by extent)
 
@@ -83,5 +87,6 @@ type_by Absent s extent i p = means (object.Scalar s) p
 type_by Empty s extent i p = next_met (counted (implied_count s i) extent p) (λ n. means (object.Array s n))
 type_by (Sized e) s extent i p = next_met (size_met extent e p) (λ n. means (object.Array s n))
 
+-- the type of the object that a declarator declares
 abbrev pub type_met : Scalar → DeclaratorTree → ProgressTree → Met ObjectType
 type_met s d = type_by d.brackets s d.extent d.initializer

@@ -59,6 +59,7 @@ breaks_if None code extent p = p
 abbrev pub with_name : List ℕ → Meaning → ProgressTree → ProgressTree
 with_name name m p = record p { names = declared name m p.names }
 
+-- a name is declared in the innermost scope, and a fault where it is declared there already
 abbrev pub declares : Extent → List ℕ → Meaning → ProgressTree → ProgressTree
 declares extent name m p = with_name name m (breaks_if (declared_here p.names name) REDECLARED extent p)
 
@@ -66,5 +67,6 @@ declares extent name m p = with_name name m (breaks_if (declared_here p.names na
 abbrev pub opened : ProgressTree → ProgressTree
 opened p = record p { names = entered p.names }
 
+-- the innermost scope is left
 abbrev pub closed : ProgressTree → ProgressTree
 closed p = record p { names = left p.names }

@@ -25,6 +25,7 @@ pub record Contents : Type 0 where
 abbrev pub contents_view : declared-contents.Contents → Contents
 contents_view c = record { bytes = c.bytes.items; relocations = c.relocations.items }
 
+-- no byte, and no address among bytes
 abbrev pub nothing : Contents
 nothing = record { bytes = []; relocations = [] }
 
@@ -60,6 +61,7 @@ fills_met s extent (first i more) c p = next_met (scalar_met s extent i p) (λ v
 abbrev pub literal_bytes : ℕ → List ℕ → List ℕ
 literal_bytes size bytes = take size (bytes ++ 0 ∷ [])
 
+-- the first bytes of a static array that a list initialises
 abbrev pub list_contents : Scalar → ℕ → Extent → InitializerTree → ProgressTree → Met Contents
 list_contents element size extent (Braces all) p = fills_met element extent all nothing (within_count (count all) size extent p)
 list_contents element size extent (Value e) p = means nothing (misfit_met extent e p)
@@ -73,6 +75,7 @@ put_met (object.Array element size) extent i p =
     (literal_for element i)
     (list_contents element size extent i p)
 
+-- the first bytes of a static object (C11 6.7.9 p10)
 abbrev pub contents_met : ObjectType → Extent → Option InitializerTree → ProgressTree → Met Contents
 contents_met of extent (Some i) p = put_met of extent i p
 contents_met of extent None p = means nothing p

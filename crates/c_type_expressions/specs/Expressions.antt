@@ -60,6 +60,7 @@ call_of None operand arguments first last s = next operand (λ f t. next (argume
 
 module _ (names : Names) where
   abbrev mutual
+    -- what an expression means: an object or a value with its type, or the faults that are found in it (C11 6.5)
     pub typed : ExpressionTree → FoundTree → Meant
     typed (Name n) s = named (meaning_of names n.name) n.spot s
     typed (Constant spot value type) s = gives (Some (number_of type (pos value))) s

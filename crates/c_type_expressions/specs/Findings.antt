@@ -44,10 +44,12 @@ abbrev pub with_one : {A B : Type 0} → Option A → (A → FoundTree → Check
 with_one None f s = gives None s
 with_one (Some a) f s = f a s
 
+-- what is checked of two operands, if both are values
 abbrev pub with_two : {A B C : Type 0} → Option A → Option B → (A → B → FoundTree → Checked (Option C)) → FoundTree → Checked (Option C)
 with_two (Some a) (Some b) f s = f a b s
 with_two _ _ f s = gives None s
 
+-- what is checked of three operands, if all are values
 abbrev pub with_three : {A B C D : Type 0} → Option A → Option B → Option C → (A → B → C → FoundTree → Checked (Option D)) → FoundTree → Checked (Option D)
 with_three (Some a) (Some b) (Some c) f s = f a b c s
 with_three _ _ _ f s = gives None s

@@ -71,6 +71,7 @@ named None spot s = gives None (faulted UNDECLARED spot spot.at s)
 abbrev pub literal_type : List ℕ → ObjectType
 literal_type bytes = Array (record { base = Char; stars = 0 }) (length bytes + 1)
 
+-- a string literal is an array of bytes of its own (C11 6.4.5)
 abbrev pub literal_met : Spot → List ℕ → FoundTree → Meant
 literal_met first bytes s =
     gives (Some (IsObject (literal_type bytes) (Named (object.Literal (length s.literals)) (literal_type bytes)) (Address (object.Literal (length s.literals)) 0))) (with_literal first bytes s)
@@ -101,6 +102,7 @@ cast_from (Integer u) t first last v s = gives (Some (IsValue (record { of = Int
 cast_from (Pointer of) t first last v s = gives None (faulted UNEXPECTED_KEYWORD first last s)
 cast_from Void t first last v s = gives None (faulted OPERAND_TYPES first last s)
 
+-- the value of a cast, which is checked (C11 6.5.4)
 abbrev pub cast_to : Base → Spot → ℕ → ValueTree → FoundTree → Meant
 cast_to base.Void first last v s = gives (Some (IsValue (discarded v))) s
 cast_to (base.Integer t) first last v s = cast_from v.of t first last v s
@@ -136,6 +138,7 @@ abbrev pub assignable : ValueType → ValueTree → Bool → Option ValueTree
 assignable Void v zero = None
 assignable to v zero = converted v to zero
 
+-- the value of an assignment, of which the left side is checked to be modifiable (C11 6.5.16)
 abbrev pub assigning : Option ValueTree → Spot → ℕ → MeantTree → FoundTree → Meant
 assigning (Some v) first last m s = gives (Some (IsValue (assigned m (Some v)))) (writing (is_modifiable m) first last s)
 assigning None first last m s = gives (Some (IsValue (assigned m None))) (writing (is_modifiable m) first last (faulted OPERAND_TYPES first last s))
@@ -160,6 +163,7 @@ abbrev pub passed_as : Option ValueTree → RvalueTree × Bool
 passed_as (Some v) = (v.tree, true)
 passed_as None = (Null, false)
 
+-- the argument as the parameter takes it, and whether it may be passed
 abbrev pub passed_to : Option Scalar → Option ValueTree → Bool → RvalueTree × Bool
 passed_to None v zero = (Null, false)
 passed_to (Some p) None zero = (Null, true)
@@ -191,6 +195,7 @@ abbrev pub noted : Option Callee → Spot → FoundTree → FoundTree
 noted (Some c) first s = s
 noted None first s = with_undefined first s
 
+-- the typed tree of a call of what was found to be called
 abbrev pub call_tree : Option Callee → ArgumentTrees → RvalueTree
 call_tree (Some c) all = Call c all
 call_tree None all = Null

@@ -41,6 +41,7 @@ abbrev pub tested : Extent → Option ValueTree → ProgressTree → Met RvalueT
 tested extent (Some v) p = means v.tree (unless (is_scalar v.of) OPERAND_TYPES extent p)
 tested extent None p = means (tree_of None) p
 
+-- a controlling expression, and a fault where it has no scalar value
 abbrev pub condition_met : Extent → ExpressionTree → ProgressTree → Met RvalueTree
 condition_met extent e p = next_met (value_met e p) (tested extent)
 
@@ -65,6 +66,7 @@ abbrev pub returnable : ValueType → ValueTree → Bool → Option ValueTree
 returnable Void v zero = None
 returnable of v zero = converted v of zero
 
+-- the value that a return statement gives, and a fault where there is none that the function can return
 abbrev pub given : Option ValueTree → Extent → ProgressTree → Met (Option RvalueTree)
 given (Some v) extent p = means (Some v.tree) p
 given None extent p = means None (breaks RETURN_MISMATCH extent p)
@@ -74,6 +76,7 @@ abbrev pub is_void : ValueType → Bool
 is_void Void = true
 is_void _ = false
 
+-- a return statement of a function with this result (C11 6.8.6.4)
 abbrev pub returns : ValueType → Extent → Bool → Option ValueTree → ProgressTree → Met (Option RvalueTree)
 returns of extent zero (Some v) p = given (returnable of v zero) extent p
 returns of extent zero None p = means None (if is_void of then breaks RETURN_MISMATCH extent p else p)

@@ -31,14 +31,17 @@ pub record Chosen : Type 0 where
 abbrev pub chosen_view : declared-chosen.Chosen → Chosen
 chosen_view c = record { tree = node_view c.tree; kind = c.kind }
 
+-- the value that a switch goes by, and a fault where it is no integer (C11 6.8.4.2)
 abbrev pub chosen_by : ValueType → Extent → ValueTree → ProgressTree → Met Chosen
 chosen_by (Integer t) extent v p = means (record { tree = (to_integer (promoted t) v).tree; kind = Some (promoted t) }) p
 chosen_by of extent v p = means (record { tree = v.tree; kind = None }) (breaks OPERAND_TYPES extent p)
 
+-- the value that a switch goes by, if it has one
 abbrev pub chosen : Extent → Option ValueTree → ProgressTree → Met Chosen
 chosen extent (Some v) p = chosen_by v.of extent v p
 chosen extent None p = means (record { tree = tree_of None; kind = None }) p
 
+-- the controlling expression of a switch
 abbrev pub chosen_met : Extent → ExpressionTree → ProgressTree → Met Chosen
 chosen_met extent e p = next_met (value_met e p) (chosen extent)
 
@@ -50,9 +53,11 @@ pub record Labels : Type 0 where
 abbrev pub labels_view : declared-labels.Labels → Labels
 labels_view ls = record { values = ls.values.items; has_default = ls.has_default }
 
+-- a switch that has no label yet
 abbrev pub no_labels : Labels
 no_labels = record { values = []; has_default = false }
 
+-- a number is among these
 abbrev pub is_among : ℤ → List ℤ → Bool
 is_among z [] = false
 is_among z (y ∷ ys) = same y z || is_among z ys
@@ -62,6 +67,7 @@ abbrev pub in_kind : Option IntegerType → ℤ → ℤ
 in_kind (Some t) z = wrapped t z
 in_kind None z = z
 
+-- the number of a case label in the type that the switch goes by, if it is a known integer
 abbrev pub case_value : Option IntegerType → ValueType → Constancy → Option ℤ
 case_value kind (Integer t) (Known z) = Some (in_kind kind z)
 case_value kind of k = None
@@ -83,6 +89,7 @@ put (Case z) all = typed-tree.case z all
 put Default all = typed-tree.default all
 put (Statement s) all = typed-tree.first s all
 
+-- the parts of a statement before others
 abbrev pub put_all : List PartTree → TypedStatementTrees → TypedStatementTrees
 put_all [] all = all
 put_all (p ∷ ps) all = put p (put_all ps all)
@@ -101,10 +108,12 @@ case_numbered (Some z) extent ls p =
     means (record { parts = Case z ∷ []; labels = record ls { values = ls.values ++ z ∷ [] } }) (unless (not (is_among z ls.values)) REPEATED_LABEL extent p)
 case_numbered None extent ls p = means (record { parts = []; labels = ls }) (breaks MISPLACED_JUMP extent p)
 
+-- a case label with this value, and a fault where it is no constant or stands there twice
 abbrev pub case_by : Option IntegerType → Extent → Labels → Option ValueTree → ProgressTree → Met Parts
 case_by kind extent ls (Some v) p = case_numbered (case_value kind v.of v.constant) extent ls p
 case_by kind extent ls None p = means (record { parts = []; labels = ls }) p
 
+-- a case label with this expression
 abbrev pub case_met : Option IntegerType → Extent → ExpressionTree → Labels → ProgressTree → Met Parts
 case_met kind extent e ls p = next_met (value_met e p) (case_by kind extent ls)
 
@@ -128,6 +137,7 @@ pub data Place : Type 0 where
   Outside : Place
   Inside : Option IntegerType → Labels → Place
 
+-- the labels of the innermost switch, none outside
 abbrev pub labels_at : Place → Labels
 labels_at Outside = no_labels
 labels_at (Inside kind ls) = ls
@@ -137,6 +147,7 @@ abbrev pub behind_label : Place → Labels → Place
 behind_label Outside ls = Outside
 behind_label (Inside kind old) ls = Inside kind ls
 
+-- a label, and a fault where it stands in no switch
 abbrev pub label_at : Place → LabelTree → ProgressTree → Met Parts
 label_at Outside l p = means (record { parts = []; labels = no_labels }) (misplaced_one l p)
 label_at (Inside kind ls) l p = label_met kind l ls p

@@ -51,6 +51,7 @@ is_shift arithmetic.ShiftLeft = true
 is_shift arithmetic.ShiftRight = true
 is_shift _ = false
 
+-- a comparison is == or !=
 abbrev pub is_equality : Comparison → Bool
 is_equality comparison.Equal = true
 is_equality comparison.NotEqual = true
@@ -67,6 +68,7 @@ signed_as (Integer t) o v =
     Some (record { of = Integer (promoted t); tree = Signed o (promoted t) (to_integer (promoted t) v).tree; constant = sign_constant o (promoted t) (to_integer (promoted t) v).constant })
 signed_as _ o v = None
 
+-- the value of a unary plus, minus or complement, if the operand allows it (C11 6.5.3.3)
 abbrev pub signed_value : Sign → ValueTree → Option ValueTree
 signed_value o v = signed_as v.of o v
 
@@ -116,6 +118,7 @@ abbrev pub difference_by : declared-arithmetic.Arithmetic → ObjectType → Obj
 difference_by arithmetic.Subtract element other a b = if same_object element other then Some (difference element a b) else None
 difference_by _ element other a b = None
 
+-- the value of an arithmetic operator on operands of two types, if they allow it (C11 6.5.5 to 6.5.12)
 abbrev pub calculated_as : ValueType → ValueType → declared-arithmetic.Arithmetic → ValueTree → ValueTree → Option ValueTree
 calculated_as (Integer t) (Integer u) o a b = Some (arithmetic_value o t u a b)
 calculated_as (Pointer element) (Integer t) o a b = moved_by o element t a b
@@ -136,6 +139,7 @@ abbrev pub integers_compared : Comparison → IntegerType → ValueTree → Valu
 integers_compared o t a b =
     record { of = Integer Int; tree = Compare o t (to_integer t a).tree (to_integer t b).tree; constant = comparison_constant o (to_integer t a).constant (to_integer t b).constant }
 
+-- the value of a comparison of operands of two types, if they allow it (C11 6.5.8, 6.5.9)
 abbrev pub compared_as : ValueType → ValueType → Comparison → ValueTree → ValueTree → Bool → Bool → Option ValueTree
 compared_as (Integer t) (Integer u) o a b az bz = Some (integers_compared o (common t u) a b)
 compared_as (Pointer element) (Pointer other) o a b az bz = if same_object element other then Some (pointers_compared o a b) else None
@@ -174,6 +178,7 @@ chosen of c a b k = record { of = of; tree = Conditional c.tree a.tree b.tree; c
 abbrev pub chosen_integer : IntegerType → ValueTree → ValueTree → ValueTree → ValueTree
 chosen_integer t c a b = chosen (Integer t) c (to_integer t a) (to_integer t b) (conditional_constant c.constant (to_integer t a).constant (to_integer t b).constant)
 
+-- the value of a choice between operands of two types, if they allow it (C11 6.5.15)
 abbrev pub chosen_as : ValueType → ValueType → ValueTree → ValueTree → ValueTree → Bool → Bool → Option ValueTree
 chosen_as (Integer t) (Integer u) c a b az bz = Some (chosen_integer (common t u) c a b)
 chosen_as (Pointer of) (Integer u) c a b az bz = if bz then Some (chosen a.of c a (null a.of) Varies) else None

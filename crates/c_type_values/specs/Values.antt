@@ -71,5 +71,6 @@ converted_from (Integer t) (Integer u) v zero = Some (to_integer t v)
 converted_from (Pointer of) (Integer u) v zero = if zero then Some (null (Pointer of)) else None
 converted_from to of v zero = unchanged v to
 
+-- a value converted to a type as if by assignment, if it can be (C11 6.5.16.1)
 abbrev pub converted : ValueTree → ValueType → Bool → Option ValueTree
 converted v to zero = converted_from to v.of v zero

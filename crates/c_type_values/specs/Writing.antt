@@ -46,6 +46,7 @@ moves_pointers Add = true
 moves_pointers Subtract = true
 moves_pointers _ = false
 
+-- a compound assignment is allowed between these types (C11 6.5.16.2)
 abbrev pub is_updatable : Arithmetic → ValueType → ValueType → Bool
 is_updatable o (Integer t) (Integer u) = true
 is_updatable o (Pointer of) (Integer u) = moves_pointers o
@@ -59,6 +60,7 @@ update_type o t u = if is_shift o then promoted t else common t u
 unfoldable pub integer_updated : Arithmetic → IntegerType → IntegerType → LvalueTree → ValueTree → RvalueTree
 integer_updated o t u l v = Update o t (update_type o t u) l (to_integer (if is_shift o then promoted u else common t u) v).tree
 
+-- whether a pointer is moved up or down
 abbrev pub direction_of : Arithmetic → Direction
 direction_of Subtract = Down
 direction_of _ = Up
@@ -67,9 +69,11 @@ direction_of _ = Up
 abbrev pub pointer_updated : Arithmetic → Scalar → IntegerType → LvalueTree → ValueTree → RvalueTree
 pointer_updated o element u l v = UpdatePointer (direction_of o) (object.Scalar element) l (to_integer (promoted u) v).tree
 
+-- the typed tree of a compound assignment to an object
 abbrev pub update_tree : Arithmetic → Scalar → IntegerType → LvalueTree → ValueTree → RvalueTree
 update_tree o s u l v = if s.stars == 0 then integer_updated o s.base u l v else pointer_updated o (pointed_to s) u l v
 
+-- the value of a compound assignment, of which the types may be wrong
 abbrev pub updated_by : Arithmetic → MeantTree → ValueType → ValueTree → ValueTree
 updated_by o (IsObject (object.Scalar s) l k) (Integer u) v = record { of = loaded s; tree = update_tree o s u l v; constant = Varies }
 updated_by o m of v = settled (as_value m)

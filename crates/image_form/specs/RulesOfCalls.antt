@@ -4,10 +4,12 @@ use Rattle.std.specs.Prelude.{◌≡◌, false, []}
 use Rattle.image_form.specs.Form.{Form}
 use Rattle.image_form_sections.specs.Versions.{has_callers, has_structures}
 
+-- what is asked of the rows of calls
 pub record CallRules (f : Form) : Type 0 where
   -- Only some versions have them.
   pub none : has_callers f.version.level ≡ false → f.calls ≡ []
 
+-- what is asked of the members of structures
 pub record MemberRules (f : Form) : Type 0 where
   -- Only some versions have them,
   pub none : has_callers f.version.level ≡ false → f.members ≡ []

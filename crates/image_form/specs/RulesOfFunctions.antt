@@ -35,6 +35,7 @@ pub record IsFunction (f : Form) (g : Function) : Type 0 where
   -- The registers that it saves are of those that keep scalars.
   pub saves_homes : g.saved ≡ mask_of (masked g.saved)
 
+-- what is asked of the functions of an image
 pub record FunctionRules (f : Form) : Type 0 where
   pub each : AllByRecursion (IsFunction f) f.functions
   -- They stand in order and do not overlap.

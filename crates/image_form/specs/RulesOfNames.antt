@@ -15,6 +15,7 @@ abbrev pub IsIdentifierOrEmpty : List ℕ → Type 0
 IsIdentifierOrEmpty [] = ⊤
 IsIdentifierOrEmpty (c ∷ cs) = IsIdentifier (c ∷ cs)
 
+-- what is asked of the letters of all names
 pub record NameRules (f : Form) : Type 0 where
   -- The names fill their section.
   pub whole : length f.names ≡ sum (function_name_lengths f) + sum (variable_name_lengths f) + sum (pass_name_lengths f)

@@ -17,6 +17,7 @@ pub record IsPlace (f : Form) (p : Place) : Type 0 where
   -- Its function is there and holds its address.
   pub in_function : IsInFunction f p.function p.address
 
+-- what is asked of the places of an image
 pub record PlaceRules (f : Form) : Type 0 where
   pub each : AllByRecursion (IsPlace f) f.places
   pub positions_ascend : EachToNext (λ p q. p.position < q.position) f.places
@@ -28,6 +29,7 @@ pub record PlaceRules (f : Form) : Type 0 where
 abbrev pub IsOwner : Form → ℕ → ℕ → Type 0
 IsOwner f w n = IsSomeAnd (numbered f.places n) (λ p. IsInFunction f p.function (word_address w))
 
+-- what is asked of the owners of code words
 pub record OwnerRules (f : Form) : Type 0 where
   -- Each code word has an entry.
   pub one_each : length f.owners ≡ length f.code

@@ -42,6 +42,7 @@ IsQuietStart f (Recovered change node) (Some start) = ⊥
 IsQuietStart f (Noncurrent change start writer) (Some quiet) = IsPlaceNumber f quiet
 IsQuietStart f (Nonresident change start writer) (Some quiet) = IsPlaceNumber f quiet
 
+-- what is asked of the rows: each is of a variable that is visible at its place, and its verdict is one
 pub record RowRules (f : Form) : Type 0 where
   pub visible : AllByRecursion (λ r. IsVisible f r.place r.variable) f.rows
   pub verdicts : AllByRecursion (λ r. IsVerdict f r.variable r.verdict) f.rows

@@ -64,6 +64,7 @@ abbrev pub group_of : Option ℕ → ℕ → ℕ
 group_of None name_length = if name_length == 0 then 1 else 0
 group_of (Some k) name_length = 2
 
+-- 0 for a named static variable, 1 for a literal, 2 for a variable of a function
 abbrev pub group : Variable → ℕ
 group v = group_of v.function v.name_length
 
@@ -71,6 +72,7 @@ group v = group_of v.function v.name_length
 abbrev pub IsDeclaredBefore : Variable → Variable → Type 0
 IsDeclaredBefore u v = (group u < group v) ⊎ ((group u ≡ group v) × (u.position < v.position))
 
+-- what is asked of the variables of an image
 pub record VariableRules (f : Form) : Type 0 where
   pub each : AllByRecursion (IsVariable f) f.variables
   pub in_order : EachToNext IsDeclaredBefore f.variables

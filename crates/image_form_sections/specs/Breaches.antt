@@ -10,6 +10,7 @@ abbrev pub Fault : Type 0
 Fault = Code × ℕ
 
 infixl 10 ◌>>=◌
+-- what is done with an answer, unless it is a fault
 abbrev pub ◌>>=◌ : {A B : Type 0} → Result A Fault → (A → Result B Fault) → Result B Fault
 (Ok x) >>= f = f x
 (Err e) >>= f = Err e

@@ -25,6 +25,7 @@ rows_at width (suc n) bytes = numbers_at width 0 bytes ∷ rows_at width n (drop
 abbrev pub cell : List (List ℕ) → ℕ → ℕ → ℕ
 cell rows i k = slice_index (slice_index_or rows i []) k
 
+-- an image as it lies in its bytes: the header's numbers, and each section's records as bytes
 pub record Sections : Type 0 where
   pub version : ℕ
   pub mode : ℕ

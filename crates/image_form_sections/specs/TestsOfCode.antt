@@ -18,6 +18,7 @@ is_end s i =
     cell s.functions i 2 % 4 == 0 && nat_lt (cell s.functions i 1) (cell s.functions i 2)
     && nat_le (cell s.functions i 2) (code_start + 4 * length s.code)
 
+-- the size of a frame: a multiple of 16 from 16 to 16,384
 unfoldable pub is_frame : ℕ → Bool
 is_frame size = size % 16 == 0 && within 16 16384 size
 
@@ -57,5 +58,6 @@ is_owner s w =
 unfoldable pub is_marked : Sections → ℕ → Bool
 is_marked s w = option_map_or (λ j. cell s.owners w 0 == j + 1) (position_from (λ p. slice_index p 3 == word_address w) 0 s.places) true
 
+-- what is tested of the owner of a code word
 abbrev pub owner_tests : Sections → ℕ → List Bool
 owner_tests s w = (is_owner s w && is_marked s w) ∷ []

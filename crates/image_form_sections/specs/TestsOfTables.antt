@@ -3,6 +3,7 @@ use Rattle.std.specs.Prelude.{ℕ, zero, suc, ◌+◌, ◌*◌, ◌%◌, Bool, �
 use Rattle.image_form_sections.specs.Bounds.{code_start}
 use Rattle.image_form_sections.specs.Sections.{Sections, cell}
 
+-- a number lies between two others, or is one of them
 abbrev pub within : ℕ → ℕ → ℕ → Bool
 within low high n = nat_le low n && nat_le n high
 

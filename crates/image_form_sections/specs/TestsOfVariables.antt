@@ -37,6 +37,7 @@ is_position s i = not (group_before s i == group_at s i) || is_above s.variables
 unfoldable pub is_storage : Sections → ℕ → Bool
 is_storage s i = if is_static s i then cell s.variables i 4 == 0 else within 1 3 (cell s.variables i 4)
 
+-- one of the registers s1 to s11 and t3 to t6, which can be homes
 unfoldable pub is_home_register : ℕ → Bool
 is_home_register r = r == 9 || within 18 31 r
 

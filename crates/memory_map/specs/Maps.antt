@@ -24,9 +24,11 @@ abbrev pub bytes_start : Map → ℕ
 bytes_start One = 4194304
 bytes_start Two = 25165824
 
+-- how many bytes there are for static objects: 1 MiB
 abbrev pub bytes_size : ℕ
 bytes_size = 1048576
 
+-- the address behind the bytes of static objects
 abbrev pub bytes_end : Map → ℕ
 bytes_end m = bytes_start m + bytes_size
 
@@ -35,9 +37,11 @@ abbrev pub stack_start : Map → ℕ
 stack_start One = 16777216
 stack_start Two = 33554432
 
+-- how many bytes the stack has: 16 MiB
 abbrev pub stack_size : ℕ
 stack_size = 16777216
 
+-- the address behind the stack
 abbrev pub stack_end : Map → ℕ
 stack_end m = stack_start m + stack_size
 

@@ -34,6 +34,7 @@ abbrev pub quest_by : FlowTable → (variable start via stop : ℕ) → Quest
 quest_by table variable start via stop =
     record { steps = table.steps.items; blocked = λ p. assigns table.assignments.items p variable; start = start; via = via; stop = stop }
 
+-- what a route is asked for that assigns no variable on its way
 abbrev pub quest : FlowTable → Var → (start via stop : Place) → Quest
 quest table var start via stop = quest_by table var.0 start.0 via.0 stop.0
 

@@ -30,9 +30,11 @@ funct7 w = w / 33554432
 abbrev pub signed_12 : ℕ → ℕ
 signed_12 n = if nat_lt n 2048 then n else n + 4294963200
 
+-- a number of 13 bits as a word, with its sign
 abbrev pub signed_13 : ℕ → ℕ
 signed_13 n = if nat_lt n 4096 then n else n + 4294959104
 
+-- a number of 21 bits as a word, with its sign
 abbrev pub signed_21 : ℕ → ℕ
 signed_21 n = if nat_lt n 1048576 then n else n + 4292870144
 

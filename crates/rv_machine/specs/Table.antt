@@ -120,6 +120,7 @@ load_size Lw = 4
 load_size Lbu = 1
 load_size Lhu = 2
 
+-- how many bytes a store writes
 abbrev pub store_size : StoreOperation → ℕ
 store_size Sb = 1
 store_size Sh = 2
@@ -129,6 +130,7 @@ store_size Sw = 4
 abbrev pub upper_24_bits : ℕ
 upper_24_bits = 4294967040
 
+-- the word of which the upper 16 bits are set
 abbrev pub upper_16_bits : ℕ
 upper_16_bits = 4294901760
 
@@ -195,6 +197,7 @@ on_store s (Some t) = record { event = Went; after = record t { pc = next s } }
 abbrev pub a0 : ℕ
 a0 = 10
 
+-- the register a7, which says what an ECALL asks for
 abbrev pub a7 : ℕ
 a7 = 17
 

@@ -68,6 +68,7 @@ static_target address index count (v ∷ variables) =
 abbrev pub is_of : (function : ℕ) → Variable → Bool
 is_of function v = option_map_or (λ f. f == function) v.function false
 
+-- how far into an automatic variable of a function's frame an address lies, if it does
 abbrev pub local_offset : Variable → (function frame address : ℕ) → Option ℕ
 local_offset v function frame address =
     if is_of function v then option_map_or (λ start. offset_within v start address) (local_start frame v.storage) None else None
