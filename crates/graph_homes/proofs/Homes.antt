@@ -1,13 +1,13 @@
 -- The activations of a unit over homes are ones of the unit's functions, and stand at places of theirs.
-use Rattle.std.proofs.Common.{◌≡◌, ℕ, zero, suc, ◌+◌, inl, inr, Some, List, [], ◌∷◌, map, slice_get, refl, sym, ap, ◌∙◌, subst, arith}
-use Rattle.std.proofs.lemmas.Option.{none-some, same_Some}
+use Rattle.std.proofs.Common.{◌≡◌, ℕ, zero, suc, ◌+◌, inl, inr, Option, Some, None, List, [], ◌∷◌, map, slice_get, refl, sym, ap, ◌∙◌, subst, arith}
+use Rattle.std.specs.Prelude.{option_map}
+use Rattle.std.proofs.lemmas.Option.{none-some, same_Some, slice_get-map}
 use Rattle.graph_core.specs.Graphs.{Instruction, Marker, Note, Move, Operate, Truncate, Same, Address, Load, Store, Zero, CopyWords, Call, Block, Graph}
 use Rattle.graph_core.specs.Paths.{Among, front, behind}
 use Rattle.graph_core.specs.Runs.{Activation}
 use Rattle.graph_homes.specs.declared.home.Home.{Home}
 use Rattle.graph_homes.specs.Homed.{HomedForm, home_of, placed_instruction, placed_block, placed_graph, placed_graphs, over_homes}
 use Rattle.graph_homes.specs.Owned.{HasMarker, IsPlaceOf, IsActivation, IsOfFunction}
-use Rattle.base_laws.proofs.Lists.{from_map}
 
 among_map : {A B : Type 0} (f : A → B) (xs : List A) (y : B) → Among y (map f xs) → (x : A) × Among x xs × (f x ≡ y)
 among_map f [] y among = elim among [ ]
@@ -29,9 +29,14 @@ module _ (home : ℕ → Home) where
   marker_only (CopyWords object bytes words) p same = cc
   marker_only (Call x f all) p same = cc
 
+  -- a block over homes is one of the graph
+  block_back : (o : Option Block) (b : Block) → option_map (placed_block home) o ≡ Some b → (c : Block) × (o ≡ Some c) × (placed_block home c ≡ b)
+  block_back None b is = absurd (none-some b is)
+  block_back (Some c) b is = (c, refl, same_Some (placed_block home c) b is)
+
   marker_back : (g : Graph) (p : ℕ) → HasMarker (placed_graph home g) p → HasMarker g p
   marker_back g p has =
-      let b = from_map (placed_block home) g.blocks has.number has.block has.is in
+      let b = block_back (slice_get g.blocks has.number) has.block (sym (slice_get-map (placed_block home) g.blocks has.number) ∙ has.is) in
       let among : Among (Marker p) (map (placed_instruction home) b.0.instructions) = subst (λ (x : Block). Among (Marker p) x.instructions) (sym b.2) has.marker in
       let i = among_map (placed_instruction home) b.0.instructions (Marker p) among in
       record { number = has.number; block = b.0; is = b.1; marker = subst (λ j. Among j b.0.instructions) (marker_only i.0 p i.2) i.1 }

@@ -81,7 +81,7 @@ module _ (u : UnitForm) where
 
   -- ---- Blocks
 
-  entered_keeps : (c : Configuration) (l : ℕ) (r : Option Block) → slice_get c.here.graph.blocks l ≡ r → IsRunning u c → KeepsRunning (entered c r)
+  entered_keeps : (c : Configuration) (l : ℕ) (r : Option Block) → slice_get c.here.graph.blocks l ≡ r → IsRunning u c → KeepsRunning (entered c l r)
   entered_keeps c l None there is = tt
   entered_keeps c l (Some b) there is = record {
     owned = is.owned;
