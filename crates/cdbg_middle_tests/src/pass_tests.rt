@@ -37,7 +37,7 @@ impl Pass for Same {
     }
 }
 
-/// A pass that logs a change.
+/// A pass that logs a change of the first scalar of the first function, if there is one, at that function's entry.
 #[derive(Drop)]
 struct Logs {
     name: PassName,
@@ -56,7 +56,12 @@ impl Pass for Logs {
 
     fn apply(&self, alloc: Global, unit: &Unit) -> Result<Unit, AllocError> {
         let mut next = unit.duplicate(alloc)?;
-        next.log.push(self.name, Kind::Moved, Place(2), Var(0))?;
+        let Some(graph) = unit.graphs.first() else {
+            return Ok(next);
+        };
+        if let Some(scalar) = graph.scalars.first() {
+            next.log.push(self.name, Kind::Moved, graph.entry, scalar.var)?;
+        }
         Ok(next)
     }
 }

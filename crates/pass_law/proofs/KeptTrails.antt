@@ -1,11 +1,13 @@
 -- Trails grow by a step, and of every two of their units the earlier is kept by the later.
-use Rattle.std.proofs.Common.{◌≡◌, ℕ, zero, suc, ◌<◌, ◌≤◌, ◌+◌, ◌*◌, List, [], ◌∷◌, ◌++◌, Some, refl, sym, ap, ◌∙◌, subst, map, take, length, get_or, length-take, below_more, arith}
+use Rattle.std.proofs.Common.{◌≡◌, ℕ, zero, suc, ◌<◌, ◌≤◌, ◌+◌, ◌*◌, List, [], ◌∷◌, ◌++◌, Some, refl, sym, ap, ◌∙◌, subst, map, take, length, length-append, get_or, length-take, below_more, arith}
 use Rattle.std.specs.Prelude.{slice_get, option_map, AllPairs, IsSomeAnd}
 use Rattle.std.specs.List.{All}
 use Rattle.std.proofs.lemmas.List.{take_more, length-map}
 use Rattle.std.proofs.lemmas.List.Elements.{All-nil, All-cons, All-weaker}
 use Rattle.std.proofs.lemmas.List.Kept.{AllPairs-cons}
 use Rattle.std.proofs.lemmas.Option.{slice_get-map, slice_get-get_or}
+use Rattle.memory_map.specs.declared.map.Room.{Room}
+use Rattle.memory_map.specs.declared.map.Room.TheVariants.{Small, Large}
 use Rattle.debug_records.specs.declared.change.PassName.{PassName}
 use Rattle.graph_core.specs.declared.unit.Unit as unit
 use Rattle.graph_core.specs.Graphs.{UnitForm, unit_view}
@@ -13,14 +15,20 @@ use Rattle.pass_law.specs.Keeps.{Keeps}
 use Rattle.graph_core.specs.WellMarked.{AreWellMarked}
 use Rattle.pass_law.proofs.Inversions.{some_same}
 use Rattle.pass_law.proofs.Keeping.{keeps_through}
+use Rattle.pass_law.specs.Logs.{most_changes, LogsWell}
 use Rattle.pass_law.specs.Relations.{PassRelation}
 use Rattle.pass_law.specs.Trails.{IsFirst, IsNoPass, IsTrail, ends, goes_on}
 use Rattle.pass_law.proofs.FirstPasses.{first_is_some}
 
+-- what a pass may log in some room it may log in the larger
+at_most_large : (r : Room) (n : ℕ) → n ≤ most_changes r → n ≤ 1000000
+at_most_large Small n few = let most : n ≤ 100000 = few in omega arith
+at_most_large Large n few = few
+
 -- What a unit is known to be behind so many passes.
 pub record IsReady (u : UnitForm) (passes : ℕ) : Type 0 where
   pub marked : AreWellMarked u
-  pub changes : length u.log ≤ 100000 * passes
+  pub changes : length u.log ≤ 1000000 * passes
 
 module _ {P : Type 0} (named : P → PassName) (steps : P → PassRelation) (passes : List P) where
   -- the first unit is kept by all behind it
@@ -61,10 +69,11 @@ module _ {P : Type 0} (named : P → PassName) (steps : P → PassRelation) (pas
   first_at name k p found is = subst (λ o. IsSomeAnd o (λ q. IsFirst named name q passes)) is found
 
   -- a step keeps a unit ready
-  pub ready_more : (p : P) (u v : UnitForm) (i : ℕ) → IsReady u i → (steps p).leads u v → IsReady v (i + 1)
-  ready_more p u v i ready step =
-      let added = (steps p).adds u v step in
-      record { marked = ((steps p).keeps u v step).still_marked; changes = omega (arith, added, ready.changes) }
+  pub ready_more : (p : P) (u v : UnitForm) (i : ℕ) → IsReady u i → (steps p).leads u v → LogsWell (named p) u v → IsReady v (i + 1)
+  ready_more p u v i ready step logs =
+      let more : length v.log ≡ length u.log + length logs.added = ap length logs.log ∙ length-append u.log logs.added in
+      let few : length logs.added ≤ 1000000 = at_most_large u.room (length logs.added) logs.few in
+      record { marked = ((steps p).keeps u v step).still_marked; changes = omega (arith, more, few, ready.changes) }
 
   -- a name that has a pass is some pass's
   pub known_more : (names : List PassName) (i : ℕ) (d : PassName) (p : P) → i < length names → IsFirst named (get_or names i d) p passes → ((k : ℕ) → k < i → (name : PassName) → slice_get names k ≡ Some name → IsNoPass named passes name → ⊥) → (k : ℕ) → k < i + 1 → (name : PassName) → slice_get names k ≡ Some name → IsNoPass named passes name → ⊥

@@ -1,5 +1,4 @@
 pub mod Keeping
-pub mod LogLonger
 pub mod FirstPasses
 pub mod KeptTrails
 pub mod NamesSame
@@ -9,6 +8,7 @@ pub mod WorkedBuilt
 pub mod WorkedReduced
 pub mod WorkedPass
 pub mod WorkedNot
+pub mod WorkedLogs
 pub mod WorkedRemoval
 pub mod WorkedMotion
 pub mod WorkedCopy
@@ -23,3 +23,4 @@ pub mod OfFunctions
 pub mod Found
 pub mod Leading
 pub mod Shape
+pub mod LogsLittle

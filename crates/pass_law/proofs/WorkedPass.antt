@@ -13,6 +13,7 @@ use Rattle.pass_law.specs.Earned.{IsRemoved, IsEarned}
 use Rattle.pass_law.specs.Worked.{assigning, noting, built, removal, reduced, AreWorked}
 use Rattle.pass_law.proofs.Inversions.{among_none, path_behind}
 use Rattle.pass_law.proofs.WorkedBuilt.{built_is_marked}
+use Rattle.pass_law.proofs.WorkedLogs.{removal_logged}
 use Rattle.pass_law.proofs.WorkedReduced.{IsPoint, entry, entered, assignment, notes, assigned, return, returns, point, reduced_is_marked}
 
 module _ (pass : PassName) where
@@ -93,4 +94,4 @@ is_earned pass homes = record {
 }
 
 pub are_worked : (pass : PassName) → AreWorked pass
-are_worked pass = record { marked = built_is_marked; still_marked = reduced_is_marked pass; keeps = reduced_keeps pass; earned = is_earned pass }
+are_worked pass = record { marked = built_is_marked; still_marked = reduced_is_marked pass; keeps = reduced_keeps pass; logs = removal_logged pass; earned = is_earned pass }

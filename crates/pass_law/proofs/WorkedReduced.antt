@@ -1,5 +1,5 @@
 -- The unit of a small program without its assignment is well marked, too.
-use Rattle.std.proofs.Common.{◌≡◌, ◌≢◌, ℕ, zero, suc, inr, true, false, List, [], ◌∷◌, length, Option, Some, None, refl, sym, subst, slice_get, lit≤, lit<}
+use Rattle.std.proofs.Common.{◌≡◌, ◌≢◌, ℕ, zero, suc, inl, inr, true, false, List, [], ◌∷◌, length, Option, Some, None, refl, sym, subst, slice_get, lit≤, lit<}
 use Rattle.places.specs.Flow.{can_go, assigns}
 use Rattle.graph_core.specs.declared.instruction.Callee.TheVariants.{Putchar}
 use Rattle.graph_core.specs.declared.value.Value.{Value}
@@ -176,8 +176,9 @@ module _ (pass : PassName) where
     copies = λ p object bytes words at. absurd (copy_in (in_place at));
     zeroes_first = λ h n object words rest e at. absurd (zero_at (point at));
     copies_first = λ h n object bytes words rest e at. absurd (copy_at (point at));
+    variables = (tt, tt);
     written_where = λ p x variable is w. absurd (not_written pass p x w);
-    noted_where = λ p x variable v is at. notes_where (in_place at) variable (only_scalar x variable is).1;
+    noted_where = λ p x variable v is at. inl (notes_where (in_place at) variable (only_scalar x variable is).1);
     noted = λ h n p x variable rest e is at. notes_all (point at) x variable (only_scalar x variable is).0;
     right = λ h n p x variable v rest e is at place. right_note pass (point at) p place variable (only_scalar x variable is).1;
     behind_write = λ h n x rest e at. absurd (own_note (point at) refl);

@@ -4,6 +4,7 @@ use Rattle.debug_records.specs.declared.change.PassName.{PassName}
 use Rattle.debug_records.specs.Change.{letters}
 use Rattle.graph_core.specs.Graphs.{UnitForm}
 use Rattle.pass_law.specs.Keeps.{Keeps}
+use Rattle.pass_law.specs.Logs.{LogsWell}
 
 -- A pass is the first of them whose name has these letters.
 pub data IsFirst {P : Type 0} (named : P → PassName) (name : List ℕ) (p : P) : List P → Type 0 where
@@ -21,7 +22,8 @@ abbrev pub Lead : {P : Type 0} → (P → PassName) → (P → UnitForm → Unit
 Lead named steps passes [] u w = w ≡ u
 Lead named steps passes (name ∷ more) u w = (v : UnitForm) × IsStepOf named steps passes name u v × Lead named steps passes more v w
 
--- A step of a pass that keeps the law of passes: the unit before it is well marked, and what it does is kept.
-pub record IsLawfulStep (steps : UnitForm → UnitForm → Type 0) (u v : UnitForm) : Type 0 where
+-- A step of the pass of this name that keeps the law of passes: the unit before it is well marked, what it does is kept, and the pass logs what it may.
+pub record IsLawfulStep (pass : PassName) (steps : UnitForm → UnitForm → Type 0) (u v : UnitForm) : Type 0 where
   pub step : steps u v
   pub keeps : Keeps u v
+  pub logs : LogsWell pass u v

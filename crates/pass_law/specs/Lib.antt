@@ -1,6 +1,7 @@
 pub mod Keeps
 pub mod Earned
 pub mod Relations
+pub mod Logs
 pub mod Trails
 pub mod Worked
 pub mod WorkedChanges

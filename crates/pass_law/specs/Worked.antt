@@ -1,6 +1,6 @@
 -- The unit of a small program, and what a pass makes of it: by them the definitions are seen to be met, and to refuse what they should.
 -- The program is `int main(void) { int x = 2; return x; }`. Place 1 is the entry, 2 the declarator and 3 the return.
-use Rattle.std.specs.Prelude.{ℕ, List, [], ◌∷◌, Option, Some, None}
+use Rattle.std.specs.Prelude.{◌≢◌, ℕ, ◌<◌, List, [], ◌∷◌, length, Option, Some, None}
 use Rattle.debug_records.specs.declared.change.PassName.{PassName}
 use Rattle.debug_records.specs.declared.change.Kind.TheVariants.{Removed}
 use Rattle.memory_map.specs.declared.map.Room.TheVariants.{Small}
@@ -12,6 +12,7 @@ use Rattle.graph_core.specs.Graphs.{Operand, Name, Constant, Of, Is, Instruction
 use Rattle.graph_core.specs.WellMarked.{AreWellMarked}
 use Rattle.pass_law.specs.Keeps.{Keeps}
 use Rattle.pass_law.specs.Earned.{IsEarned}
+use Rattle.pass_law.specs.Logs.{most_changes, LogsWell}
 
 -- execution may go from the one place to the other
 abbrev pub step : (from to : ℕ) → FlowStep
@@ -98,19 +99,24 @@ noting_with returned = main_with notes_two returned (unreached_block ∷ [])
 abbrev pub noting : Graph
 noting = noting_with (Constant 2)
 
+-- a change by which a pass removed an assignment of a variable in a place
+abbrev pub removal_in : PassName → (place variable : ℕ) → Logged
+removal_in pass place variable = record { pass = pass; kind = Removed; place = place; variable = variable }
+
 -- the change by which a pass removed the assignment
 abbrev pub removal : PassName → Logged
-removal pass = record { pass = pass; kind = Removed; place = 2; variable = 0 }
+removal pass = removal_in pass 2 0
 
 -- the unit without the assignment
 abbrev pub reduced : PassName → UnitForm
 reduced pass = unit_of noting (removal pass ∷ [])
 
--- Both units are well marked, the second keeps what the first does, and its change is earned wherever the names of each function are kept.
+-- Both units are well marked, the second keeps what the first does, its change is one that a pass may log, and it is earned wherever the names of each function are kept.
 pub record AreWorked (pass : PassName) : Type 0 where
   pub marked : AreWellMarked built
   pub still_marked : AreWellMarked (reduced pass)
   pub keeps : Keeps built (reduced pass)
+  pub logs : LogsWell pass built (reduced pass)
   pub earned : (homes : (function : ℕ) → ℕ → Home) → IsEarned (removal pass) (removal pass ∷ []) homes built (reduced pass)
 
 -- The graph without the assignment, in which x is noted to be x all the same.
@@ -120,6 +126,18 @@ notes_itself = Marker 2 ∷ Note 0 (Is (Of (Name 0))) ∷ []
 -- that graph
 abbrev pub noting_itself : Graph
 noting_itself = main_with notes_itself (Constant 2) (unreached_block ∷ [])
+
+-- the unit as it is built, with this log
+abbrev pub logging : List Logged → UnitForm
+logging log = unit_of assigning log
+
+-- What no pass of a name logs, though the graphs stay as they are: a change of the place 0, which no marker begins; a change of a variable that is no scalar; one by
+-- another name; and more changes than a unit of the smaller room may get.
+pub record NoPassLogs (pass : PassName) : Type 0 where
+  pub placeless : LogsWell pass built (logging (removal_in pass 0 0 ∷ [])) → ⊥
+  pub no_scalar : LogsWell pass built (logging (removal_in pass 2 1 ∷ [])) → ⊥
+  pub by_another : (other : PassName) → other ≢ pass → LogsWell pass built (logging (removal_in other 2 0 ∷ [])) → ⊥
+  pub too_many : (log : List Logged) → most_changes Small < length log → LogsWell pass built (logging log) → ⊥
 
 -- What is no such pass. A removal that is not logged leaves a unit that is not well marked, and is not earned. Nor is a unit well marked where a note is of the scalar itself
 -- and a path comes to it with no write of the scalar. And where another value is returned, the unit does not keep what the first one does.

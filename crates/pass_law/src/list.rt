@@ -3,6 +3,7 @@
 ghost use Rattle.std.specs.Prelude.{◌≡◌, ◌≤◌, ◌<◌, ◌^◌, ◌++◌, [], ◌∷◌, AllPairs, IfErr, IfOk, IfSome, IsSomeAnd, MatchOption, OnOk, Some, length, map, slice_get};
 ghost use Rattle.graph_core.specs.Graphs.{unit_view};
 ghost use Rattle.pass_law.specs.Keeps.{Keeps};
+ghost use Rattle.pass_law.specs.Logs.{LogsWell};
 ghost use Rattle.graph_core.specs.WellMarked.{AreWellMarked};
 ghost use Rattle.pass_law.specs.Trails.{IsFirst, IsNoPass, IsReason, IsTrail};
 
@@ -53,7 +54,8 @@ fn name_of(pass: &Box<dyn Pass>) -> PassName
 fn apply_one(alloc: Global, pass: &Box<dyn Pass>, unit: &Unit) -> Result<Unit, AllocError>
     requires marked { AreWellMarked (unit_view unit.now) }
     requires room { length (unit_view unit.now).log < 2 ^ 31 }
-    ensures { IfOk result (λ v. (steps pass.now).leads (unit_view unit.now) (unit_view v)) }
+    ensures step { IfOk result (λ v. (steps pass.now).leads (unit_view unit.now) (unit_view v)) }
+    ensures logs { IfOk result (λ v. LogsWell (named pass.now) (unit_view unit.now) (unit_view v)) }
 {
     pass.apply(alloc, unit)
 }

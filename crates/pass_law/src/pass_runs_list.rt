@@ -6,6 +6,7 @@ ghost use Rattle.graph_core.specs.Graphs.{unit_view};
 ghost use Rattle.graph_core.specs.Validity.{IsValid};
 ghost use Rattle.graph_core.specs.WellMarked.{AreWellMarked};
 ghost use Rattle.pass_law.specs.Keeps.{Keeps};
+ghost use Rattle.pass_law.specs.Logs.{LogsWell};
 ghost use Rattle.pass_law.specs.HandedIn.{AreHandedIn, IsHandedIn, IsNoPass};
 ghost use Rattle.pass_law.specs.PassRunsKept.{KeepsShape};
 ghost use Rattle.pass_law.specs.Leading.{IsFirst, IsLawfulStep, Lead};
@@ -77,15 +78,18 @@ fn apply_one(
     ensures made { IfOk result (λ made. IfSome made (λ v. IsValid (unit_view v))) }
     ensures kept { IfOk result (λ made. IfSome made (λ v. KeepsShape (unit_view unit.now) (unit_view v))) }
     ensures step { IfOk result (λ made. IfSome made (λ v. steps pass.now (unit_view unit.now) (unit_view v))) }
-    ensures keeps { AreWellMarked (unit_view unit.now) → IfOk result (λ made. IfSome made (λ v. Keeps (unit_view unit.now) (unit_view v))) }
+    ensures keeps { AreWellMarked (unit_view unit.now) → IfOk result (λ made. IfSome made (λ v.
+        Keeps (unit_view unit.now) (unit_view v))) }
+    ensures logs { AreWellMarked (unit_view unit.now) → IfOk result (λ made. IfSome made (λ v.
+        LogsWell (named pass.now) (unit_view unit.now) (unit_view v))) }
 {
     pass.apply(alloc, unit)
 }
 
 /// Runs the passes of these names on a valid unit, in order, each by one step; of two passes of one name the first is
 /// taken. What is made of a well marked unit keeps what that unit does, and so does what each step makes of the unit
-/// before it. None where a name is no pass's, where the log has 2^31 changes before a pass, or where a pass makes no
-/// unit. No names give the unit back.
+/// before it, with no more in the log than its pass may log. None where a name is no pass's, where the log has 2^31
+/// changes before a pass, or where a pass makes no unit. No names give the unit back.
 pub fn run_passes(
     alloc: Global,
     passes: &[Box<dyn UnitPass>],
@@ -97,7 +101,7 @@ pub fn run_passes(
     ensures kept { IfOk result (λ made. IfSome made (λ v. KeepsShape (unit_view unit) (unit_view v))) }
     ensures led { IfOk result (λ made. IfSome made (λ v. Lead (λ p. named p) (λ p. steps p) passes.now (map letters names.now) (unit_view unit) (unit_view v))) }
     ensures lawful { AreWellMarked (unit_view unit) → IfOk result (λ made. IfSome made (λ v.
-        Lead (λ p. named p) (λ p. IsLawfulStep (steps p)) passes.now (map letters names.now) (unit_view unit)
+        Lead (λ p. named p) (λ p. IsLawfulStep (named p) (steps p)) passes.now (map letters names.now) (unit_view unit)
         (unit_view v))) }
     ensures keeps { AreWellMarked (unit_view unit) → IfOk result (λ made. IfSome made (λ v. Keeps (unit_view unit) (unit_view v))) }
     ensures nothing { names.now ≡ [] → IfOk result (λ made. made ≡ Some unit) }

@@ -36,7 +36,7 @@ apply_one-requires-clause-marked g c =
 pub apply_one-requires-clause-room : goal.apply_one-requires-clause-room
 apply_one-requires-clause-room g c =
     let within : c.loop-i.i < length c.loop-i.units.items = omega (arith, c.loop-i.invariant.count) in
-    let most : length (map logged (changes c.index.result.now.log)) ≤ 100000 * c.loop-i.i = (c.loop-i.invariant.last (unit_view c.index.result.now) (unit_at c.loop-i.units.items c.loop-i.i c.index.result.now within c.index.ensures)).changes in
+    let most : length (map logged (changes c.index.result.now.log)) ≤ 1000000 * c.loop-i.i = (c.loop-i.invariant.last (unit_view c.index.result.now) (unit_at c.loop-i.units.items c.loop-i.i c.index.result.now within c.index.ensures)).changes in
     let few : length c.args.names.now ≤ 32 = c.requires.few in
     let below : c.loop-i.i < length c.args.names.now = c.loop-i-test.true in
     omega (arith, most, few, below)
@@ -48,10 +48,10 @@ loop-i-preserved g c =
     let stands = slice_get-get_or c.args.passes.now c.in-Some.k c.index-passes-k.result c.in-Some.ensures.within ∙ ap Some (sym c.index-passes-k.is) in
     let first = first_at (λ p. (goal.Pass-dyn g (p.vtable, p.value)).named p.value) (λ p. (goal.Pass-dyn g (p.vtable, p.value)).steps p.value) c.args.passes.now _ c.in-Some.k c.index-passes-k.result c.in-Some.ensures.found stands in
     let now = unit_at c.loop-i.units.items c.loop-i.i c.index.result.now within c.index.ensures in
-    let ready = ready_more (λ p. (goal.Pass-dyn g (p.vtable, p.value)).named p.value) (λ p. (goal.Pass-dyn g (p.vtable, p.value)).steps p.value) c.args.passes.now c.index-passes-k.result (unit_view c.index.result.now) (unit_view c.in_ok-next.next) c.loop-i.i (c.loop-i.invariant.last (unit_view c.index.result.now) now) c.in_ok-next.ensures in
+    let ready = ready_more (λ p. (goal.Pass-dyn g (p.vtable, p.value)).named p.value) (λ p. (goal.Pass-dyn g (p.vtable, p.value)).steps p.value) c.args.passes.now c.index-passes-k.result (unit_view c.index.result.now) (unit_view c.in_ok-next.next) c.loop-i.i (c.loop-i.invariant.last (unit_view c.index.result.now) now) c.in_ok-next.ensures.step c.in_ok-next.ensures.logs in
     record {
       trail = subst (λ us. IsTrail (λ p. (goal.Pass-dyn g (p.vtable, p.value)).named p.value) (λ p. (goal.Pass-dyn g (p.vtable, p.value)).steps p.value) c.args.passes.now (take (c.loop-i.i + 1) c.args.names.now) us) (sym new)
-          (trail_step (λ p. (goal.Pass-dyn g (p.vtable, p.value)).named p.value) (λ p. (goal.Pass-dyn g (p.vtable, p.value)).steps p.value) c.args.passes.now c.args.names.now _ c.loop-i.i _ c.index-passes-k.result _ _ c.loop-i-test.true c.loop-i.invariant.trail now first c.in_ok-next.ensures);
+          (trail_step (λ p. (goal.Pass-dyn g (p.vtable, p.value)).named p.value) (λ p. (goal.Pass-dyn g (p.vtable, p.value)).steps p.value) c.args.passes.now c.args.names.now _ c.loop-i.i _ c.index-passes-k.result _ _ c.loop-i-test.true c.loop-i.invariant.trail now first c.in_ok-next.ensures.step);
       first = subst (λ us. slice_get us 0 ≡ Some (unit_view c.args.unit)) (sym new) (first_stays _ _ _ c.loop-i.invariant.first);
       count = ap length c.in_ok-push_unit-2.ensures ∙ length-append c.loop-i.units.items (c.in_ok-next.next ∷ []) ∙ ap (λ n. n + 1) c.loop-i.invariant.count;
       last = subst (λ us. (u : UnitForm) → slice_get us (c.loop-i.i + 1) ≡ Some u → IsReady u (c.loop-i.i + 1)) (sym new) (push_ready c.loop-i.units.items c.in_ok-next.next (c.loop-i.i + 1) c.loop-i.invariant.count ready);

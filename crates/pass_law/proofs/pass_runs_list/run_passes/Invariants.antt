@@ -13,7 +13,7 @@ invariant-loop-name g l = record {
   valid : IsValid (unit_view l.last);
   kept : KeepsShape (unit_view l.fn.unit) (unit_view l.last);
   led : Lead (λ p. (goal.UnitPass-dyn g (p.vtable, p.value)).named p.value) (λ p. (goal.UnitPass-dyn g (p.vtable, p.value)).steps p.value) l.passes (map letters (take l.name-index l.names)) (unit_view l.fn.unit) (unit_view l.last);
-  lawful : AreWellMarked (unit_view l.fn.unit) → Lead (λ p. (goal.UnitPass-dyn g (p.vtable, p.value)).named p.value) (λ p. IsLawfulStep ((goal.UnitPass-dyn g (p.vtable, p.value)).steps p.value)) l.passes (map letters (take l.name-index l.names)) (unit_view l.fn.unit) (unit_view l.last);
+  lawful : AreWellMarked (unit_view l.fn.unit) → Lead (λ p. (goal.UnitPass-dyn g (p.vtable, p.value)).named p.value) (λ p. IsLawfulStep ((goal.UnitPass-dyn g (p.vtable, p.value)).named p.value) ((goal.UnitPass-dyn g (p.vtable, p.value)).steps p.value)) l.passes (map letters (take l.name-index l.names)) (unit_view l.fn.unit) (unit_view l.last);
   keeps : AreWellMarked (unit_view l.fn.unit) → Keeps (unit_view l.fn.unit) (unit_view l.last);
   same : l.names ≡ [] → l.last ≡ l.fn.unit;
 }

@@ -1,5 +1,5 @@
 -- A unit with more changes in its log, and nothing else changed, keeps what it did.
-use Rattle.std.proofs.Common.{◌≡◌, ℕ, zero, suc, ◌≤◌, ◌+◌, inl, inr, if◌then◌else◌, Option, Some, None, List, [], ◌∷◌, ◌++◌, length, length-append, map, refl, ap, ◌∙◌, arith}
+use Rattle.std.proofs.Common.{◌≡◌, ℕ, zero, suc, ◌≤◌, ◌+◌, inl, inr, ⊎_elim, if◌then◌else◌, Option, Some, None, List, [], ◌∷◌, ◌++◌, length, length-append, map, refl, ap, ◌∙◌, arith}
 use Rattle.std.specs.List.{AllByRecursion, list_any}
 use Rattle.std.proofs.Math.Path.{fun_ext}
 use Rattle.graph_core.specs.declared.instruction.Callee.{Callee}
@@ -8,7 +8,7 @@ use Rattle.graph_core.specs.declared.value.Value.{Value}
 use Rattle.graph_core.specs.Graphs.{NoteValue, Is, Gone, Instruction, Marker, Note, Move, Operate, Truncate, Same, Address, Load, Store, Zero, CopyWords, Call, End, Jump, Branch, Return, Block, Graph, Logged, UnitForm}
 use Rattle.graph_core.specs.Paths as paths
 use Rattle.graph_core.specs.Validity.{IsNoteValue, IsInstruction, IsBlock, IsGraph, IsValid}
-use Rattle.graph_core.specs.WellMarked.{WasTaken, IsRightNote, IsWellMarked, AreWellMarked}
+use Rattle.graph_core.specs.WellMarked.{WasTaken, WasSunk, MayStand, ReadsAcross, moved, sunk, IsRightNote, IsWellMarked, AreWellMarked}
 use Rattle.graph_core.specs.Memory.{first_memory}
 use Rattle.graph_core.specs.Values.{is_odd}
 use Rattle.graph_core.specs.Runs.{Configuration, Wild, value, enter, call, execute, execute_end, step_from, step, after, run, run_some, unit_run}
@@ -75,6 +75,17 @@ module _ (u : UnitForm) (added : List Logged) where
     right_note p x variable v (inl h) = inl h
     right_note p x variable v (inr h) = inr (h.0, h.1, removed h.2)
 
+    was_sunk : {variable : ℕ} → WasSunk u.log variable → WasSunk (u.log ++ added) variable
+    was_sunk h = record { change = h.change; logged = among_longer h.logged added; sunk = h.sunk; of = h.of }
+
+    may_stand : (p x variable : ℕ) → MayStand u g p x variable → MayStand longer g p x variable
+    may_stand p x variable (inl h) = inl h
+    may_stand p x variable (inr h) = inr (was_sunk h.0, h.1)
+
+    reads_across : (hist : paths.History) (i : Instruction) → ReadsAcross u g hist i → ReadsAcross longer g hist i
+    reads_across hist i (moved t is late) = moved t is late
+    reads_across hist i (sunk x variable p is of at none) = sunk x variable p is of at none
+
     well_marked : IsWellMarked u g → IsWellMarked longer g
     well_marked h = record {
       begins = h.begins;
@@ -87,13 +98,14 @@ module _ (u : UnitForm) (added : List Logged) where
       copies = h.copies;
       zeroes_first = h.zeroes_first;
       copies_first = h.copies_first;
-      written_where = h.written_where;
-      noted_where = h.noted_where;
+      variables = h.variables;
+      written_where = λ p x variable is w. may_stand p x variable (h.written_where p x variable is w);
+      noted_where = λ p x variable v is at. may_stand p x variable (h.noted_where p x variable v is at);
       noted = h.noted;
       right = λ hist n p x variable v rest e is at place. right_note p x variable v (h.right hist n p x variable v rest e is at place);
       behind_write = h.behind_write;
       calls = h.calls;
-      local = h.local;
+      local = λ hist n i t rest e of at reads. ⊎_elim inl (λ across. inr (reads_across hist i across)) (h.local hist n i t rest e of at reads);
       local_at_end = h.local_at_end;
     }
 
