@@ -3,5 +3,4 @@ pub mod Reused
 pub mod Homed
 pub mod Seen
 pub mod Frames
-pub mod Statics
 pub mod Owned

@@ -27,7 +27,7 @@ use Rattle.graph_core.specs.Values.{pointer_at}
 use Rattle.graph_homes.specs.declared.home.Home.{Home}
 use Rattle.graph_homes.specs.declared.home.Home.TheVariants.{Register, Slot}
 use Rattle.home_assign.specs.Alike.{held_in, shown_value}
-use Rattle.graph_homes.specs.Statics.{static_at}
+use Rattle.rv_emit_storage.specs.StaticAddresses.{static_at}
 use Rattle.graph_homes.specs.Homed.{HomedForm, HaveHomes, IsHomeAmong, IsHomeRegister, home_number, home_of}
 use Rattle.image_build_tables.specs.Storages.{storage_of, storages_of}
 use Rattle.image_build_tables.specs.Variables.{counted, shape, shapes_of, owner, owners_of, declared_names, name_length, length_of_name, storage}

@@ -19,7 +19,7 @@ use Rattle.graph_core.specs.Graphs.{StaticObject, UnitForm}
 use Rattle.graph_core.specs.Memory.{static_bytes}
 use Rattle.graph_core.specs.Validity.{taken_by}
 use Rattle.graph_homes.specs.Homed.{HomedForm}
-use Rattle.graph_homes.specs.Statics.{bytes_by_element, initial_bytes, object_bytes, padded}
+use Rattle.rv_emit_storage.specs.StaticAddresses.{bytes_by_element, initial_bytes, object_bytes, padded}
 use Rattle.rv_emit_tables.specs.Emitted.{EmittedForm}
 use Rattle.rv_emit_storage.proofs.Padding.{padded_length}
 use Rattle.memory_map.specs.Maps.{bytes_size, most_words}

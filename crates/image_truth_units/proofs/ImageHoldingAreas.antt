@@ -17,7 +17,7 @@ use Rattle.graph_core.specs.Memory.{static_bytes}
 use Rattle.graph_core.specs.Runs.{Activation}
 use Rattle.graph_core.specs.Validity.{IsValid, taken_by, total}
 use Rattle.graph_homes.specs.Homed.{HomedForm, HaveHomes}
-use Rattle.graph_homes.specs.Statics.{statics_start, static_sizes, static_at}
+use Rattle.rv_emit_storage.specs.StaticAddresses.{statics_start, static_sizes, static_at}
 use Rattle.memory_map.specs.Maps.{bytes_end, bytes_start, stack_end, stack_start}
 use Rattle.memory_map.proofs.Facts.{map_facts}
 use Rattle.rv_emit_storage.specs.UnitMaps.{map_of_unit}

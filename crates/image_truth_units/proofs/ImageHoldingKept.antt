@@ -21,7 +21,7 @@ use Rattle.graph_core.specs.declared.graph.MemoryObject.{MemoryObject}
 use Rattle.graph_core.specs.Graphs.{Graph, StaticObject}
 use Rattle.graph_core.specs.Memory.{static_bytes}
 use Rattle.graph_homes.specs.Homed.{HomedForm}
-use Rattle.graph_homes.specs.Statics.{static_at}
+use Rattle.rv_emit_storage.specs.StaticAddresses.{static_at}
 use Rattle.rv_emit_tables.specs.Emitted.{EmittedForm}
 use Rattle.rv_emit_tables.specs.Emitted as emitted
 use Rattle.rv_emit_storage.specs.Storages.{object_at}

@@ -12,7 +12,7 @@ use Rattle.graph_core.specs.Memory.{static_bytes}
 use Rattle.graph_core.specs.Paths.{Among, front, behind}
 use Rattle.graph_core.specs.Validity.{taken_by, total}
 use Rattle.graph_homes.specs.Homed.{HomedForm}
-use Rattle.graph_homes.specs.Statics.{addresses_from, static_at, static_sizes, statics_start}
+use Rattle.rv_emit_storage.specs.StaticAddresses.{addresses_from, static_at, static_sizes, statics_start}
 use Rattle.memory_map.specs.Maps.{bytes_size}
 use Rattle.rv_emit_tables.specs.Emitted.{EmittedForm, FunctionCode}
 use Rattle.image_form.specs.declared.variables.Storage.{Storage}

@@ -20,7 +20,7 @@ use Rattle.graph_core.specs.Graphs.{Graph, Scalar}
 use Rattle.graph_core.specs.Validity.{IsGraph, taken_by_object, total}
 use Rattle.graph_homes.specs.Frames.{object_offsets, objects_start}
 use Rattle.graph_homes.specs.Homed.{AreHomesOf, HomedForm, IsHomeAmong, home_of, homes_in}
-use Rattle.graph_homes.specs.Statics.{static_at, statics_start}
+use Rattle.rv_emit_storage.specs.StaticAddresses.{static_at, statics_start}
 use Rattle.memory_map.specs.declared.map.Map.{Map}
 use Rattle.memory_map.specs.Maps.{bytes_size, bytes_start}
 use Rattle.memory_map.proofs.Facts.{map_facts}

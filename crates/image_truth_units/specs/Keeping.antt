@@ -12,7 +12,7 @@ use Rattle.graph_core.specs.Graphs.{Graph, StaticObject, UnitForm}
 use Rattle.graph_core.specs.Memory.{static_bytes}
 use Rattle.graph_core.specs.Runs.{Activation}
 use Rattle.graph_homes.specs.Homed.{HomedForm}
-use Rattle.graph_homes.specs.Statics.{static_at}
+use Rattle.rv_emit_storage.specs.StaticAddresses.{static_at}
 use Rattle.rv_emit_storage.specs.Storages.{object_at}
 use Rattle.rv_emit_runs.specs.Waiting.{FunctionCode, bytes_in}
 use Rattle.rv_emit_runs.specs.Laid.{Arrangement, code_of}

@@ -2,7 +2,7 @@
 use Rattle.std.specs.Prelude.{◌≡◌, ℕ, ◌<◌, Some, length, slice_get}
 use Rattle.graph_core.specs.Paths.{Among}
 use Rattle.graph_homes.specs.Homed.{HomedForm}
-use Rattle.graph_homes.specs.Statics.{static_at}
+use Rattle.rv_emit_storage.specs.StaticAddresses.{static_at}
 use Rattle.rv_emit_tables.specs.declared.emitted.PlacedStop.{PlacedStop}
 use Rattle.rv_emit_tables.specs.Emitted.{EmittedForm}
 use Rattle.rv_emit_runs.specs.Laid.{IsCode}

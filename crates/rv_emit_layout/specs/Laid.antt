@@ -6,7 +6,7 @@ use Rattle.graph_core.specs.Graphs.{Graph, UnitForm}
 use Rattle.graph_homes.specs.declared.home.Home.{Home}
 use Rattle.graph_homes.specs.Frames.{frame_size, object_offsets, objects_start, slot_count, slots_start}
 use Rattle.graph_homes.specs.Homed.{HomedForm, homes_in}
-use Rattle.graph_homes.specs.Statics.{initial_bytes, static_addresses}
+use Rattle.rv_emit_storage.specs.StaticAddresses.{initial_bytes, static_addresses}
 use Rattle.memory_map.specs.Maps.{bytes_start}
 use Rattle.memory_map.specs.declared.map.Map.{Map}
 use Rattle.rv_emit_tables.specs.declared.emitted.PlacedStop.{PlacedStop}

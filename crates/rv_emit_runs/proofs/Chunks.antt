@@ -5,7 +5,7 @@ use Rattle.std.specs.List.{flat_map}
 use Rattle.std.proofs.lemmas.List.{length-replicate}
 use Rattle.rv_machine.specs.Table.{zeros}
 use Rattle.graph_core.specs.Validity.{taken_by, total}
-use Rattle.graph_homes.specs.Statics.{addresses_from, padded}
+use Rattle.rv_emit_storage.specs.StaticAddresses.{addresses_from, padded}
 pub use Rattle.base_laws.proofs.Lists.{front_only}
 
 -- ---- Lists of bytes

@@ -22,7 +22,7 @@ use Rattle.graph_core.specs.Values.{size_of, as_element, pointer_at}
 use Rattle.graph_core.specs.Memory.{Memory, Object, bytes_of, spelled, element_in, static_bytes, address_at, first_value, first_values, static_objects, first_memory}
 use Rattle.graph_core.specs.Validity.{IsValid, AreRelocations, taken_by, total}
 use Rattle.graph_homes.specs.Homed.{HomedForm, over_homes}
-use Rattle.graph_homes.specs.Statics.{statics_start, static_sizes, static_addresses, static_at, padded, word_bytes, relocation_at, word_there, word_of_bytes, words_there, bytes_by_element, object_bytes, initial_bytes}
+use Rattle.rv_emit_storage.specs.StaticAddresses.{statics_start, static_sizes, static_addresses, static_at, padded, word_bytes, relocation_at, word_there, word_of_bytes, words_there, bytes_by_element, object_bytes, initial_bytes}
 use Rattle.rv_emit_tables.specs.Emitted.{EmittedForm}
 use Rattle.rv_emit_storage.specs.Storages.{StorageForm, static_object_at, array_bytes_at}
 use Rattle.rv_emit_steps.specs.Holding.{half_at, word_at}

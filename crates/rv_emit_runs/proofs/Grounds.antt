@@ -16,7 +16,7 @@ use Rattle.graph_core.specs.Memory.{static_bytes}
 use Rattle.graph_core.specs.Validity.{IsValid, taken_by, total}
 use Rattle.graph_homes.specs.Frames.{frame_size, home_registers, is_written, object_offsets, objects_start, saved, slot_count, slots_start}
 use Rattle.graph_homes.specs.Homed.{HomedForm, homes_in, home_of, AreHomesOf, HaveHomes, IsHomeAmong}
-use Rattle.graph_homes.specs.Statics.{addresses_from, bytes_by_element, initial_bytes, object_bytes, padded, static_addresses, static_sizes, statics_start}
+use Rattle.rv_emit_storage.specs.StaticAddresses.{addresses_from, bytes_by_element, initial_bytes, object_bytes, padded, static_addresses, static_sizes, statics_start}
 use Rattle.rv_emit_storage.specs.Kept.{home_in, FitsFrame}
 use Rattle.rv_emit_storage.specs.Placed.{FitsStatics}
 use Rattle.rv_emit_sequence.specs.Sequences.{Ground, IsSequenceOf, counted}

@@ -15,7 +15,7 @@ use Rattle.graph_homes.specs.declared.home.Home.{Home}
 use Rattle.graph_homes.specs.declared.home.Home.TheVariants.{Register, Slot}
 use Rattle.graph_homes.specs.Homed.{HomedForm, HaveHomes, IsHomeRegister, home_number, over_homes}
 use Rattle.graph_core.specs.Validity.{IsValid}
-use Rattle.graph_homes.specs.Statics.{static_addresses}
+use Rattle.rv_emit_storage.specs.StaticAddresses.{static_addresses}
 use Rattle.rv_emit_tables.specs.declared.emitted.PlacedStop.{PlacedStop}
 use Rattle.rv_emit_tables.specs.Emitted.{EmittedForm}
 use Rattle.rv_emit_words.specs.declared.piece.Held.{Held}

@@ -6,7 +6,7 @@ use Rattle.graph_core.specs.Graphs.{Graph, UnitForm}
 use Rattle.graph_core.specs.Memory.{static_bytes}
 use Rattle.graph_core.specs.Validity.{IsValid}
 use Rattle.graph_homes.specs.Homed.{HomedForm, HaveHomes, homes_in}
-use Rattle.graph_homes.specs.Statics.{static_addresses, static_sizes, statics_start}
+use Rattle.rv_emit_storage.specs.StaticAddresses.{static_addresses, static_sizes, statics_start}
 use Rattle.rv_emit_tables.specs.Emitted.{EmittedForm}
 use Rattle.rv_emit_storage.proofs.Filling.{addresses_count, have_all}
 use Rattle.rv_emit_sequence.specs.Sequences.{Ground, counted}

@@ -16,7 +16,7 @@ use Rattle.graph_core.specs.Graphs.{Block}
 use Rattle.graph_core.specs.Paths.{Among}
 use Rattle.graph_core.specs.Validity.{IsValid}
 use Rattle.graph_homes.specs.Homed.{HomedForm, HaveHomes, homes_in}
-use Rattle.graph_homes.specs.Statics.{initial_bytes}
+use Rattle.rv_emit_storage.specs.StaticAddresses.{initial_bytes}
 use Rattle.rv_emit_tables.specs.declared.emitted.PlacedStop.{PlacedStop}
 use Rattle.rv_emit_tables.specs.Emitted.{EmittedForm}
 use Rattle.rv_emit_words.specs.declared.piece.Held.{Held}

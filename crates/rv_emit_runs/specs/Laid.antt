@@ -9,7 +9,7 @@ use Rattle.graph_core.specs.Paths.{Among}
 use Rattle.graph_core.specs.Uses.{targets_of}
 use Rattle.graph_homes.specs.Frames.{saved, slot_count, slots_start, objects_start, object_offsets, frame_size}
 use Rattle.graph_homes.specs.Homed.{HomedForm, homes_in, home_of}
-use Rattle.graph_homes.specs.Statics.{static_addresses, initial_bytes}
+use Rattle.rv_emit_storage.specs.StaticAddresses.{static_addresses, initial_bytes}
 use Rattle.rv_emit_tables.specs.declared.emitted.PlacedStop.{PlacedStop}
 use Rattle.rv_emit_tables.specs.Emitted.{EmittedForm}
 use Rattle.rv_emit_words.specs.declared.piece.Held.{Held}

@@ -13,7 +13,7 @@ use Rattle.graph_core.specs.Runs.{Activation, Configuration}
 use Rattle.graph_homes.specs.declared.home.Home.{Home}
 use Rattle.graph_homes.specs.Homed.{HomedForm, IsHomeAmong, home_number}
 use Rattle.graph_homes.specs.Seen.{Seen, Going, Over}
-use Rattle.graph_homes.specs.Statics.{static_at}
+use Rattle.rv_emit_storage.specs.StaticAddresses.{static_at}
 use Rattle.rv_emit_tables.specs.Emitted.{EmittedForm}
 use Rattle.rv_emit_storage.specs.Storages.{object_at}
 use Rattle.rv_emit_steps.specs.Holding.{AreInRange, held, word_at}

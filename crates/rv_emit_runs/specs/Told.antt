@@ -5,7 +5,7 @@ use Rattle.graph_core.specs.Uses.{target_of}
 use Rattle.graph_core.specs.Validity.{place_behind}
 use Rattle.graph_homes.specs.declared.home.Home.{Home}
 use Rattle.graph_homes.specs.Homed.{HomedForm, home_of}
-use Rattle.graph_homes.specs.Statics.{static_at}
+use Rattle.rv_emit_storage.specs.StaticAddresses.{static_at}
 use Rattle.rv_emit_tables.specs.Emitted.{EmittedForm}
 use Rattle.rv_emit_tables.specs.Emitted.{FunctionCode as TableCode}
 use Rattle.rv_emit_steps.specs.Programs.{address_of}

@@ -12,7 +12,7 @@ use Rattle.graph_core.specs.Graphs.{StaticObject, UnitForm}
 use Rattle.graph_core.specs.Memory.{static_bytes}
 use Rattle.graph_core.specs.Values.{size_of}
 use Rattle.graph_core.specs.Validity.{taken_by, total, AreRelocations}
-use Rattle.graph_homes.specs.Statics.{addresses_from, bytes_by_element, object_bytes, padded, relocation_at, static_addresses, static_at, static_sizes, statics_start, word_bytes, word_of_bytes, word_there, words_there}
+use Rattle.rv_emit_storage.specs.StaticAddresses.{addresses_from, bytes_by_element, object_bytes, padded, relocation_at, static_addresses, static_at, static_sizes, statics_start, word_bytes, word_of_bytes, word_there, words_there}
 use Rattle.rv_emit_storage.specs.Filled.{filled_object, relocations_by, with_relocation, with_relocations, with_word}
 use Rattle.rv_emit_storage.specs.Placed.{HaveAddresses}
 use Rattle.rv_emit_storage.proofs.Padding.{pad, pad_behind, pad_length, padded_both, padded_is, padded_length}

@@ -6,7 +6,7 @@ use Rattle.graph_core.specs.Validity.{taken_by, total}
 use Rattle.graph_core.specs.Graphs.{StaticObject, UnitForm}
 use Rattle.graph_core.specs.Memory.{static_bytes}
 use Rattle.memory_map.specs.Maps.{bytes_start}
-use Rattle.graph_homes.specs.Statics.{addresses_from, static_addresses, static_sizes, statics_start}
+use Rattle.rv_emit_storage.specs.StaticAddresses.{addresses_from, static_addresses, static_sizes, statics_start}
 use Rattle.rv_emit_storage.specs.UnitMaps.{map_of_unit}
 use Rattle.rv_emit_storage.specs.Placed.{FitsStatics}
 use Rattle.rv_emit_storage.proofs.UnitMaps.{statics_begin}

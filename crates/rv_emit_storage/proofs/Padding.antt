@@ -1,7 +1,7 @@
 -- Bytes with zeros behind them.
 use Rattle.std.proofs.Common.{◌≡◌, ℕ, zero, suc, ◌+◌, ◌-◌, ◌<◌, List, [], ◌∷◌, ◌++◌, length, take, replicate, get_or, refl, sym, ap, ◌∙◌, arith}
 use Rattle.std.specs.List.{AllByRecursion}
-use Rattle.graph_homes.specs.Statics.{padded}
+use Rattle.rv_emit_storage.specs.StaticAddresses.{padded}
 
 -- so many bytes, one by one
 abbrev pub pad : (count : ℕ) → List ℕ → List ℕ

@@ -7,7 +7,7 @@ use Rattle.graph_core.specs.declared.unit.Relocation.{Relocation}
 use Rattle.graph_core.specs.Graphs.{StaticObject}
 use Rattle.graph_core.specs.Memory.{static_bytes}
 use Rattle.graph_core.specs.Validity.{taken_by}
-use Rattle.graph_homes.specs.Statics.{padded}
+use Rattle.rv_emit_storage.specs.StaticAddresses.{padded}
 
 -- Bytes of which the four from an offset on are those of a word, the lowest first.
 abbrev pub with_word : (at word : ℕ) → List ℕ → List ℕ

@@ -4,7 +4,7 @@ use Rattle.std.specs.List.{AllByRecursion}
 use Rattle.graph_core.specs.Graphs.{StaticObject, UnitForm}
 use Rattle.graph_core.specs.Validity.{taken_by, total, AreRelocations}
 use Rattle.memory_map.specs.Maps.{bytes_start}
-use Rattle.graph_homes.specs.Statics.{static_addresses, static_sizes}
+use Rattle.rv_emit_storage.specs.StaticAddresses.{static_addresses, static_sizes}
 use Rattle.rv_emit_storage.specs.UnitMaps.{map_of_unit}
 
 -- All addresses of static memory are words. So it is in a valid unit.

@@ -6,7 +6,7 @@ ghost use Rattle.graph_core.specs.Graphs.{bytes_view, static_view, unit_view};
 ghost use Rattle.graph_core.specs.Memory.{static_bytes};
 ghost use Rattle.graph_core.specs.Validity.{taken_by, total};
 ghost use Rattle.memory_map.specs.Maps.{bytes_start};
-ghost use Rattle.graph_homes.specs.Statics.{addresses_from, initial_bytes, padded, static_addresses, static_sizes};
+ghost use Rattle.rv_emit_storage.specs.StaticAddresses.{addresses_from, initial_bytes, padded, static_addresses, static_sizes};
 ghost use Rattle.rv_emit_storage.specs.Filled.{filled_object, relocations_of, with_relocation, with_relocations, with_word};
 ghost use Rattle.rv_emit_storage.specs.Placed.{FitsStatics, HaveAddresses, NameObjects};
 ghost use Rattle.rv_emit_storage.specs.UnitMaps.{map_of_unit};

@@ -2,7 +2,7 @@ use Rattle.std.proofs.Common.{◌≡◌, ◌+◌, ◌++◌, ℕ, List, length, l
 use Rattle.std.specs.List.{flat_map}
 use Rattle.graph_core.specs.Graphs.{static_view, bytes_view, unit_view}
 use Rattle.graph_core.specs.Validity.{taken_by}
-use Rattle.graph_homes.specs.Statics.{padded, object_bytes}
+use Rattle.rv_emit_storage.specs.StaticAddresses.{padded, object_bytes}
 use Rattle.rv_emit_storage.specs.Filled.{filled_object}
 use Rattle.rv_emit_storage.proofs.Offsets.{arrays_few, bytes_in_all}
 use Rattle.rv_emit_storage.proofs.Filling.{all_filled, arrays_filled, arrays_length, filled_length, have_all}

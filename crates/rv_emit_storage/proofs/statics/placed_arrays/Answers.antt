@@ -2,7 +2,7 @@ use Rattle.std.proofs.Common.{◌≡◌, ◌+◌, ℕ, List, [], ◌∷◌, ◌+
 use Rattle.graph_core.specs.declared.unit.Bytes.{Bytes}
 use Rattle.graph_core.specs.Graphs.{bytes_view}
 use Rattle.graph_core.specs.Validity.{taken_by, total}
-use Rattle.graph_homes.specs.Statics.{addresses_from}
+use Rattle.rv_emit_storage.specs.StaticAddresses.{addresses_from}
 use Rattle.rv_emit_storage.proofs.Offsets.{found_step, found_all, found_end}
 use Rattle.rv_emit_storage.proofs.statics.placed_arrays.Goals as goal
 

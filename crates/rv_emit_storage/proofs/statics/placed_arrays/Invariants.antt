@@ -2,7 +2,7 @@ use Rattle.std.proofs.Common.{ℕ, List, length, map, refl}
 use Rattle.graph_core.specs.declared.unit.Bytes.{Bytes}
 use Rattle.graph_core.specs.Graphs.{bytes_view}
 use Rattle.graph_core.specs.Validity.{taken_by}
-use Rattle.graph_homes.specs.Statics.{addresses_from}
+use Rattle.rv_emit_storage.specs.StaticAddresses.{addresses_from}
 use Rattle.rv_emit_storage.proofs.Offsets.{Found}
 use Rattle.rv_emit_storage.proofs.statics.placed_arrays.Given as goal
 

@@ -3,7 +3,7 @@ use Rattle.graph_core.specs.declared.unit.StaticObject.{StaticObject}
 use Rattle.graph_core.specs.Graphs.{static_view}
 use Rattle.graph_core.specs.Memory.{static_bytes}
 use Rattle.graph_core.specs.Validity.{taken_by}
-use Rattle.graph_homes.specs.Statics.{addresses_from}
+use Rattle.rv_emit_storage.specs.StaticAddresses.{addresses_from}
 use Rattle.rv_emit_storage.proofs.Offsets.{Found}
 use Rattle.rv_emit_storage.proofs.statics.placed_objects.Given as goal
 

@@ -2,7 +2,7 @@ use Rattle.std.proofs.Common.{◌≡◌, ◌-◌, ◌^◌, ◌++◌, ℕ, List, 
 use Rattle.std.specs.List.{flat_map}
 use Rattle.graph_core.specs.Graphs.{bytes_view}
 use Rattle.graph_core.specs.Validity.{taken_by}
-use Rattle.graph_homes.specs.Statics.{padded}
+use Rattle.rv_emit_storage.specs.StaticAddresses.{padded}
 use Rattle.rv_emit_storage.proofs.statics.push_arrays.Given as goal
 
 abbrev pub invariant-loop-left : goal.invariant-loop-left

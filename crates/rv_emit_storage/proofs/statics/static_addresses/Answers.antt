@@ -3,7 +3,7 @@ use Rattle.graph_core.specs.Graphs.{static_view, bytes_view, unit_view}
 use Rattle.graph_core.specs.Memory.{static_bytes}
 use Rattle.graph_core.specs.Validity.{taken_by, total}
 use Rattle.memory_map.specs.Maps.{bytes_start}
-use Rattle.graph_homes.specs.Statics.{addresses_from}
+use Rattle.rv_emit_storage.specs.StaticAddresses.{addresses_from}
 use Rattle.rv_emit_storage.proofs.Offsets.{placed_all, placed_parts}
 use Rattle.rv_emit_storage.proofs.statics.static_addresses.Goals as goal
 

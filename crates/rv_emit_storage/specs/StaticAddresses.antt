@@ -8,10 +8,12 @@ use Rattle.graph_core.specs.declared.unit.Relocation.{Relocation}
 use Rattle.graph_core.specs.Graphs.{StaticObject, UnitForm}
 use Rattle.graph_core.specs.Memory.{static_bytes}
 use Rattle.graph_core.specs.Validity.{taken_by}
+use Rattle.memory_map.specs.declared.map.Room.TheVariants.{Small}
+use Rattle.memory_map.specs.Maps.{bytes_start, map_of}
 
--- the address at which static storage begins: not to be computed with
+-- the address at which static storage begins, by the map of the memory: not to be computed with
 unfoldable pub statics_start : ℕ
-statics_start = 4194304
+statics_start = bytes_start (map_of Small)
 
 -- the addresses of things that take so many bytes, one behind the other
 abbrev pub addresses_from : (address : ℕ) → List ℕ → List ℕ
