@@ -24,3 +24,5 @@ pub mod Found
 pub mod Leading
 pub mod Shape
 pub mod LogsLittle
+pub mod FewCases
+pub mod LoggedWell

@@ -9,7 +9,7 @@ use Rattle.graph_core.specs.Paths.{Among}
 use Rattle.graph_core.specs.Validity.{markers_of}
 use Rattle.graph_core.specs.WellMarked.{IsVariable}
 
--- how many changes a pass logs at most
+-- how many changes a pass logs at most, by the room of the unit
 abbrev pub most_changes : Room → ℕ
 most_changes Small = 100000
 most_changes Large = 1000000
