@@ -1,3 +1,2 @@
 pub mod Shapes
-pub mod LogLonger
 pub mod LogsOne

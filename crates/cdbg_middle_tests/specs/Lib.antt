@@ -1,3 +1,4 @@
+pub mod LogLonger
 pub mod Examples
 pub mod Passed
 pub mod Passing

@@ -60,7 +60,8 @@ impl Pass for Logs {
             return Ok(next);
         };
         if let Some(scalar) = graph.scalars.first() {
-            next.log.push(self.name, Kind::Moved, graph.entry, scalar.var)?;
+            next.log
+                .push(self.name, Kind::Moved, graph.entry, scalar.var)?;
         }
         Ok(next)
     }

@@ -68,7 +68,9 @@ fn image_behind(
 }
 
 const COPY: &str = "cdbg compile --passes copy program.c image";
+
 const SAME_AND_COPY: &str = "cdbg compile --passes same,copy program.c image";
+
 const NONE: &str = "cdbg compile --passes none program.c image";
 
 #[test]
@@ -87,6 +89,9 @@ fn of_two_passes_of_a_name_the_first_is_taken(rt: HostRuntime) -> Result<(), Fai
     let first = image_behind(&rt, alloc, name_of(b"copy"), COPY)?;
     let copied = image_behind(&rt, alloc, name_of(b"same"), COPY)?;
     assert!(rt; !none.is_empty() && first.as_slice() == none.as_slice());
-    assert!(rt; copied.as_slice() != none.as_slice(), "copy propagation changes the image");
+    assert!(rt;
+        copied.as_slice() != none.as_slice(),
+        "copy propagation changes the image"
+    );
     Ok(())
 }

@@ -16,6 +16,7 @@ use Rattle.pass_law.specs.Keeps.{SameFunction, Keeps}
 use Rattle.pass_law.proofs.Keeping.{pairs_itself, function_itself, reached_itself}
 use Rattle.graph_core.proofs.Among.{among_longer}
 
+-- the unit with these changes behind its log
 abbrev pub with_changes : UnitForm → List Logged → UnitForm
 with_changes u added = record u { log = u.log ++ added }
 
@@ -24,6 +25,7 @@ all_map P Q f [] all = tt
 all_map P Q f (a ∷ more) all = (f a all.0, all_map P Q f more all.1)
 
 module _ (u : UnitForm) (added : List Logged) where
+  -- the unit with the longer log
   abbrev longer : UnitForm
   longer = with_changes u added
 
