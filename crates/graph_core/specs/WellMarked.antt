@@ -57,13 +57,13 @@ pub record WasSunk (log : List Logged) (variable : ℕ) : Type 0 where
   pub sunk : change.kind ≡ Sunk
   pub of : change.variable ≡ variable
 
--- In a place a scalar is written and noted in pairs: directly behind each instruction that writes it stands the scalar's own note, and each note of it there is its own and stands directly
--- behind an instruction that writes it. No call binds it there.
+-- In a place a scalar is written and noted in pairs: directly behind each instruction that writes it stands the scalar's own note, and each note of it there is its own and
+-- stands directly behind an instruction that writes it. No call binds it there.
 pub record ArePaired (g : Graph) (p x : ℕ) : Type 0 where
-  pub noted : (n : ℕ) (b : Block) (before rest : List Instruction) (i : Instruction) → slice_get g.blocks n ≡ Some b → b.instructions ≡ before ++ i ∷ rest → place_behind before b.place ≡ Some p → writes x i ≡ true
-      → (more : List Instruction) × (rest ≡ Note x (Is (Of (Name x))) ∷ more)
-  pub written : (n : ℕ) (b : Block) (before rest : List Instruction) (v : NoteValue) → slice_get g.blocks n ≡ Some b → b.instructions ≡ before ++ Note x v ∷ rest → place_behind before b.place ≡ Some p
-      → (v ≡ Is (Of (Name x))) × (front : List Instruction) × (i : Instruction) × (before ≡ front ++ i ∷ []) × (writes x i ≡ true)
+  pub noted : (n : ℕ) (b : Block) (before rest : List Instruction) (i : Instruction) → slice_get g.blocks n ≡ Some b → b.instructions ≡ before ++ i ∷ rest
+      → place_behind before b.place ≡ Some p → writes x i ≡ true → (more : List Instruction) × (rest ≡ Note x (Is (Of (Name x))) ∷ more)
+  pub written : (n : ℕ) (b : Block) (before rest : List Instruction) (v : NoteValue) → slice_get g.blocks n ≡ Some b → b.instructions ≡ before ++ Note x v ∷ rest
+      → place_behind before b.place ≡ Some p → (v ≡ Is (Of (Name x))) × (front : List Instruction) × (i : Instruction) × (before ≡ front ++ i ∷ []) × (writes x i ≡ true)
   pub unbound : p ≡ g.entry → is_bound x g.parameters ≡ false
 
 module _ (u : UnitForm) (g : Graph) where
@@ -71,7 +71,8 @@ module _ (u : UnitForm) (g : Graph) where
   abbrev pub MayStand : (p x variable : ℕ) → Type 0
   MayStand p x variable = (assigns u.assignments p variable ≡ true) ⊎ (WasSunk u.log variable × ArePaired g p x)
 
-  -- An instruction behind a history may read what another place wrote to a temporary: it writes a temporary that code motion made, or a scalar in a place that does not assign its variable.
+  -- An instruction behind a history may read what another place wrote to a temporary: it writes a temporary that code motion made, or a scalar in a place that does
+  -- not assign its variable.
   pub data ReadsAcross (h : History) (i : Instruction) : Type 0 where
     moved : (t : ℕ) → target_of i ≡ Some t → g.first_moved ≤ t → ReadsAcross h i
     sunk : (x variable p : ℕ) → target_of i ≡ Some x → IsVariable g x variable → place_of h ≡ Some p → assigns u.assignments p variable ≡ false → ReadsAcross h i
