@@ -4,7 +4,7 @@ use Rattle.places.specs.Flow.{can_go, assigns}
 use Rattle.debug_records.specs.Change.{is_taken}
 use Rattle.debug_records.specs.declared.change.Kind.TheVariants.{Sunk}
 use Rattle.graph_core.specs.Graphs.{Operand, Name, Of, Scalar, NoteValue, Is, Instruction, Marker, Note, Zero, CopyWords, End, Return, Block, Graph, Logged, UnitForm}
-use Rattle.graph_core.specs.Uses.{target_of, reads_of, reads_of_end, targets_of}
+use Rattle.graph_core.specs.Uses.{is_computation, target_of, reads_of, reads_of_end, targets_of}
 use Rattle.graph_core.specs.Paths.{History, Among, Path, place_of, writes, is_call, called, is_bound, written, unnoted, owed}
 use Rattle.graph_core.specs.Validity.{AreAllDifferent, IsValid, place_behind}
 use Rattle.graph_core.specs.Bounds.{most_words}
@@ -71,10 +71,10 @@ module _ (u : UnitForm) (g : Graph) where
   abbrev pub MayStand : (p x variable : ℕ) → Type 0
   MayStand p x variable = (assigns u.assignments p variable ≡ true) ⊎ (WasSunk u.log variable × ArePaired g p x)
 
-  -- An instruction behind a history may read what another place wrote to a temporary: it writes a temporary that code motion made, or a scalar in a place that does
-  -- not assign its variable.
+  -- An instruction behind a history may read what another place wrote to a temporary: it is a computation of a temporary that code motion made, or it writes a scalar
+  -- in a place that does not assign its variable.
   pub data ReadsAcross (h : History) (i : Instruction) : Type 0 where
-    moved : (t : ℕ) → target_of i ≡ Some t → g.first_moved ≤ t → ReadsAcross h i
+    moved : (t : ℕ) → target_of i ≡ Some t → g.first_moved ≤ t → is_computation i ≡ true → ReadsAcross h i
     sunk : (x variable p : ℕ) → target_of i ≡ Some x → IsVariable g x variable → place_of h ≡ Some p → assigns u.assignments p variable ≡ false → ReadsAcross h i
 
   -- A note is that of the scalar itself, in a place that writes it; or it stands in the place of an assignment of its variable that went, and does not write it any more.
