@@ -15,7 +15,7 @@ use std::alloc::{AllocError, Global};
 use std::process::Abort;
 use std::test::Fail;
 
-/// A pass that gives its unit back as a copy, by the name `same`.
+/// A pass that gives its unit back as a copy, by a name that it is given.
 #[derive(Drop)]
 struct Same {
     name: PassName,
