@@ -14,7 +14,7 @@ use Rattle.image_build.specs.Behind.{ComesOf}
 
 module _ {P : Type 0} (named : P → PassName) (steps : P → UnitForm → UnitForm → Type 0) (passes : List P) (names : List (List ℕ)) (p : ProgramTree) where
   -- what the names lead to from a unit that is built of the program comes of it
-  pub comes_by : {E : Type 0} (u : UnitForm) (made : Result (Option declared-unit.Unit) E) → IsBuilt p u → IfOk made (λ o. IfSome o (λ v. Lead named (λ pass. IsLawfulStep (steps pass)) passes names u (unit_view v))) → IfOk made (λ o. IfSome o (λ v. Keeps u (unit_view v)))
+  pub comes_by : {E : Type 0} (u : UnitForm) (made : Result (Option declared-unit.Unit) E) → IsBuilt p u → IfOk made (λ o. IfSome o (λ v. Lead named (λ pass. IsLawfulStep (named pass) (steps pass)) passes names u (unit_view v))) → IfOk made (λ o. IfSome o (λ v. Keeps u (unit_view v)))
       → IfOk made (λ o. IfSome o (λ v. ComesOf named steps passes names p (unit_view v)))
   comes_by u (Ok (Some v)) built led keeps = record { first = u; built = built; trail = trails named steps passes names u (unit_view v) led; keeps = keeps }
   comes_by u (Ok None) built led keeps = tt

@@ -13,12 +13,12 @@ use Rattle.cdbg_passes.specs.Trail.{IsOnTrail}
 module _ {P : Type 0} (named : P → PassName) (steps : P → UnitForm → UnitForm → Type 0) (passes : List P) (names : List (List ℕ)) (p : ProgramTree) where
   -- A UNIT COMES OF A PROGRAM behind passes: from one that is built of the program the names lead to it on a trail of
   -- units, each by a step of the first pass of that name; and it keeps what that one does. Each unit on the trail is
-  -- well marked and keeps what the one before does, each change that one of the program's passes logs is earned, and
-  -- what code motion makes is computationally optimal.
+  -- well marked and keeps what the one before does, each pass logs what a pass may, each change that one of the program's
+  -- passes logs is earned, and what code motion makes is computationally optimal.
   pub record ComesOf (u : UnitForm) : Type 0 where
     pub first : UnitForm
     pub built : IsBuilt p first
-    pub trail : Lead named (λ pass. IsOnTrail (steps pass)) passes names first u
+    pub trail : Lead named (λ pass. IsOnTrail (named pass) (steps pass)) passes names first u
     pub keeps : Keeps first u
 
   -- A UNIT WITH HOMES COMES OF A PROGRAM behind passes: but for its log it is a unit that does, and its log is that one's and behind it the changes of registers that are shared.
