@@ -16,7 +16,7 @@ use Rattle.graph_build_steps.specs.Drafts.{Made, Goal, To, Unused, Either, endin
 use Rattle.graph_build_code.specs.Code.{code}
 use Rattle.graph_build_statements.specs.Coding.{block_of, begun, going, label_for, with_end, branching}
 use Rattle.graph_build_runs.specs.Correspondence.{SameValue}
-use Rattle.graph_build_runs.proofs.Leads.{Setting, names_in, size_in, depth_in, Local, World, at, Leads, goes, stays, then_leads}
+use Rattle.graph_build_runs.proofs.Leads.{Setting, names_in, size_in, depth_in, Local, World, at, Leads, goes, stays, then_leads, in_block}
 use Rattle.graph_build_runs.proofs.Kept.{Since, Sound, Fits}
 use Rattle.graph_build_runs.proofs.Results.{EndsBy, Reached, to_made, Stuck, operand_in, ToR, UnusedR, EitherR}
 use Rattle.graph_build_runs.proofs.Typing.{HasKind, Keeps, Typed, KeepsTest, keeps_tested}
@@ -49,8 +49,8 @@ begun_above k t le = pick_between (names_in k.setting) (size_in k.setting) t (si
 -- a jump to a place, or the end that stands for none
 pub going_comes : (k : Activity) (c : Configuration) (es : List Event) (next : Option ℕ) (inner : List Block) (place : ℕ) (l : Local) (u : World)
     → Leads k.setting.unit c es (before_in k place (going (coding_in k) next inner).ops (going (coding_in k) next inner).end l u) u.seen → Comes k c es next place l u
-going_comes k c es (Some to) inner place l u leads = λ b is. then_leads leads (goes (ap (entered (before_in k place [] (Jump (block_of (coding_in k) to)) l u)) is) stays)
-going_comes k c es None inner place l u leads = leads
+going_comes k c es (Some to) inner place l u leads = λ b is. then_leads leads (goes (ap (entered (before_in k place [] (Jump (block_of (coding_in k) to)) l u) (block_of (coding_in k) to)) is) stays)
+going_comes k c es None inner place l u leads = (l.block, leads)
 
 -- the inner blocks stand without the end that stands for none
 pub end_front : (k : Activity) (at : ℕ) (next : Option ℕ) (inner : List Block) → Stands k.setting.graph k.setting.top (with_end (coding_in k) at next inner) → Stands k.setting.graph k.setting.top inner
@@ -59,9 +59,10 @@ end_front k at None inner h = closed_inner k.setting.graph k.setting.top (place_
 
 -- a label to branch to
 pub label_comes : (k : Activity) (c : Configuration) (es : List Event) (at : ℕ) (next : Option ℕ) (inner : List Block) (place : ℕ) (l : Local) (u : World) → Stands k.setting.graph k.setting.top (with_end (coding_in k) at next inner)
-    → ((b : Block) → slice_get k.setting.graph.blocks (label_for (coding_in k) next inner) ≡ Some b → Leads k.setting.unit c es (before_in k place b.instructions b.end l u) u.seen) → Comes k c es next place l u
+    → ((b : Block) → slice_get k.setting.graph.blocks (label_for (coding_in k) next inner) ≡ Some b → Leads k.setting.unit c es (before_in k place b.instructions b.end (in_block (label_for (coding_in k) next inner) l) u) u.seen) → Comes k c es next place l u
 label_comes k c es at (Some to) inner place l u st leads = leads
-label_comes k c es at None inner place l u st leads = leads (record { place = Some (place_at k at); instructions = []; end = Return None }) (closed_block k.setting.graph k.setting.top (place_at k at) (ends_with (Return None) inner) st)
+label_comes k c es at None inner place l u st leads =
+    (label_for (coding_in k) None inner, leads (record { place = Some (place_at k at); instructions = []; end = Return None }) (closed_block k.setting.graph k.setting.top (place_at k at) (ends_with (Return None) inner) st))
 
 -- how a run ends hangs on no place
 ends_anywhere : (k : Activity) (place : ℕ) (began : SourceMemory) (e : Ending) (s : State) (c : Configuration) (seen : List Event) → EndsBy (placed k place began) e s c seen → EndsBy k.setting e s c seen
@@ -130,9 +131,9 @@ module _ (k : Activity) (at : ℕ) (e : RvalueTree) (works : Works k (place_at k
 
   -- It is tested.
   pub test_runs : (one other : ℕ) (blocks : List Block) (if_so if_not : State → Outcome) → Inner (Either one other blocks) → Before (Either one other blocks)
-      → ((s2 : State) (l2 : Local) (u2 : World) → ((b : Block) → slice_get k.setting.graph.blocks one ≡ Some b → Leads k.setting.unit c es (before_in k (place_at k at) b.instructions b.end l2 u2) u2.seen) → Sound k.setting.program s2.memory s2 → Fits k.setting None s2 l2 u2 → Since s.memory s2.memory
+      → ((s2 : State) (l2 : Local) (u2 : World) → ((b : Block) → slice_get k.setting.graph.blocks one ≡ Some b → Leads k.setting.unit c es (before_in k (place_at k at) b.instructions b.end (in_block one l2) u2) u2.seen) → Sound k.setting.program s2.memory s2 → Fits k.setting None s2 l2 u2 → Since s.memory s2.memory
       → Runs k c es low high brought s2.memory w (if_so s2))
-      → ((s2 : State) (l2 : Local) (u2 : World) → ((b : Block) → slice_get k.setting.graph.blocks other ≡ Some b → Leads k.setting.unit c es (before_in k (place_at k at) b.instructions b.end l2 u2) u2.seen) → Sound k.setting.program s2.memory s2 → Fits k.setting None s2 l2 u2 → Since s.memory s2.memory
+      → ((s2 : State) (l2 : Local) (u2 : World) → ((b : Block) → slice_get k.setting.graph.blocks other ≡ Some b → Leads k.setting.unit c es (before_in k (place_at k at) b.instructions b.end (in_block other l2) u2) u2.seen) → Sound k.setting.program s2.memory s2 → Fits k.setting None s2 l2 u2 → Since s.memory s2.memory
       → Runs k c es low high brought s2.memory w (if_not s2))
       → Runs k c es low high brought s.memory w (choose (tested (evaluate (k.calls (place_at k at)) (depth_of (here_in k)) e s)) if_so if_not)
   test_runs one other blocks if_so if_not inner before go_yes go_no =

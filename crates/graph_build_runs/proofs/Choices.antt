@@ -18,9 +18,9 @@ use Rattle.graph_build_layout.specs.Layout.{laid}
 use Rattle.graph_build_names.specs.Writes.{writes}
 use Rattle.graph_build_steps.specs.Drafts.{Made, Goal, To, Unused, Either, use_of, ending, leaf, closed, label_of, forked}
 use Rattle.graph_build_runs.specs.Correspondence.{SameValue}
-use Rattle.graph_build_runs.proofs.Leads.{Setting, names_in, size_in, depth_in, Local, World, at, stays, goes, then_leads, less_other}
+use Rattle.graph_build_runs.proofs.Leads.{Setting, names_in, size_in, depth_in, Local, World, at, stays, goes, then_leads, less_other, in_block}
 use Rattle.graph_build_runs.proofs.Later.{others_refl}
-use Rattle.graph_build_runs.proofs.Kept.{is_want, Sound, Fits, ScalarsFirst, fits_unwanted}
+use Rattle.graph_build_runs.proofs.Kept.{is_want, Sound, Fits, ScalarsFirst, fits_unwanted, fits_in_block}
 use Rattle.graph_build_runs.proofs.Results.{Reached, Passes, to_label, to_made, Valued, ToR, EitherR, Result, ended_result, result_after, test_after, reached_weaker}
 use Rattle.graph_build_runs.proofs.Tests.{HasWord}
 use Rattle.graph_build_runs.proofs.Leaves.{leaf_done, left_stuck}
@@ -67,10 +67,11 @@ module _ (x : Setting) (calls : Calls) (low : ScalarsFirst x) (a b : RvalueTree)
         let stands = closed_block x.graph x.top x.place m st in
         let le = at_above in
         let from = from_above in
-        test_after x t (from_in g t) either_written (written_by x b) ops m.ops end m.end l h.local w h.world (h.leads (block_of x.place m) stands)
+        let l2 = in_block (label_of x.top m) h.local in
+        test_after x t (from_in g t) either_written (written_by x b) ops m.ops end m.end l l2 w h.world (h.leads (block_of x.place m) stands)
         (λ y lt nf. (let no = or_false (writes (names_in x) y a) (writes (names_in x) y b) nf in (omega (arith, lt, from), no.1, h.kept y (omega (arith, lt, le)) refl no.0))) h.later
         (forked x.place x.top g t).one (forked x.place x.top g t).other (tested (evaluate calls (depth_in x) b s1))
-        (does_b (from_in g t) (Either (forked x.place x.top g t).one (forked x.place x.top g t).other (forked x.place x.top g t).inner) s1 h.local h.world (omega (arith, size, from)) (closed_inner x.graph x.top x.place m st) left.sound h.fits tt)
+        (does_b (from_in g t) (Either (forked x.place x.top g t).one (forked x.place x.top g t).other (forked x.place x.top g t).inner) s1 l2 h.world (omega (arith, size, from)) (closed_inner x.graph x.top x.place m st) left.sound (fits_in_block x None s1 h.local h.world (label_of x.top m) h.fits) tt)
 
     -- the left one decides
     left_decides : (ops : List Instruction) (end : End) (s1 : State) (label : ℕ) → Reached x None (at_in g t) (written_by x a) l w (to_label x ops end l w label) s1 → Reached x None t either_written l w (to_label x ops end l w label) s1

@@ -15,7 +15,7 @@ use Rattle.graph_core.specs.Graphs.{Operand, Constant, Return}
 use Rattle.graph_core.specs.Runs.{Configuration, Event}
 use Rattle.graph_build_steps.specs.Drafts.{ending as ends_with}
 use Rattle.graph_build_runs.specs.Typed.{IsOf}
-use Rattle.graph_build_runs.proofs.Leads.{depth_in, Local, World}
+use Rattle.graph_build_runs.proofs.Leads.{depth_in, Local, World, in_block}
 use Rattle.graph_build_runs.proofs.Activities.{Activity, here_in, before_in}
 use Rattle.graph_build_runs.proofs.Outcomes.{Arrives, Leaving, HandsBack, Halts, Runs, Holding, GoesOn, grown_none}
 use Rattle.graph_build_runs.proofs.Living.{Grown, grown_trans, grown_wider}
@@ -76,7 +76,7 @@ module _ (k : Activity) (law : Lawful k) (close : Spot) (is_main : Bool) (scope 
   final_since c es before between (Ends e s) g r = r
 
   halts_here : (c : Configuration) (es : List Event) (brought : List ℕ) (before : SourceMemory) (s : State) → Arrives k c es low high brought before None s → Halts k c es ending.Undefined s
-  halts_here c es brought before s r = record { configuration = before_in k r.place [] (Return None) r.local r.world; seen = r.world.seen; leads = r.comes; ends = r.fits.events }
+  halts_here c es brought before s r = record { configuration = before_in k r.place [] (Return None) (in_block r.comes.0 r.local) r.world; seen = r.world.seen; leads = r.comes.1; ends = r.fits.events }
 
   -- The body of a function, and its closing brace where the flow reaches it.
   pub body_final : (reaches : Bool) (c : Configuration) (es : List Event) (brought : List ℕ) (before : SourceMemory) (o : Outcome) → (reaches ≡ true → Begins k (scope) close.at (λ t i. ends_with (Return (closing_operand is_main)) i)) → (reaches ≡ false → (s : State) → o ≡ Next s → ⊥)

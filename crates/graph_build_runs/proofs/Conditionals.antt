@@ -19,9 +19,9 @@ use Rattle.graph_build_names.specs.Writes.{writes}
 use Rattle.graph_build_steps.specs.Drafts.{Made, Goal, To, Unused, Either, ending, leaf, closed, label_of}
 use Rattle.graph_build_steps.specs.Steps.{arm_use, arm_value, arm_goal}
 use Rattle.graph_build_runs.specs.Correspondence.{SameValue}
-use Rattle.graph_build_runs.proofs.Leads.{Setting, names_in, size_in, depth_in, Local, World, at, Leads, stays, goes, then_leads, less_other}
+use Rattle.graph_build_runs.proofs.Leads.{Setting, names_in, size_in, depth_in, Local, World, at, Leads, stays, goes, then_leads, less_other, in_block}
 use Rattle.graph_build_runs.proofs.Later.{others_refl}
-use Rattle.graph_build_runs.proofs.Kept.{is_want, Sound, Fits, ScalarsFirst, fits_unwanted}
+use Rattle.graph_build_runs.proofs.Kept.{is_want, Sound, Fits, ScalarsFirst, fits_unwanted, fits_in_block}
 use Rattle.graph_build_runs.proofs.Results.{Reached, Passes, to_label, to_made, Stuck, Valued, ToR, EitherR, Result, ended_result, result_after, stuck_after}
 use Rattle.graph_build_runs.proofs.Tests.{HasWord}
 use Rattle.graph_build_runs.proofs.Leaves.{leaf_done}
@@ -41,15 +41,19 @@ module _ (x : Setting) (low : ScalarsFirst x) where
       let m = leaf g (Name own) in
       let e = Jump (label_of x.top m) in
       let r = h.reached in
-      result_after x t t f f ops m.ops end m.end l r.local w r.world (then_leads r.leads (goes (ap (entered (at x [] e r.local r.world)) stands) stays))
+      let there = label_of x.top m in
+      let l2 = in_block there r.local in
+      result_after x t t f f ops m.ops end m.end l l2 w r.world (then_leads r.leads (goes (ap (entered (at x [] e r.local r.world) there) stands) stays))
       (λ y lt nf. (lt, nf, r.kept y (omega (arith, lt, le)) (less_other y own (omega (arith, lt, above))) (spares y lt nf))) r.later g (Name own) (Gives v s)
-      (leaf_done x g (Name own) t f v s r.local r.world (fits_unwanted x s r.local r.world own low r.fits size) h.same (word v s refl))
+      (leaf_done x g (Name own) t f v s l2 r.world (fits_in_block x None s r.local r.world there (fits_unwanted x s r.local r.world own low r.fits size)) h.same (word v s refl))
   arm_ends g k own t t2 f f2 inner a ops end l w (Leaves s) le above size spares stands word h =
       let m = leaf g (Name own) in
       let e = Jump (label_of x.top m) in
-      result_after x t t f f ops m.ops end m.end l h.local w h.world (then_leads h.leads (goes (ap (entered (at x [] e h.local h.world)) stands) stays))
+      let there = label_of x.top m in
+      let l2 = in_block there h.local in
+      result_after x t t f f ops m.ops end m.end l l2 w h.world (then_leads h.leads (goes (ap (entered (at x [] e h.local h.world) there) stands) stays))
       (λ y lt nf. (lt, nf, h.kept y (omega (arith, lt, le)) (less_other y own (omega (arith, lt, above))) (spares y lt nf))) h.later g (Name own) (Leaves s)
-      (left_done x g (Name own) (Name own) t f s h.local h.world (fits_unwanted x s h.local h.world own low h.fits size))
+      (left_done x g (Name own) (Name own) t f s l2 h.world (fits_in_block x None s h.local h.world there (fits_unwanted x s h.local h.world own low h.fits size)))
   arm_ends g k own t t2 f f2 inner a ops end l w (Ends e s) le above size spares stands word h = ended_result x g (Name own) t f ops end l w e s h
 
 module _ (x : Setting) (calls : Calls) (low : ScalarsFirst x) (c a b : RvalueTree) (whole : is_void (type_of (names_in x).results a) ≡ false) (typed_c : Typed x calls c) (typed_a : Typed x calls a) (typed_b : Typed x calls b)
@@ -104,13 +108,14 @@ module _ (x : Setting) (calls : Calls) (low : ScalarsFirst x) (c a b : RvalueTre
         let goal = To (Some t) (ending (Jump (label_of x.top (join_in t g))) inner) in
         let k = code_in x e from goal in
         let stands_k = subst (λ z. slice_get x.graph.blocks (label_of x.top m) ≡ Some (block_of x.place z)) is stands in
-        result_after x t t all_written (written_by x e) (test_in t g).ops k.ops (test_in t g).end k.end l h.local w h.world (h.leads (block_of x.place k) stands_k)
+        let l2 = in_block (label_of x.top m) h.local in
+        result_after x t t all_written (written_by x e) (test_in t g).ops k.ops (test_in t g).end k.end l l2 w h.world (h.leads (block_of x.place k) stands_k)
         (λ y lt nf. (lt, spares y nf, h.kept y (omega (arith, lt)) refl (or_false (writes (names_in x) y c) (writes (names_in x) y a) (or_false (writes (names_in x) y c || writes (names_in x) y a) (writes (names_in x) y b) nf).0).0)) h.later g (Name t)
         (evaluate calls (depth_in x) e s1)
-        (arm_ends x low g (kind_of x.program x.tree e) t t from (written_by x e) (written_by x e) inner (value_in x e from) k.ops k.end h.local h.world (evaluate calls (depth_in x) e s1) (omega (arith, above)) (omega arith) size (λ y lt nf. nf)
+        (arm_ends x low g (kind_of x.program x.tree e) t t from (written_by x e) (written_by x e) inner (value_in x e from) k.ops k.end l2 h.world (evaluate calls (depth_in x) e s1) (omega (arith, above)) (omega arith) size (λ y lt nf. nf)
         (closed_block x.graph x.top x.place (join_in t g) join_stands)
         (λ v s2 e2. (let gave = subst (Keeps x.program x.begun s1.memory (kind_of x.program x.tree e)) e2 (typed_e s1 left.sound) in kind_word s2.memory (kind_of x.program x.tree e) v gave.is))
-        (does_e from goal s1 h.local h.world (omega (arith, size, above)) (subst (λ z. Stands x.graph x.top z.inner) is m_inner) left.sound h.fits (omega (arith, above), λ lt. absurd (omega (arith, lt, size)))))
+        (does_e from goal s1 l2 h.world (omega (arith, size, above)) (subst (λ z. Stands x.graph x.top z.inner) is m_inner) left.sound (fits_in_block x None s1 h.local h.world (label_of x.top m) h.fits) (omega (arith, above), λ lt. absurd (omega (arith, lt, size)))))
 
     spares_a : (y : ℕ) → all_written y ≡ false → writes (names_in x) y a ≡ false
     spares_a y nf = (or_false (writes (names_in x) y c) (writes (names_in x) y a) (or_false (writes (names_in x) y c || writes (names_in x) y a) (writes (names_in x) y b) nf).0).1

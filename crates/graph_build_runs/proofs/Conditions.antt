@@ -22,9 +22,9 @@ use Rattle.graph_build_names.specs.Writes.{writes}
 use Rattle.graph_build_steps.specs.Drafts.{Made, Goal, To, Unused, Either, use_of, leaf, closed, label_of, forked}
 use Rattle.graph_build_code.specs.Code.{code}
 use Rattle.graph_build_runs.specs.Correspondence.{SameValue}
-use Rattle.graph_build_runs.proofs.Leads.{Setting, names_in, size_in, depth_in, Local, World, set_name, at, Leads, stays, goes, then_leads, put_here, put_elsewhere, less_other}
+use Rattle.graph_build_runs.proofs.Leads.{Setting, names_in, size_in, depth_in, Local, World, set_name, at, Leads, stays, goes, then_leads, put_here, put_elsewhere, less_other, in_block}
 use Rattle.graph_build_runs.proofs.Later.{others_refl}
-use Rattle.graph_build_runs.proofs.Kept.{is_want, Sound, Fits, ScalarsFirst, fits_temporary}
+use Rattle.graph_build_runs.proofs.Kept.{is_want, Sound, Fits, ScalarsFirst, fits_temporary, fits_in_block}
 use Rattle.graph_build_runs.proofs.Results.{Reached, Passes, to_label, Stuck, EitherR, Result, ended_result, result_after, test_after, reached_weaker}
 use Rattle.graph_build_runs.proofs.Tests.{HasWord}
 use Rattle.graph_build_runs.proofs.Leaves.{leaf_done}
@@ -42,10 +42,11 @@ module _ (x : Setting) (low : ScalarsFirst x) (t : ℕ) (f : ℕ → Bool) (size
       let m = leaf g (Name t) in
       let e = Jump (label_of x.top m) in
       let l2 = set_name l t (Number z) in
-      result_after x t t f f (unit.Move t (unit.Constant z) ∷ []) m.ops e m.end l l2 w w
-      (goes refl (goes (ap (entered (at x [] e l2 w)) stands) stays))
+      let there = label_of x.top m in
+      result_after x t t f f (unit.Move t (unit.Constant z) ∷ []) m.ops e m.end l (in_block there l2) w w
+      (goes refl (goes (ap (entered (at x [] e l2 w) there) stands) stays))
       (λ y lt nf. (lt, nf, put_elsewhere l.names t y (Number z) (less_other y t lt))) (others_refl w.memory) g (Name t) (Gives (source.Number (pos z)) s)
-      (leaf_done x g (Name t) t f (source.Number (pos z)) s l2 w (fits_temporary x s l w t (Number z) low fits size) (put_here l.names t (Number z) ∙ ap Number (sym same)) word)
+      (leaf_done x g (Name t) t f (source.Number (pos z)) s (in_block there l2) w (fits_in_block x None s l2 w there (fits_temporary x s l w t (Number z) low fits size)) (put_here l.names t (Number z) ∙ ap Number (sym same)) word)
 
   -- from before a test to what follows its value, by an arm
   by_arm : (g : Goal) (z label : ℕ) (inner : List Block) (ops : List Instruction) (end : End) (l : Local) (w : World) (s : State) → HasWord (source.Number (pos z)) → word_of (pos z) ≡ z
@@ -54,8 +55,8 @@ module _ (x : Setting) (low : ScalarsFirst x) (t : ℕ) (f : ℕ → Bool) (size
       → Reached x None t f l w (to_label x ops end l w label) s → Result x g (Name t) t f ops end l w (Gives (source.Number (pos z)) s)
   by_arm g z label inner ops end l w s word same stands arm h =
       let b : Block = block_of x.place (record { ops = unit.Move t (unit.Constant z) ∷ []; end = Jump (label_of x.top (leaf g (Name t))); inner = inner }) in
-      result_after x t t f f ops b.instructions end b.end l h.local w h.world (h.leads b arm) (λ y lt nf. (lt, nf, h.kept y lt refl nf)) h.later g (Name t) (Gives (source.Number (pos z)) s)
-      (arm_done g z s h.local h.world h.fits word same stands)
+      result_after x t t f f ops b.instructions end b.end l (in_block label h.local) w h.world (h.leads b arm) (λ y lt nf. (lt, nf, h.kept y lt refl nf)) h.later g (Name t) (Gives (source.Number (pos z)) s)
+      (arm_done g z s (in_block label h.local) h.world (fits_in_block x None s h.local h.world label h.fits) word same stands)
 
   -- a goal that is a value: two arms stand
   valued_fork : (g : Goal) (ops : List Instruction) (end : End) (l : Local) (w : World) (r : Tested) → let m = leaf g (Name t) in

@@ -42,22 +42,22 @@ use Rattle.graph_build_runs.proofs.Parameters.{bindings}
 use Rattle.graph_build_runs.proofs.Entry.{noting, note_if, noted_as, noted_by, entry_made, EntryStands, Awaits, entered_memory, entered_names, entered_shadows, entered_source, known_name, fits_entered}
 
 -- The notes of parameters lead to what follows, with the shadows that they say.
-notes_lead : (k : Activity) (place : ℕ) (m : Made) (w : World) (names : ℕ → Value) (wants : Option ℕ) (count first : ℕ) (shadows : ℕ → Shadow) → ((v x : ℕ) → first ≤ v → v < first + count → scalar_of (names_in k.setting) v ≡ Some x → is_odd (names x) ≡ false) → (es : List Event)
-    → Leads k.setting.unit (before_in k place (noting (names_in k.setting) (numbers_from first count) m).ops (noting (names_in k.setting) (numbers_from first count) m).end (record { names = names; shadows = shadows; wants = wants }) w) es
-    (before_in k place m.ops m.end (record { names = names; shadows = noted_by (names_in k.setting) names (numbers_from first count) shadows; wants = wants }) w) es
-notes_lead k place m w names wants zero first shadows known es = stays
-notes_lead k place m w names wants (suc count) first shadows known es =
-    by (λ more. notes_lead k place m w names wants count (first + 1) more (λ v x le lt is. known v x (omega (arith, le)) (omega (arith, lt)) is) es) (scalar_of (names_in k.setting) first) refl
+notes_lead : (k : Activity) (place : ℕ) (m : Made) (w : World) (number : ℕ) (names : ℕ → Value) (wants : Option ℕ) (count first : ℕ) (shadows : ℕ → Shadow) → ((v x : ℕ) → first ≤ v → v < first + count → scalar_of (names_in k.setting) v ≡ Some x → is_odd (names x) ≡ false) → (es : List Event)
+    → Leads k.setting.unit (before_in k place (noting (names_in k.setting) (numbers_from first count) m).ops (noting (names_in k.setting) (numbers_from first count) m).end (record { block = number; names = names; shadows = shadows; wants = wants }) w) es
+    (before_in k place m.ops m.end (record { block = number; names = names; shadows = noted_by (names_in k.setting) names (numbers_from first count) shadows; wants = wants }) w) es
+notes_lead k place m w number names wants zero first shadows known es = stays
+notes_lead k place m w number names wants (suc count) first shadows known es =
+    by (λ more. notes_lead k place m w number names wants count (first + 1) more (λ v x le lt is. known v x (omega (arith, le)) (omega (arith, lt)) is) es) (scalar_of (names_in k.setting) first) refl
   where
-    by : ((more : ℕ → Shadow) → Leads k.setting.unit (before_in k place (noting (names_in k.setting) (numbers_from (first + 1) count) m).ops (noting (names_in k.setting) (numbers_from (first + 1) count) m).end (record { names = names; shadows = more; wants = wants }) w) es
-        (before_in k place m.ops m.end (record { names = names; shadows = noted_by (names_in k.setting) names (numbers_from (first + 1) count) more; wants = wants }) w) es)
+    by : ((more : ℕ → Shadow) → Leads k.setting.unit (before_in k place (noting (names_in k.setting) (numbers_from (first + 1) count) m).ops (noting (names_in k.setting) (numbers_from (first + 1) count) m).end (record { block = number; names = names; shadows = more; wants = wants }) w) es
+        (before_in k place m.ops m.end (record { block = number; names = names; shadows = noted_by (names_in k.setting) names (numbers_from (first + 1) count) more; wants = wants }) w) es)
         → (o : Option ℕ) → scalar_of (names_in k.setting) first ≡ o
-        → Leads k.setting.unit (before_in k place (note_if o (noting (names_in k.setting) (numbers_from (first + 1) count) m)).ops (note_if o (noting (names_in k.setting) (numbers_from (first + 1) count) m)).end (record { names = names; shadows = shadows; wants = wants }) w) es
-        (before_in k place m.ops m.end (record { names = names; shadows = noted_by (names_in k.setting) names (numbers_from (first + 1) count) (noted_as o names shadows); wants = wants }) w) es
+        → Leads k.setting.unit (before_in k place (note_if o (noting (names_in k.setting) (numbers_from (first + 1) count) m)).ops (note_if o (noting (names_in k.setting) (numbers_from (first + 1) count) m)).end (record { block = number; names = names; shadows = shadows; wants = wants }) w) es
+        (before_in k place m.ops m.end (record { block = number; names = names; shadows = noted_by (names_in k.setting) names (numbers_from (first + 1) count) (noted_as o names shadows); wants = wants }) w) es
     by rest None e = rest shadows
     by rest (Some x) e =
         let inner = noting (names_in k.setting) (numbers_from (first + 1) count) m in
-        let to = before_in k place inner.ops inner.end (record { names = names; shadows = put shadows x (Known (names x)); wants = wants }) w in
+        let to = before_in k place inner.ops inner.end (record { block = number; names = names; shadows = put shadows x (Known (names x)); wants = wants }) w in
         goes (ap (λ b. if b then Wild else Goes to) (known first x (omega arith) (omega arith) e)) (rest (put shadows x (Known (names x))))
 
 -- An activation begins with a configuration: the run comes to the body.
@@ -66,7 +66,7 @@ module _ (k : Activity) (law : Lawful k) (same_depth : length k.frames ≡ lengt
     (same : SameValues k.setting.program s.memory others vs ws) where
   -- the activation as it begins
   abbrev first_local : List UnitBinding → Local
-  first_local all = record { names = bind_names all ws (λ x. Odd); shadows = λ x. Gone; wants = None }
+  first_local all = record { block = 0; names = bind_names all ws (λ x. Odd); shadows = λ x. Gone; wants = None }
 
   abbrev first_world : List UnitBinding → List ℕ → List Event → World
   first_world all input seen = record { memory = bind_objects (length others) all ws (with_objects (depth_in k.setting) k.setting.graph others); input = input; seen = seen }
@@ -87,12 +87,12 @@ module _ (k : Activity) (law : Lawful k) (same_depth : length k.frames ≡ lengt
       let names = entered_names k law same_depth entry s others begins waits held vs ws are same in
       let shadows = entered_shadows k law same_depth entry s others begins waits held vs ws are same in
       let w : World = record { memory = entered_memory k law same_depth entry s others begins waits held vs ws are same; input = input; seen = seen } in
-      let l : Local = record { names = names; shadows = shadows; wants = None } in
+      let l : Local = record { block = 0; names = names; shadows = shadows; wants = None } in
       let there = subst (λ b. Leads k.setting.unit c es (begins_at b input seen) seen) entry.parameters leads in
       let behind : Configuration = before_in k entry_place made.ops made.end (first_local all) w in
       let marks : step k.setting.unit (begins_at all input seen) ≡ Goes behind = ap (λ b. if b then Goes behind else Shows (Stop (frame behind.here ∷ map frame behind.waiting) behind.memory) behind) (same_number entry_place) in
       let goal = going (coding_in k) (start_of_all k.setting.tree.body (ways_of_body k.setting.tree).next) entry.inner in
-      let notes = notes_lead k entry_place goal w names None k.setting.tree.parameters k.setting.tree.first_variable (λ x. Gone) (λ v x le lt is. known_name k law same_depth entry s others begins waits held vs ws are same v x le lt is) seen in
+      let notes = notes_lead k entry_place goal w 0 names None k.setting.tree.parameters k.setting.tree.first_variable (λ x. Gone) (λ v x le lt is. known_name k law same_depth entry s others begins waits held vs ws are same v x le lt is) seen in
       record {
         place = entry_place;
         local = l;

@@ -359,7 +359,7 @@ module _ (k : Activity) (law : Lawful k) (same_depth : length k.frames ≡ lengt
 
   -- What runs keep is kept where the body begins.
   pub fits_entered : Later s.memory entered_source → OthersLater k.setting.objects others → (input : List ℕ) → input ≡ s.input → (seen : List Event) → Pairs (SameEvent P k.setting.unit) s.events seen
-      → Fits k.setting None (record s { memory = entered_source }) (record { names = entered_names; shadows = entered_shadows; wants = None }) (record { memory = entered_memory; input = input; seen = seen })
+      → Fits k.setting None (record s { memory = entered_source }) (record { block = 0; names = entered_names; shadows = entered_shadows; wants = None }) (record { memory = entered_memory; input = input; seen = seen })
   fits_entered later before input same_input seen events = record {
     own = record {
       scalars = λ v x m o named at owner live. scalar_now later v x m o named at owner live;

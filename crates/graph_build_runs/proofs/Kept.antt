@@ -21,7 +21,7 @@ use Rattle.event_runs.specs.Agreement.{Pairs}
 use Rattle.graph_build_runs.specs.Typed.{AreTyped, OwnersDiffer}
 use Rattle.graph_build_runs.specs.Stops.{AreDeclared}
 use Rattle.graph_build_runs.specs.Correspondence.{variable_of, SameObject, SameValue, SameValues, IsInMemory, SameEvent, AreBytes}
-use Rattle.graph_build_runs.proofs.Leads.{Setting, names_in, size_in, depth_in, Local, World, set_name, put_elsewhere, less_other}
+use Rattle.graph_build_runs.proofs.Leads.{Setting, names_in, size_in, depth_in, Local, World, set_name, put_elsewhere, less_other, in_block}
 use Rattle.graph_build_runs.proofs.Later.{Later, StillThere, OthersLater, OtherThere, value_later, values_later, object_later}
 
 -- A memory that went on from another, in which whatever began since then has ended.
@@ -128,6 +128,10 @@ pub record Fits (x : Setting) (want : Option ℕ) (s : State) (l : Local) (w : W
 pub fits_local : (x : Setting) (want other : Option ℕ) (s : State) (l m : Local) (w : World) → Fits x want s l w → Own x.program (names_in x) other s.memory w.memory (depth_in x) x.first m.names m.shadows → Fits x other s m w
 fits_local x want other s l m w f own =
     record { own = own; outer = f.outer; placed = f.placed; differ = f.differ; above = f.above; later = f.later; statics = f.statics; input = f.input; events = f.events }
+
+-- what is kept hangs on no block
+pub fits_in_block : (x : Setting) (want : Option ℕ) (s : State) (l : Local) (w : World) (number : ℕ) → Fits x want s l w → Fits x want s (in_block number l) w
+fits_in_block x want s l w number f = fits_local x want want s l (in_block number l) w f f.own
 
 -- a name is written that is no scalar's, or the one that is excepted
 pub own_set : (p : ProgramTree) (n : Names) (want : Option ℕ) (memory : SourceMemory) (others : Memory) (depth first : ℕ) (names : ℕ → Value) (shadows : ℕ → Shadow) (j : ℕ) (w : Value) →

@@ -42,6 +42,7 @@ depth_in x = length x.waiting + 1
 
 -- what changes of an activation as it runs
 pub record Local : Type 0 where
+  pub block : ℕ
   pub names : ℕ → Value
   pub shadows : ℕ → Shadow
   pub wants : Option ℕ
@@ -55,12 +56,17 @@ pub record World : Type 0 where
 abbrev pub set_name : Local → ℕ → Value → Local
 set_name l k v = record l { names = put l.names k v }
 
+-- an activation that has come to a block
+abbrev pub in_block : (number : ℕ) → Local → Local
+in_block number l = record l { block = number }
+
 -- the activation before some instructions
 abbrev pub here_at : Setting → List Instruction → End → Local → Activation
 here_at x ops end l = record {
   function = x.function;
   graph = x.graph;
   place = x.place;
+  block = l.block;
   names = l.names;
   shadows = l.shadows;
   first_object = x.first;

@@ -26,9 +26,9 @@ use Rattle.graph_build_runs.proofs.Tests.{HasWord, test_value}
 pub test_done : (x : Setting) (t : ℕ) (f : ℕ → Bool) (e : End) (l : Local) (w : World) (s : State) (b : Bool) (one other : ℕ) → Fits x None s l w
     → step x.unit (at x [] e l w) ≡ branched (at x [] e l w) (Some b) one other → EitherR x one other t f [] e l w (by_truth b s)
 test_done x t f e l w s true one other fits goes_by =
-    record { local = l; world = w; leads = λ b is. goes (goes_by ∙ ap (entered (at x [] e l w)) is) stays; fits = fits; kept = λ y lt nw nf. refl; later = others_refl w.memory }
+    record { local = l; world = w; leads = λ b is. goes (goes_by ∙ ap (entered (at x [] e l w) one) is) stays; fits = fits; kept = λ y lt nw nf. refl; later = others_refl w.memory }
 test_done x t f e l w s false one other fits goes_by =
-    record { local = l; world = w; leads = λ b is. goes (goes_by ∙ ap (entered (at x [] e l w)) is) stays; fits = fits; kept = λ y lt nw nf. refl; later = others_refl w.memory }
+    record { local = l; world = w; leads = λ b is. goes (goes_by ∙ ap (entered (at x [] e l w) other) is) stays; fits = fits; kept = λ y lt nw nf. refl; later = others_refl w.memory }
 
 -- a value that stands in an operand is tested
 tested_done : (x : Setting) (one other : ℕ) (a : Operand) (t : ℕ) (f : ℕ → Bool) (v : source-value.Value) (s : State) (l : Local) (w : World) → Fits x None s l w

@@ -15,17 +15,22 @@ use Rattle.graph_build_statements.specs.Coding.{block_of}
 use Rattle.graph_build_runs.specs.Typed.{IsOf}
 use Rattle.graph_build_runs.specs.Stops.{StaticsLive}
 use Rattle.graph_build_runs.specs.Correspondence.{SameValue}
-use Rattle.graph_build_runs.proofs.Leads.{depth_in, Local, World, Leads}
+use Rattle.graph_build_runs.proofs.Leads.{depth_in, Local, World, Leads, in_block}
 use Rattle.graph_build_runs.proofs.Kept.{Since, Sound, Fits}
 use Rattle.graph_build_runs.proofs.Results.{EndsBy}
 use Rattle.graph_build_runs.proofs.Activities.{Activity, coding_in, before_in}
 use Rattle.graph_build_runs.proofs.Living.{statics_later, AllLive, all_later, FramesAre, frames_later, Under, under_grown, Grown, grown_same, grown_since, grown_wider, grown_trans}
 use Rattle.graph_build_runs.proofs.Fading.{sound_closed, fits_closed, since_closed, value_faded, of_faded}
 
--- A run comes to the block of a place, or where there is no place to go to, to the end that stands for none.
+-- A run comes to the block of a place, or where there is no place to go to, to the end that stands for none, in whichever block.
 abbrev pub Comes : Activity → Configuration → List Event → (next : Option ℕ) → (place : ℕ) → Local → World → Type 0
-Comes k c es (Some at) place l w = (b : Block) → slice_get k.setting.graph.blocks (block_of (coding_in k) at) ≡ Some b → Leads k.setting.unit c es (before_in k place b.instructions b.end l w) w.seen
-Comes k c es None place l w = Leads k.setting.unit c es (before_in k place [] (Return None) l w) w.seen
+Comes k c es (Some at) place l w = (b : Block) → slice_get k.setting.graph.blocks (block_of (coding_in k) at) ≡ Some b → Leads k.setting.unit c es (before_in k place b.instructions b.end (in_block (block_of (coding_in k) at) l) w) w.seen
+Comes k c es None place l w = (number : ℕ) × Leads k.setting.unit c es (before_in k place [] (Return None) (in_block number l) w) w.seen
+
+-- from whichever block
+pub comes_from_block : (k : Activity) (c : Configuration) (es : List Event) (next : Option ℕ) (place : ℕ) (l : Local) (w : World) (number : ℕ) → Comes k c es next place (in_block number l) w → Comes k c es next place l w
+comes_from_block k c es (Some at) place l w number comes = comes
+comes_from_block k c es None place l w number comes = comes
 
 -- The block of a place stands, if there is a place to go to.
 abbrev pub There : Activity → Option ℕ → Type 0
@@ -207,5 +212,5 @@ module _ (k : Activity) (c : Configuration) (es : List Event) where
 
 -- A run that has come to where something begins has shown what the program's has.
 pub halts_there : (k : Activity) (c : Configuration) (es : List Event) (begin : Option ℕ) (place : ℕ) (l : Local) (u : World) (s : State) → There k begin → Comes k c es begin place l u → Fits k.setting None s l u → Halts k c es ending.Turns s
-halts_there k c es (Some at) place l u s there comes fits = record { configuration = before_in k place there.0.instructions there.0.end l u; seen = u.seen; leads = comes there.0 there.1; ends = fits.events }
-halts_there k c es None place l u s there comes fits = record { configuration = before_in k place [] (Return None) l u; seen = u.seen; leads = comes; ends = fits.events }
+halts_there k c es (Some at) place l u s there comes fits = record { configuration = before_in k place there.0.instructions there.0.end (in_block (block_of (coding_in k) at) l) u; seen = u.seen; leads = comes there.0 there.1; ends = fits.events }
+halts_there k c es None place l u s there comes fits = record { configuration = before_in k place [] (Return None) (in_block comes.0 l) u; seen = u.seen; leads = comes.1; ends = fits.events }

@@ -113,7 +113,7 @@ module _ (p : ProgramTree) (u : UnitForm) (all_are : FunctionsAre p u) where
 
     -- the activation that begins, where the call is not looked at
     abbrev any_waiting : Activation
-    any_waiting = here_at (placed (caller left) place began) [] (Return None) (record { names = λ y. Odd; shadows = λ y. Gone; wants = None })
+    any_waiting = here_at (placed (caller left) place began) [] (Return None) (record { block = 0; names = λ y. Odd; shadows = λ y. Gone; wants = None })
 
     abbrev begins_in : (n : ℕ) (b : TypedFunctionTree) → FunctionIs p u n b → (first2 : ℕ) → Activation → Memory → (m : ℕ) → Activity
     begins_in n b fb first2 a objects2 m = activity_of p u n b fb.graph fb.again fb.top first2 (a ∷ ws) objects2 (frame_here ∷ frames) m

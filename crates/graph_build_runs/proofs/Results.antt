@@ -21,7 +21,7 @@ use Rattle.graph_build_steps.specs.Drafts.{Made, Goal, To, Unused, Either, befor
 use Rattle.event_runs.specs.Agreement.{Pairs}
 use Rattle.graph_build_runs.specs.Stops.{IsStatus}
 use Rattle.graph_build_runs.specs.Correspondence.{SameValue, SameEvent}
-use Rattle.graph_build_runs.proofs.Leads.{Setting, size_in, Local, World, set_name, at, Leads, stays, goes, then_leads, put_here, put_elsewhere, less_other}
+use Rattle.graph_build_runs.proofs.Leads.{Setting, size_in, Local, World, set_name, at, Leads, stays, goes, then_leads, put_here, put_elsewhere, less_other, in_block}
 use Rattle.graph_build_runs.proofs.Later.{OthersLater, others_refl, others_trans}
 use Rattle.graph_build_runs.proofs.Kept.{is_want, Fits, ScalarsFirst, fits_temporary, fits_wanted}
 
@@ -48,7 +48,7 @@ to_made x ops end l w m l' w' = Passes x ops end l w m.ops m.end l' w'
 
 -- to the block with a label
 abbrev pub to_label : Setting → List Instruction → End → Local → World → ℕ → Local → World → Type 0
-to_label x ops end l w label l' w' = (b : Block) → slice_get x.graph.blocks label ≡ Some b → Passes x ops end l w b.instructions b.end l' w'
+to_label x ops end l w label l' w' = (b : Block) → slice_get x.graph.blocks label ≡ Some b → Passes x ops end l w b.instructions b.end (in_block label l') w'
 
 -- How a run ends there as the source's does.
 abbrev pub EndsBy : Setting → Ending → State → Configuration → List Event → Type 0

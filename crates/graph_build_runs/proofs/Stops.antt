@@ -24,7 +24,7 @@ use Rattle.graph_build_statements.specs.Coding.{block_of}
 use Rattle.event_runs.specs.Agreement.{Pairs}
 use Rattle.graph_build_runs.specs.Stops.{AreDeclared, StaticsLive, IsStopOf}
 use Rattle.graph_build_runs.specs.Correspondence.{variable_of, SameMemory, ShadowIs, SameFrame, SameFrames, SameEvent, stop}
-use Rattle.graph_build_runs.proofs.Leads.{names_in, depth_in, Local, World, Leads, stays, shows, then_leads}
+use Rattle.graph_build_runs.proofs.Leads.{names_in, depth_in, Local, World, Leads, stays, shows, then_leads, in_block}
 use Rattle.graph_build_runs.proofs.Later.{some_same}
 use Rattle.graph_build_runs.proofs.Kept.{Sound, ScalarsFirst, Own, Outer, ArePlaced, Fits}
 use Rattle.graph_build_runs.proofs.Noting.{ScalarsApart}
@@ -176,12 +176,13 @@ pub place_begins : (k : Activity) → Lawful k → (scope : List ℕ) (spot : Sp
 place_begins k law scope spot m is here low high brought w go inside c es place l u s comes sound fits h = by s.turns
   where
     by : (turns : ℕ) → Runs k c es low high brought s.memory w (on_begun (elim turns [ zero ↦ activations.NoTurn s | suc left ↦ activations.Goes (stopped (here_in k) spot.at (record s { turns = left })) ]) go)
-    by zero = record { configuration = before_in k place (Marker (place_at k spot.at) ∷ m.ops) m.end l u; seen = u.seen; leads = comes (block_at k spot.at m) is; ends = fits.events }
+    by zero = record { configuration = before_in k place (Marker (place_at k spot.at) ∷ m.ops) m.end (in_block (block_of (coding_in k) spot.at) l) u; seen = u.seen; leads = comes (block_at k spot.at m) is; ends = fits.events }
     by (suc left) =
-        let to = before_in k (place_at k spot.at) m.ops m.end l u in
+        let l2 = in_block (block_of (coding_in k) spot.at) l in
+        let to = before_in k (place_at k spot.at) m.ops m.end l2 u in
         let e = Stop (frame to.here ∷ map frame k.setting.waiting) u.memory in
-        let stops : step k.setting.unit (before_in k place (Marker (place_at k spot.at) ∷ m.ops) m.end l u) ≡ Shows e to = ap (λ b. if b then Goes to else Shows e to) here.stops in
-        inside c es l (record u { seen = u.seen ++ e ∷ [] }) (stopped (here_in k) spot.at (record s { turns = left })) (then_leads (comes (block_at k spot.at m) is) (shows stops stays))
+        let stops : step k.setting.unit (before_in k place (Marker (place_at k spot.at) ∷ m.ops) m.end l2 u) ≡ Shows e to = ap (λ b. if b then Goes to else Shows e to) here.stops in
+        inside c es l2 (record u { seen = u.seen ++ e ∷ [] }) (stopped (here_in k) spot.at (record s { turns = left })) (then_leads (comes (block_at k spot.at m) is) (shows stops stays))
         (record { typed = sound.typed; differ = sound.differ; declared = sound.declared; single = sound.single; bytes = sound.bytes; since = sound.since })
         (record {
           own = fits.own;

@@ -33,14 +33,14 @@ use Rattle.graph_build_statements.specs.Coding.{begun, label_for, with_end, code
 use Rattle.graph_build_statements.specs.Forms.{tests, default_start}
 use Rattle.graph_build_runs.specs.Typed.{IsOf}
 use Rattle.graph_build_runs.specs.Correspondence.{SameValue}
-use Rattle.graph_build_runs.proofs.Leads.{names_in, Local, World, Leads, goes, stays, then_leads}
+use Rattle.graph_build_runs.proofs.Leads.{names_in, Local, World, Leads, goes, stays, then_leads, in_block}
 use Rattle.graph_build_runs.proofs.Kept.{Sound, Fits}
 use Rattle.graph_build_runs.proofs.Typing.{HasKind}
 use Rattle.graph_build_runs.proofs.Standing.{Stands, closed_inner, closed_block}
 use Rattle.graph_build_runs.proofs.Compares.{branch_compares}
 use Rattle.graph_build_runs.proofs.Growing.{grows}
 use Rattle.graph_build_runs.proofs.Activities.{Activity, coding_in, here_in, place_at, placed, before_in}
-use Rattle.graph_build_runs.proofs.Outcomes.{Comes, Runs, Holding, holding_since, GoesOn, switch_runs}
+use Rattle.graph_build_runs.proofs.Outcomes.{Comes, Runs, Holding, holding_since, GoesOn, switch_runs, comes_from_block}
 use Rattle.graph_build_runs.proofs.Stops.{Lawful, place_begins}
 use Rattle.graph_build_runs.proofs.AtPlaces.{Works, Begins, begun_above, going_comes, end_front, label_comes, value_runs}
 
@@ -72,25 +72,26 @@ module _ (k : Activity) (at : ℕ) (a : Operand) where
 
   module _ (t : IntegerType) (promoted : is_promoted t ≡ true) (z : ℤ) (is : holds (integer t) z ≡ true) (c : Configuration) (es : List Event) (l : Local) (u : World) (given : value k.setting.unit.statics l.names a ≡ Number (word_of z)) where
     -- The tests lead to the label of a number, or to where `default` leads.
-    pub tests_lead : (all : TypedStatementTrees) (next other : Option ℕ) (inner : List Block) → AreLabels t all → Stands k.setting.graph k.setting.top (tests (coding_in k) at a all next other inner).inner
-        → Leads k.setting.unit c es (before_in k (place_at k at) (tests (coding_in k) at a all next other inner).ops (tests (coding_in k) at a all next other inner).end l u) u.seen
+    pub tests_lead : (number : ℕ) (all : TypedStatementTrees) (next other : Option ℕ) (inner : List Block) → AreLabels t all → Stands k.setting.graph k.setting.top (tests (coding_in k) at a all next other inner).inner
+        → Leads k.setting.unit c es (before_in k (place_at k at) (tests (coding_in k) at a all next other inner).ops (tests (coding_in k) at a all next other inner).end (in_block number l) u) u.seen
         → Comes k c es (if has_case z all then case_start z all next else other) (place_at k at) l u
-    tests_lead none next other inner labels st leads = going_comes k c es other inner (place_at k at) l u leads
-    tests_lead (first s rest) next other inner labels st leads = tests_lead rest next other inner labels st leads
-    tests_lead (default rest) next other inner labels st leads = tests_lead rest next other inner labels st leads
-    tests_lead (case j rest) next other inner labels st leads =
+    tests_lead number none next other inner labels st leads = comes_from_block k c es other (place_at k at) l u number (going_comes k c es other inner (place_at k at) (in_block number l) u leads)
+    tests_lead number (first s rest) next other inner labels st leads = tests_lead number rest next other inner labels st leads
+    tests_lead number (default rest) next other inner labels st leads = tests_lead number rest next other inner labels st leads
+    tests_lead number (case j rest) next other inner labels st leads =
         let to = start_of_all rest next in
         let ends = with_end (coding_in k) at to inner in
         let m = tests (coding_in k) at a rest next other ends in
         let inner_st = closed_inner k.setting.graph k.setting.top (place_at k at) m st in
         let end = Branch branch.Equal a (Constant (word_of j)) (label_for (coding_in k) to inner) (label_of k.setting.top m) in
-        let compares = branch_compares t promoted z j is labels.0 (placed k (place_at k at) []) Equal a (Constant (word_of j)) (label_for (coding_in k) to inner) (label_of k.setting.top m) l u given refl in
-        by (is_same_number z j) compares (λ leads2. tests_lead rest next other ends labels.1 inner_st leads2) inner_st
+        let compares = branch_compares t promoted z j is labels.0 (placed k (place_at k at) []) Equal a (Constant (word_of j)) (label_for (coding_in k) to inner) (label_of k.setting.top m) (in_block number l) u given refl in
+        by (is_same_number z j) compares (λ leads2. tests_lead (label_of k.setting.top m) rest next other ends labels.1 inner_st leads2) inner_st
       where
-        by : (same : Bool) → step k.setting.unit (before_in k (place_at k at) [] (Branch branch.Equal a (Constant (word_of j)) (label_for (coding_in k) (start_of_all rest next) inner) (label_of k.setting.top (tests (coding_in k) at a rest next other (with_end (coding_in k) at (start_of_all rest next) inner)))) l u)
-            ≡ branched (before_in k (place_at k at) [] (Branch branch.Equal a (Constant (word_of j)) (label_for (coding_in k) (start_of_all rest next) inner) (label_of k.setting.top (tests (coding_in k) at a rest next other (with_end (coding_in k) at (start_of_all rest next) inner)))) l u) (Some same)
+        by : (same : Bool) → step k.setting.unit (before_in k (place_at k at) [] (Branch branch.Equal a (Constant (word_of j)) (label_for (coding_in k) (start_of_all rest next) inner) (label_of k.setting.top (tests (coding_in k) at a rest next other (with_end (coding_in k) at (start_of_all rest next) inner)))) (in_block number l) u)
+            ≡ branched (before_in k (place_at k at) [] (Branch branch.Equal a (Constant (word_of j)) (label_for (coding_in k) (start_of_all rest next) inner) (label_of k.setting.top (tests (coding_in k) at a rest next other (with_end (coding_in k) at (start_of_all rest next) inner)))) (in_block number l) u) (Some same)
             (label_for (coding_in k) (start_of_all rest next) inner) (label_of k.setting.top (tests (coding_in k) at a rest next other (with_end (coding_in k) at (start_of_all rest next) inner)))
-            → (Leads k.setting.unit c es (before_in k (place_at k at) (tests (coding_in k) at a rest next other (with_end (coding_in k) at (start_of_all rest next) inner)).ops (tests (coding_in k) at a rest next other (with_end (coding_in k) at (start_of_all rest next) inner)).end l u) u.seen
+            → (Leads k.setting.unit c es (before_in k (place_at k at) (tests (coding_in k) at a rest next other (with_end (coding_in k) at (start_of_all rest next) inner)).ops (tests (coding_in k) at a rest next other (with_end (coding_in k) at (start_of_all rest next) inner)).end
+            (in_block (label_of k.setting.top (tests (coding_in k) at a rest next other (with_end (coding_in k) at (start_of_all rest next) inner))) l) u) u.seen
             → Comes k c es (if has_case z rest then case_start z rest next else other) (place_at k at) l u)
             → Stands k.setting.graph k.setting.top (tests (coding_in k) at a rest next other (with_end (coding_in k) at (start_of_all rest next) inner)).inner
             → Comes k c es (if same || has_case z rest then (if same then start_of_all rest next else case_start z rest next) else other) (place_at k at) l u
@@ -99,12 +100,12 @@ module _ (k : Activity) (at : ℕ) (a : Operand) where
             let m = tests (coding_in k) at a rest next other ends in
             let end = Branch branch.Equal a (Constant (word_of j)) (label_for (coding_in k) (start_of_all rest next) inner) (label_of k.setting.top m) in
             label_comes k c es at (start_of_all rest next) inner (place_at k at) l u (tests_front rest next other ends inner_st)
-            (λ b is_b. then_leads leads (goes (goes_by ∙ ap (entered (before_in k (place_at k at) [] end l u)) is_b) stays))
+            (λ b is_b. then_leads leads (goes (goes_by ∙ ap (entered (before_in k (place_at k at) [] end (in_block number l) u) (label_for (coding_in k) (start_of_all rest next) inner)) is_b) stays))
         by false goes_by later inner_st =
             let ends = with_end (coding_in k) at (start_of_all rest next) inner in
             let m = tests (coding_in k) at a rest next other ends in
             let end = Branch branch.Equal a (Constant (word_of j)) (label_for (coding_in k) (start_of_all rest next) inner) (label_of k.setting.top m) in
-            later (then_leads leads (goes (goes_by ∙ ap (entered (before_in k (place_at k at) [] end l u)) (closed_block k.setting.graph k.setting.top (place_at k at) m st)) stays))
+            later (then_leads leads (goes (goes_by ∙ ap (entered (before_in k (place_at k at) [] end (in_block number l) u) (label_of k.setting.top m)) (closed_block k.setting.graph k.setting.top (place_at k at) m st)) stays))
 
 -- what has a promoted integer type is a number of it
 pub number_tested : (kind : Kind) (t : IntegerType) → tested_type kind ≡ Some t → (memory : SourceMemory) (v : source-value.Value) → HasKind memory kind v → (is_promoted t ≡ true) × ((z : ℤ) × (v ≡ source.Number z) × (holds (integer t) z ≡ true))
@@ -153,7 +154,7 @@ module _ (k : Activity) (law : Lawful k) (scope : List ℕ) (low : ℕ) (w : Way
       (let n = number_tested (kind_of k.setting.program k.setting.tree e) t tested s2.memory v kind in
       let is : v ≡ source.Number n.1.0 = n.1.1 in
       let given : value k.setting.unit.statics l2.names tested_in ≡ Number (word_of n.1.0) = subst (λ q. SameValue k.setting.program s2.memory u2.memory q (value k.setting.unit.statics l2.names tested_in)) is same in
-      let to = tests_lead k spot.at tested_in t n.0 n.1.0 n.1.2 c es l2 u2 given all w.next (default_start all w.next) b.inner labels stands leads2 in
+      let to = tests_lead k spot.at tested_in t n.0 n.1.0 n.1.2 c es l2 u2 given l2.block all w.next (default_start all w.next) b.inner labels stands leads2 in
       subst (λ q. Runs k c es low low [] s2.memory w (go_by q s2)) (sym is)
       (switch_runs k c es low s2.memory w (by_label (has_case n.1.0 all) (case_go n.1.0) default_go s2)
       (labelled_runs n.1.0 c es l2 u2 s2 (has_case n.1.0 all) to sound2 fits2 (holding_since k scope low s.memory s2.memory h since))))))

@@ -17,8 +17,8 @@ use Rattle.graph_build_layout.specs.Layout.{laid}
 use Rattle.graph_build_names.specs.Writes.{writes}
 use Rattle.graph_build_steps.specs.Drafts.{Made, Goal, Unused, Either, ending, zero as zero_operand, leaf, closed, label_of}
 use Rattle.graph_build_steps.specs.Steps.{arm_use, arm_value, arm_goal}
-use Rattle.graph_build_runs.proofs.Leads.{Setting, names_in, size_in, depth_in, Local, World, at, stays, goes, then_leads}
-use Rattle.graph_build_runs.proofs.Kept.{Sound, Fits, ScalarsFirst}
+use Rattle.graph_build_runs.proofs.Leads.{Setting, names_in, size_in, depth_in, Local, World, at, stays, goes, then_leads, in_block}
+use Rattle.graph_build_runs.proofs.Kept.{Sound, Fits, ScalarsFirst, fits_in_block}
 use Rattle.graph_build_runs.proofs.Results.{UnusedR, Reached, to_label, EitherR, Result, ended_result, result_after}
 use Rattle.graph_build_runs.proofs.Sequences.{left_done}
 use Rattle.graph_build_runs.proofs.Typing.{HasKind, Keeps, Left, KeepsTest, keeps_tested, Typed}
@@ -85,8 +85,10 @@ module _ (x : Setting) (calls : Calls) (low : ScalarsFirst x) (c a b : RvalueTre
         let m = join_in g in
         let stands = closed_block x.graph x.top x.place m join_stands in
         let e = Jump (label_of x.top m) in
-        result_after x t t f (λ y. false) ops m.ops end m.end l1 h.local w1 h.world (then_leads h.leads (goes (ap (entered (at x [] e h.local h.world)) stands) stays))
-        (λ y lt nf. (lt, refl, h.kept y (omega (arith, lt, le)) refl nf)) h.later g (Constant 0) (Leaves s1) (left_done x g (Constant 0) zero_operand t (λ y. false) s1 h.local h.world h.fits)
+        let there = label_of x.top m in
+        let l2 = in_block there h.local in
+        result_after x t t f (λ y. false) ops m.ops end m.end l1 l2 w1 h.world (then_leads h.leads (goes (ap (entered (at x [] e h.local h.world) there) stands) stays))
+        (λ y lt nf. (lt, refl, h.kept y (omega (arith, lt, le)) refl nf)) h.later g (Constant 0) (Leaves s1) (left_done x g (Constant 0) zero_operand t (λ y. false) s1 l2 h.world (fits_in_block x None s1 h.local h.world there h.fits))
     arm_ends k before_memory from f inner ops end l1 w1 (Ends c1 s1) le nothing keeps h = ended_result x g (Constant 0) t f ops end l1 w1 c1 s1 h
 
     -- behind the condition an arm runs
@@ -98,11 +100,12 @@ module _ (x : Setting) (calls : Calls) (low : ScalarsFirst x) (c a b : RvalueTre
         let goal = Unused (to_join g inner) in
         let k = code_in x e from goal in
         let stands_k = subst (λ z. slice_get x.graph.blocks (label_of x.top m) ≡ Some (block_of x.place z)) is stands in
-        result_after x t t all_written (written_by x e) (test_in t g).ops k.ops (test_in t g).end k.end l h.local w h.world (h.leads (block_of x.place k) stands_k)
+        let l2 = in_block (label_of x.top m) h.local in
+        result_after x t t all_written (written_by x e) (test_in t g).ops k.ops (test_in t g).end k.end l l2 w h.world (h.leads (block_of x.place k) stands_k)
         (λ y lt nf. (lt, spares y nf, h.kept y lt refl (or_false (writes (names_in x) y c) (writes (names_in x) y a) (or_false (writes (names_in x) y c || writes (names_in x) y a) (writes (names_in x) y b) nf).0).0)) h.later g (Constant 0)
         (evaluate calls (depth_in x) e s1)
-        (arm_ends (kind_of x.program x.tree e) s1.memory from (written_by x e) inner k.ops k.end h.local h.world (evaluate calls (depth_in x) e s1) above nothing (typed_e s1 left.sound)
-        (does_e from goal s1 h.local h.world (omega (arith, size, above)) (subst (λ z. Stands x.graph x.top z.inner) is m_inner) left.sound h.fits tt))
+        (arm_ends (kind_of x.program x.tree e) s1.memory from (written_by x e) inner k.ops k.end l2 h.world (evaluate calls (depth_in x) e s1) above nothing (typed_e s1 left.sound)
+        (does_e from goal s1 l2 h.world (omega (arith, size, above)) (subst (λ z. Stands x.graph x.top z.inner) is m_inner) left.sound (fits_in_block x None s1 h.local h.world (label_of x.top m) h.fits) tt))
 
     spares_a : (y : ℕ) → all_written y ≡ false → writes (names_in x) y a ≡ false
     spares_a y nf = (or_false (writes (names_in x) y c) (writes (names_in x) y a) (or_false (writes (names_in x) y c || writes (names_in x) y a) (writes (names_in x) y b) nf).0).1
