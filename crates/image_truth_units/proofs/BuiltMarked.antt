@@ -32,6 +32,7 @@ both u time notes k g is = (let t = time k g is in let n = notes k g is in recor
   copies = t.copies;
   zeroes_first = t.zeroes_first;
   copies_first = t.copies_first;
+  variables = n.variables;
   written_where = n.written_where;
   noted_where = n.noted_where;
   noted = n.noted;

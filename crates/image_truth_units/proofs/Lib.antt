@@ -66,6 +66,7 @@ pub mod Graphs
 pub mod Placing
 pub mod Assigning
 pub mod Notes
+pub mod ScalarVariables
 pub mod Positions
 pub mod Sure
 pub mod Fitting

@@ -1,11 +1,11 @@
 -- What is left to be shown of a unit that is built of its program for it to be well marked: how its places write, note and call.
-use Rattle.std.proofs.Common.{◌≡◌, ◌≢◌, ℕ, ◌≤◌, inl, true, false, Option, Some, List, [], ◌∷◌, slice_get, sym, subst}
+use Rattle.std.proofs.Common.{◌≡◌, ◌≢◌, ℕ, ◌≤◌, inl, true, false, Option, Some, List, [], ◌∷◌, map, slice_get, sym, subst}
 use Rattle.places.specs.Flow.{assigns}
-use Rattle.graph_core.specs.Graphs.{Operand, Name, Of, NoteValue, Is, Instruction, Marker, Note, Zero, CopyWords, End, Return, Graph, Logged, UnitForm}
+use Rattle.graph_core.specs.Graphs.{Operand, Name, Of, Scalar, NoteValue, Is, Instruction, Marker, Note, Zero, CopyWords, End, Return, Graph, Logged, UnitForm}
 use Rattle.graph_core.specs.Uses.{reads_of, reads_of_end}
 use Rattle.graph_core.specs.Paths.{History, Among, Path, place_of, is_call, called, written, unnoted, owed}
 use Rattle.graph_core.specs.Bounds.{most_words}
-use Rattle.graph_core.specs.Validity.{IsValid}
+use Rattle.graph_core.specs.Validity.{AreAllDifferent, IsValid}
 use Rattle.graph_core.specs.WellMarked.{InPlace, WrittenIn, IsVariable, IsLocal, IsWellMarked, AreWellMarked}
 use Rattle.graph_build_laws.specs.Following.{FollowsFlow, FollowFlow}
 
@@ -17,6 +17,7 @@ pub record KeepsPlaces (u : UnitForm) (g : Graph) : Type 0 where
   pub copies : (p object bytes words : ℕ) → InPlace g p (CopyWords object bytes words) → words ≤ most_words
   pub zeroes_first : (h : History) (n : ℕ) (object words : ℕ) (rest : List Instruction) (e : End) → Path g h n (Zero object words ∷ rest) e → called h ≡ false
   pub copies_first : (h : History) (n : ℕ) (object bytes words : ℕ) (rest : List Instruction) (e : End) → Path g h n (CopyWords object bytes words ∷ rest) e → called h ≡ false
+  pub variables : AreAllDifferent (map (λ (s : Scalar). s.variable) g.scalars)
   pub written_where : (p x variable : ℕ) → IsVariable g x variable → WrittenIn g p x → assigns u.assignments p variable ≡ true
   pub noted_where : (p x variable : ℕ) (v : NoteValue) → IsVariable g x variable → InPlace g p (Note x v) → assigns u.assignments p variable ≡ true
   pub noted : (h : History) (n : ℕ) (p x variable : ℕ) (rest : List Instruction) (e : End) → IsVariable g x variable → Path g h n (Marker p ∷ rest) e → owed (λ q. assigns u.assignments q variable) x h ≡ false
@@ -43,13 +44,14 @@ well_marked u g follows keeps = record {
   copies = keeps.copies;
   zeroes_first = keeps.zeroes_first;
   copies_first = keeps.copies_first;
-  written_where = keeps.written_where;
-  noted_where = keeps.noted_where;
+  variables = keeps.variables;
+  written_where = λ p x variable is there. inl (keeps.written_where p x variable is there);
+  noted_where = λ p x variable v is there. inl (keeps.noted_where p x variable v is there);
   noted = keeps.noted;
   right = λ h n p x variable v rest e of way there. inl (keeps.right h n p x variable v rest e of way there);
   behind_write = keeps.behind_write;
   calls = keeps.calls;
-  local = keeps.local;
+  local = λ h n i t rest e is way there. inl (keeps.local h n i t rest e is way there);
   local_at_end = keeps.local_at_end;
 }
 

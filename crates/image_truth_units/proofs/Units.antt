@@ -12,13 +12,14 @@ use Rattle.graph_core.specs.Graphs as unit
 use Rattle.graph_core.specs.Paths.{History, Among, front, behind, Path, owed}
 use Rattle.graph_core.specs.Validity.{IsGraph, IsValid}
 use Rattle.graph_core.specs.WellMarked.{IsVariable}
-use Rattle.graph_build.specs.Units.{IsUnitOf, graph_of}
+use Rattle.graph_build.specs.Units.{IsUnitOf, scalars_among, variables_in, function_coding, graph_of}
 use Rattle.graph_build_laws.proofs.Accepted.{facts_of}
 use Rattle.image_truth_units.specs.Notes.{KeepsNotes, KeepNotes}
 use Rattle.image_truth_units.proofs.Assigning.{HasAssignments, of_scalar}
 use Rattle.image_truth_units.proofs.Noted.{HasOnly, nothing_owed}
 use Rattle.image_truth_units.proofs.Notes.{of_function, of_variable, within, counted, written_where, noted_where, right, behind_write, calls, local, local_at_end}
 use Rattle.image_truth_units.proofs.Placing.{got_one}
+use Rattle.image_truth_units.proofs.ScalarVariables.{all_different}
 
 -- The unit of a well-formed program, which is valid and has the program's assignments and no others, keeps notes.
 pub keep_notes : (p : ProgramTree) (u : UnitForm) → IsWellFormed p → IsUnitOf p u → HasAssignments p u → HasOnly p u → IsValid u → KeepNotes u
@@ -32,7 +33,9 @@ keep_notes p u well is has only valid k g at =
     λ h n q y variable rest e is_variable way. (
     let s = of_scalar p u has k f x.is (within p u facts has k f x.is main v) main y variable is_variable in
     subst (λ w. owed (λ r. assigns u.assignments r w) y h ≡ false) s.number (nothing_owed p u facts only k f x.is main (counted p u facts has k f x.is main v) y s.own (of_variable p u facts has k f x.is main v y variable is_variable) s.named h n q rest e way)) in
+    let n = (function_coding p f main).names in
     subst (KeepsNotes u) x.same (record {
+      variables = all_different p f n (function_coding p f main).entry (scalars_among n (variables_in f)) f.first_variable f.variables;
       written_where = written_where p u facts has k f x.is main v;
       noted_where = noted_where p u facts has k f x.is main v;
       noted = owes;
