@@ -27,7 +27,7 @@ abbrev pub Comes : Activity → Configuration → List Event → (next : Option 
 Comes k c es (Some at) place l w = (b : Block) → slice_get k.setting.graph.blocks (block_of (coding_in k) at) ≡ Some b → Leads k.setting.unit c es (before_in k place b.instructions b.end (in_block (block_of (coding_in k) at) l) w) w.seen
 Comes k c es None place l w = (number : ℕ) × Leads k.setting.unit c es (before_in k place [] (Return None) (in_block number l) w) w.seen
 
--- from whichever block
+-- Where a run comes to hangs on no block that it comes from.
 pub comes_from_block : (k : Activity) (c : Configuration) (es : List Event) (next : Option ℕ) (place : ℕ) (l : Local) (w : World) (number : ℕ) → Comes k c es next place (in_block number l) w → Comes k c es next place l w
 comes_from_block k c es (Some at) place l w number comes = comes
 comes_from_block k c es None place l w number comes = comes
