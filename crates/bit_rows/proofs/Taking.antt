@@ -1,15 +1,15 @@
 -- What it does to rows to write one of them anew by the words of another table.
-use Rattle.std.proofs.Common.{◌≡◌, ℕ, zero, suc, ◌+◌, ◌-◌, ◌*◌, ◌/◌, ◌%◌, ◌^◌, ◌<◌, ◌≤◌, ◌==◌, ◌⊎◌, inl, inr, Bool, true, false, if◌then◌else◌, List, [], ◌∷◌, length, map, get_or, refl, sym, ap, ◌∙◌, subst, arith}
+use Rattle.std.proofs.Common.{◌≡◌, ℕ, zero, suc, ◌+◌, ◌-◌, ◌*◌, ◌/◌, ◌%◌, ◌^◌, ◌<◌, ◌≤◌, ◌==◌, ◌⊎◌, ◌↔◌, inl, inr, not, Bool, true, false, true≢false, if◌then◌else◌, List, [], ◌∷◌, length, map, get_or, refl, sym, ap, ◌∙◌, subst, arith}
 use Rattle.std.proofs.Math.ListN.{set}
 use Rattle.std.specs.Int.{bit_at}
 use Rattle.std.specs.List.{range_with_len}
 use Rattle.std.proofs.lemmas.Bool.{cases_eq, cases_lt, eq-eqb, ne_eqb}
 use Rattle.std.proofs.lemmas.Nat.{div_below, div-mul-add, mod-mul-add, mod_below, div-add-mod', row_fits, or_lt}
 use Rattle.std.proofs.lemmas.Nat.Bits.{bit_at-lt, same_from_bits_below}
-use Rattle.std.proofs.lemmas.List.{get_or-set_same, get_or-set_other, length-set, same_lists, get_or_default}
+use Rattle.std.proofs.lemmas.List.{get_or-set_same, get_or-set_other, length-set, set-get_or, same_lists, get_or_default}
 use Rattle.bit_rows.specs.Grid.{row_at, joined, with_word}
 use Rattle.bit_rows.specs.Words.{bit_in, row_in, rows_in, AreRows, met_word}
-use Rattle.bit_rows.proofs.Bits.{at_index, same_made, joined_made, row_within, row_seen, row_is, rows_after, still_rows_after, same_bit, width_is}
+use Rattle.bit_rows.proofs.Bits.{at_index, same_made, joined_made, row_within, row_seen, row_is, words_within, rows_after, still_rows_after, same_bit, width_is}
 
 pub joined_first : (xs ys : List Bool) → length xs ≡ length ys → joined (λ a b. a) xs ys ≡ xs
 joined_first [] ys e = refl
@@ -58,9 +58,9 @@ module _ (words : List ℕ) (stride width rows : ℕ) (are : AreRows words strid
       at_word k (inr ge) (inr more) = apart k (inr more)
 
   -- and where bits stay, so do words
-  pub same_bits : (new_are : AreRows new stride width rows) → ((k : ℕ) → get_or words k 0 < 2 ^ 64) → ((k : ℕ) → k < stride → get_or new (to * stride + k) 0 < 2 ^ 64) → rows_in new stride width rows ≡ view
+  pub same_bits : (new_are : AreRows new stride width rows) → ((k : ℕ) → k < stride → get_or words (to * stride + k) 0 < 2 ^ 64) → ((k : ℕ) → k < stride → get_or new (to * stride + k) 0 < 2 ^ 64) → rows_in new stride width rows ≡ view
       → (k : ℕ) → k < stride → get_or new (to * stride + k) 0 ≡ get_or words (to * stride + k) 0
-  same_bits new_are fit fits same k lt = same_from_bits_below 64 _ _ (fits k lt) (fit (to * stride + k)) (λ i less.
+  same_bits new_are fit fits same k lt = same_from_bits_below 64 _ _ (fits k lt) (fit k lt) (λ i less.
       let c = k * 64 + i in
       let bit = same_there c (omega (arith, row_fits k 64 stride 64 lt (omega arith))) in
       same_bit _ _ (bit_at-lt _ i) (bit_at-lt _ i) (subst (λ j. (bit_at (get_or new (to * stride + k) 0) j == 1) ≡ (bit_at (get_or words (to * stride + k) 0) j == 1)) (mod-mul-add k 64 i less)
@@ -74,6 +74,58 @@ module _ (words : List ℕ) (stride width rows : ℕ) (are : AreRows words strid
         | inl low ↦ sym (at_index (bit_in new stride to) width c false low) ∙ ap (λ bs. get_or bs c false) same_row ∙ at_index (bit_in words stride to) width c false low
         | inr over ↦ new_are.unused to c within over inside ∙ sym (are.unused to c within over inside)
       ]
+
+same_number : (a b : ℕ) → not (a == b) ≡ false → a ≡ b
+same_number a b e = elim (cases_eq a b) [ inl q ↦ q | inr ne ↦ absurd (true≢false (sym (ap not (ne_eqb a b ne)) ∙ e)) ]
+
+-- rows of one word each
+module _ (words : List ℕ) (stride width rows : ℕ) (are : AreRows words stride width rows) (view : List (List Bool)) (seen : rows_in words stride width rows ≡ view) (one : stride ≡ 1) (to : ℕ) (to_in : to < length view) where
+  here : to * stride ≡ to
+  here = omega (arith, ap (λ s. to * s) one)
+
+  pub one_within : to < length words
+  one_within = omega (arith, words_within words stride width rows are view seen to to_in, here, one)
+
+  -- one of them with the word of another table
+  module _ (other : List ℕ) (row : ℕ) (word : ℕ → ℕ → ℕ) (w : ℕ) (is : w ≡ word (get_or other row 0) (get_or words to 0)) where
+    one_apart : (j : ℕ) → (j < to * stride) ⊎ (to * stride + stride ≤ j) → get_or (set words to w) j 0 ≡ get_or words j 0
+    one_apart j out = get_or-set_other words to j w 0 (differs out)
+      where
+        differs : (j < to * stride) ⊎ (to * stride + stride ≤ j) → j ≡ to → ⊥
+        differs (inl less) q = omega (arith, q, less, here)
+        differs (inr more) q = omega (arith, q, more, here, one)
+
+    one_all : (k : ℕ) → k < stride → get_or (set words to w) (to * stride + k) 0 ≡ word (get_or other (row * stride + k) 0) (get_or words (to * stride + k) 0)
+    one_all k lt =
+        let at_to : to * stride + k ≡ to = omega (arith, here, one, lt) in
+        let at_row : row * stride + k ≡ row = omega (arith, ap (λ s. row * s) one, one, lt) in
+        ap (λ j. get_or (set words to w) j 0) at_to ∙ get_or-set_same words to w 0 one_within ∙ is
+        ∙ ap (λ j. word (get_or other j 0) (get_or words to 0)) (sym at_row) ∙ ap (λ j. word (get_or other (row * stride + k) 0) (get_or words j 0)) (sym at_to)
+
+    module _ (other_rows : ℕ) (other_view : List (List Bool)) (other_are : AreRows other stride width other_rows) (other_seen : rows_in other stride width other_rows ≡ other_view) (row_in_other : row < length other_view)
+        (bit : Bool → Bool → Bool) (word_bit : (a b i : ℕ) → (bit_at (word a b) i == 1) ≡ bit (bit_at a i == 1) (bit_at b i == 1)) (clear : bit false false ≡ false) where
+      pub one_rows : AreRows (set words to w) stride width rows
+      one_rows = taken_rows words stride width rows are view seen (set words to w) (length-set words to w) to to_in one_apart
+          other row other_rows other_view other_are other_seen row_in_other word bit word_bit clear one_all
+
+      pub one_view : rows_in (set words to w) stride width rows ≡ set view to (joined bit (row_at other_view row) (row_at view to))
+      one_view = taken_view words stride width rows are view seen (set words to w) (length-set words to w) to to_in one_apart
+          other row other_rows other_view other_are other_seen row_in_other word bit word_bit clear one_all
+
+      -- the word stays where the rows do
+      pub one_same : (b : ℕ) → b ≡ get_or words to 0 → b < 2 ^ 64 → w < 2 ^ 64 → (not (w == b) ≡ false) ↔ (rows_in (set words to w) stride width rows ≡ view)
+      one_same b was fit fits = (
+        (λ e. ap (λ ws. rows_in ws stride width rows) (ap (set words to) (same_number w b e ∙ was) ∙ set-get_or words to 0) ∙ seen),
+        (λ e.
+            let zeroth : to * stride + 0 ≡ to = omega (arith, here) in
+            ap not (eq-eqb w b (sym (get_or-set_same words to w 0 one_within) ∙ ap (λ j. get_or (set words to w) j 0) (sym zeroth)
+            ∙ same_bits words stride width rows are view seen (set words to w) (length-set words to w) to to_in one_apart one_rows
+                (λ k lt. subst (λ j. get_or words j 0 < 2 ^ 64) (let q : to ≡ to * stride + k = omega (arith, here, one, lt) in q) (subst (λ n. n < 2 ^ 64) was fit))
+                (λ k lt. subst (λ j. get_or (set words to w) j 0 < 2 ^ 64) (let q : to ≡ to * stride + k = omega (arith, here, one, lt) in q)
+                  (subst (λ n. n < 2 ^ 64) (sym (get_or-set_same words to w 0 one_within)) fits))
+                e 0 (omega (arith, one))
+            ∙ ap (λ j. get_or words j 0) zeroth ∙ sym was))),
+      )
 
 pub met_fits : (a b : ℕ) → a < 2 ^ 64 → b < 2 ^ 64 → met_word true a b < 2 ^ 64
 met_fits a b p q = or_lt 64 a b p q

@@ -118,6 +118,12 @@ impl Rows {
         ensures met { self.new ≡ slice_set self.old to (met true (row_at other.now row) (row_at self.old to)) }
         ensures changed { (result ≡ false) ↔ (self.new ≡ self.old) }
     {
+        if self.stride == 1 {
+            let before = self.words[to as usize];
+            let after = other.words[row as usize] | before;
+            self.words[to as usize] = after;
+            return after != before;
+        }
         let to = to as usize * self.stride;
         let row = row as usize * self.stride;
         add_words(&mut self.words, to, &other.words, row, self.stride)
@@ -130,6 +136,10 @@ impl Rows {
         requires width { length (row_at other.now row) ≡ length (row_at self.old to) }
         ensures { self.new ≡ slice_set self.old to (row_at other.now row) }
     {
+        if self.stride == 1 {
+            self.words[to as usize] = other.words[row as usize];
+            return;
+        }
         let to = to as usize * self.stride;
         let row = row as usize * self.stride;
         copy_words(&mut self.words, to, &other.words, row, self.stride);

@@ -1,5 +1,5 @@
 -- Steps of a flood: they bring no more than ways do, and where nothing is new all is closed.
-use Rattle.std.proofs.Common.{◌≡◌, ℕ, ◌+◌, ◌-◌, ◌*◌, ◌<◌, ◌≤◌, ◌||◌, ◌⊎◌, inl, inr, Bool, true, false, true≢false, Some, List, length, refl, sym, ap, ◌∙◌, subst, arith}
+use Rattle.std.proofs.Common.{◌≡◌, ℕ, ◌+◌, ◌-◌, ◌*◌, ◌<◌, ◌≤◌, ◌||◌, ◌⊎◌, inl, inr, if◌then◌else◌, Bool, true, false, true≢false, Some, List, length, refl, sym, ap, ◌∙◌, subst, arith}
 use Rattle.std.specs.Prelude.{slice_get}
 use Rattle.std.proofs.lemmas.Bool.{cases_eq}
 use Rattle.std.proofs.lemmas.Option.{slice_get_within, same_Some}
@@ -8,7 +8,7 @@ use Rattle.graph_core.specs.Uses.{targets_of}
 use Rattle.graph_core.specs.Paths.{Among}
 use Rattle.graph_paths.specs.declared.marks.Marks.{Marks}
 use Rattle.graph_paths.specs.PathMarksTable.{bits_of, told}
-use Rattle.graph_paths.specs.Flood.{HasEdge, FlowsBy, Course, Flows, IsBrought, begun, handed, Bits, AreBrought, AreTables, AreSameBut, AreSame, IsStep, source, sink, IsClosedAlong, IsClosedAt}
+use Rattle.graph_paths.specs.Flood.{HasEdge, FlowsBy, Course, Flows, IsBrought, begun, handed, Bits, AreBrought, AreTables, AreSameBut, AreSame, IsStep, source, sink, IsClosedAlong, IsClosedAt, block_at}
 use Rattle.graph_paths.proofs.Told.{few_told}
 
 or_second : (a b : Bool) → b ≡ true → (a || b) ≡ true
@@ -143,11 +143,12 @@ module _ (c : Course) where
   closed_on a b a1 b1 r step quiet from to closed fact lt e =
       step.quiet_comes quiet (sink c.forward from to) fact ∙ closed fact lt (sym (step.quiet_leaves quiet (source c.forward from to) fact) ∙ e)
 
-  pub closed_more : (a b a1 b1 : Marks) (r s : Bool) (number : ℕ) → IsStep c a b a1 b1 s → (r || s) ≡ false → (r ≡ false → (n : ℕ) → n < number → IsClosedAt c n (bits_of a) (bits_of b)) → (s ≡ false → IsClosedAt c number (bits_of a1) (bits_of b1))
-      → (n : ℕ) → n < number + 1 → IsClosedAt c n (bits_of a1) (bits_of b1)
-  closed_more a b a1 b1 r s number step e before here n lt = elim (cases_eq n number) [
-    | inl same ↦ subst (λ k. IsClosedAt c k (bits_of a1) (bits_of b1)) (sym same) (here (neither r s e).1)
-    | inr other ↦ λ to edge. closed_on a b a1 b1 s step (neither r s e).1 n to (before (neither r s e).0 n (omega (arith, lt, other)) to edge)
+  -- the same of the blocks of so many turns
+  pub closed_more : (a b a1 b1 : Marks) (r s : Bool) (at : ℕ → ℕ) (turn : ℕ) → IsStep c a b a1 b1 s → (r || s) ≡ false → (r ≡ false → (k : ℕ) → k < turn → IsClosedAt c (at k) (bits_of a) (bits_of b))
+      → (s ≡ false → IsClosedAt c (at turn) (bits_of a1) (bits_of b1)) → (k : ℕ) → k < turn + 1 → IsClosedAt c (at k) (bits_of a1) (bits_of b1)
+  closed_more a b a1 b1 r s at turn step e before here k lt = elim (cases_eq k turn) [
+    | inl same ↦ subst (λ j. IsClosedAt c (at j) (bits_of a1) (bits_of b1)) (sym same) (here (neither r s e).1)
+    | inr other ↦ λ to edge. closed_on a b a1 b1 s step (neither r s e).1 (at k) to (before (neither r s e).0 k (omega (arith, lt, other)) to edge)
   ]
 
   -- a step along an edge, where something is new
@@ -186,8 +187,22 @@ module _ (c : Course) where
     spare_leaves = λ row bit _. refl;
   }
 
--- rounds end
-pub falls : (old new : Marks) → new.count ≡ old.count → new.width ≡ old.width → told old < told new → new.count * new.width - told new < old.count * old.width - told old
-falls old new same_count same_width more =
-    let size : new.count * new.width ≡ old.count * old.width = ap (λ n. n * new.width) same_count ∙ ap (λ n. old.count * n) same_width in
-    omega (arith, size, more, few_told new)
+-- each block gets its turn
+pub all_turns : (P : ℕ → Type 0) (forward : Bool) (count : ℕ) → ((k : ℕ) → k < count → P (block_at forward count k)) → (n : ℕ) → n < count → P n
+all_turns P true count all n lt = all n lt
+all_turns P false count all n lt = subst P (let e : count - 1 - (count - 1 - n) ≡ n = omega (arith, lt) in e) (all (count - 1 - n) (omega (arith, lt)))
+
+-- rounds end: each turn of them tells more, or is the last one
+module _ (c : Course) (a b a1 b1 a2 b2 : Marks) (r s : Bool) (one : IsStep c a b a1 b1 r) (other : IsStep c a1 b1 a2 b2 s) where
+  room : a2.count * a2.width ≡ a.count * a.width
+  room = ap (λ n. n * a2.width) (other.comes_count ∙ one.comes_count) ∙ ap (λ n. a.count * n) (other.comes_width ∙ one.comes_width)
+
+  pub falls : a2.count * a2.width - told a2 + (if s then 1 else 0) < a.count * a.width - told a + 1
+  falls = elim (cases s refl) [
+    | inl new ↦ subst (λ t. a2.count * a2.width - told a2 + (if t then 1 else 0) < a.count * a.width - told a + 1) (sym new) (let h = other.more new in omega (arith, room, one.least, h, few_told a2))
+    | inr quiet ↦ subst (λ t. a2.count * a2.width - told a2 + (if t then 1 else 0) < a.count * a.width - told a + 1) (sym quiet) (omega (arith, room, one.least, other.least, few_told a2))
+  ]
+    where
+      cases : (t : Bool) → s ≡ t → (s ≡ true) ⊎ (s ≡ false)
+      cases true e = inl e
+      cases false e = inr e

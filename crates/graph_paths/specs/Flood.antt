@@ -1,5 +1,5 @@
 -- Facts that flow from block to block: what blocks do to them, and what some way brings where.
-use Rattle.std.specs.Prelude.{◌≡◌, ◌≢◌, ℕ, ◌<◌, ◌≤◌, Bool, true, false, Some, List, length, slice_get}
+use Rattle.std.specs.Prelude.{◌≡◌, ◌≢◌, ℕ, ◌-◌, ◌<◌, ◌≤◌, Bool, true, false, Some, List, length, slice_get}
 use Rattle.graph_core.specs.Graphs.{Block}
 use Rattle.graph_core.specs.Uses.{targets_of}
 use Rattle.graph_core.specs.Paths.{Among}
@@ -101,3 +101,8 @@ IsClosedAlong c from to comes leaves =
 -- so it is along all edges of a block
 abbrev pub IsClosedAt : Course → (number : ℕ) → (comes leaves : Bits) → Type 0
 IsClosedAt c number comes leaves = (to : ℕ) → HasEdge c.blocks c.is_open number to → IsClosedAlong c number to comes leaves
+
+-- the block of a turn, where each block gets one: the first one first, or the last one
+abbrev pub block_at : (forward : Bool) → (count turn : ℕ) → ℕ
+block_at true count turn = turn
+block_at false count turn = count - 1 - turn

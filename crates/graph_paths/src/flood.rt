@@ -4,7 +4,7 @@ ghost use Rattle.std.specs.Prelude.{◌≡◌, ℕ, ◌^◌, ◌<◌, IfOk, OnOk
 ghost use Rattle.graph_core.specs.Graphs.{block_view, end_view};
 ghost use Rattle.graph_core.specs.Paths.{Among};
 ghost use Rattle.graph_core.specs.Uses.{targets_of};
-ghost use Rattle.graph_paths.specs.Flood.{AreSameBut, AreSameFrom, AreSettled, AreTables, Flows, HasEdge, IsClosedAlong, IsClosedAt, IsStep};
+ghost use Rattle.graph_paths.specs.Flood.{AreSameBut, AreSameFrom, AreSettled, AreTables, Flows, HasEdge, IsClosedAlong, IsClosedAt, IsStep, block_at};
 ghost use Rattle.graph_paths.specs.PathMarksTable.{bits_of};
 
 use crate::marks::Marks;
@@ -212,7 +212,15 @@ fn round<T: Transfer>(
     Ok(is_new)
 }
 
-/// Visits each block once, the first one first. Tells whether any fact is new.
+/// The block of a turn, where each gets one: as execution goes the first one first, and against it the last one.
+fn at_turn(forward: bool, count: u32, turn: u32) -> u32
+    requires { turn < count }
+    ensures { result ≡ block_at forward count turn }
+{
+    if forward { turn } else { count - 1 - turn }
+}
+
+/// Visits each block once. Tells whether any fact is new.
 fn whole_round<T: Transfer>(
     transfer: &T,
     blocks: &[Block],
@@ -226,35 +234,15 @@ fn whole_round<T: Transfer>(
     ensures closed { IfOk result (λ is_new. is_new ≡ false → (n : ℕ) → n < length blocks.now
         → IsClosedAt (T.course transfer.now) n (bits_of comes.new) (bits_of leaves.new)) }
 {
+    let count = blocks.len() as u32;
+    let forward = transfer.forward();
     let mut is_new = false;
-    for number in 0..blocks.len() as u32 {
+    for turn in 0..count {
+        let number = at_turn(forward, count, turn);
         let is_newer = visit(transfer, blocks, comes, leaves, number)?;
         is_new |= is_newer;
     }
     Ok(is_new)
-}
-
-/// A round in an order, and one over all blocks where nothing was new in it. Tells whether any fact is.
-fn turn<T: Transfer>(
-    transfer: &T,
-    blocks: &[Block],
-    comes: &mut Marks,
-    leaves: &mut Marks,
-    order: &[u32],
-) -> Result<bool, AllocError>
-    requires tables { AreTables (T.course transfer.now) comes.old leaves.old }
-    requires blocks { (T.course transfer.now).blocks ≡ map block_view blocks.now }
-    requires few { length blocks.now < 2 ^ 32 }
-    ensures step { IfOk result (IsStep (T.course transfer.now) comes.old leaves.old comes.new leaves.new) }
-    ensures closed { IfOk result (λ is_new. is_new ≡ false → (n : ℕ) → n < length blocks.now
-        → IsClosedAt (T.course transfer.now) n (bits_of comes.new) (bits_of leaves.new)) }
-{
-    let is_new = round(transfer, blocks, comes, leaves, order)?;
-    if is_new {
-        return Ok(true);
-    }
-    let is_newer = whole_round(transfer, blocks, comes, leaves)?;
-    Ok(is_newer)
 }
 
 /// To each block the facts that some way brings to it, where those begin that the rows of blocks tell at first, and what leaves it. It ends, since there are but so many facts;
@@ -277,6 +265,10 @@ pub fn settle<T: Transfer>(
     ensures leaves_count { OnOk result (leaves.new.count ≡ leaves.old.count) }
 {
     make_all(transfer, blocks.len() as u32, comes, leaves)?;
-    while turn(transfer, blocks, comes, leaves, order)? {}
+    let mut is_new = true;
+    while is_new {
+        round(transfer, blocks, comes, leaves, order)?;
+        is_new = whole_round(transfer, blocks, comes, leaves)?;
+    }
     Ok(())
 }

@@ -1,4 +1,4 @@
-use Rattle.std.proofs.Common.{◌≡◌, List, length, refl, ap, ◌∙◌, arith}
+use Rattle.std.proofs.Common.{◌≡◌, true≢false, List, length, refl, sym, ap, ◌∙◌, arith}
 use Rattle.std.proofs.lemmas.List.{length-map}
 use Rattle.graph_core.specs.Graphs.{Block, block_view}
 use Rattle.graph_paths.specs.PathMarksTable.{bits_of}
@@ -12,21 +12,19 @@ loop-init g c =
     record {
       tables = c.in_ok-make_all.ensures.tables;
       brought = at_first course (bits_of c.args.comes.now) (bits_of c.make_all.new.leaves) (λ n fact p q. c.in_ok-make_all.ensures.made n fact (omega (arith, p, size, c.requires.few)) q);
+      closed = λ e. absurd (true≢false e);
       comes_count = refl;
       leaves_count = c.in_ok-make_all.ensures.same_count;
       spare_comes = λ row bit _. refl;
       spare_leaves = λ row bit out. c.in_ok-make_all.ensures.spare row bit (omega (arith, out, c.requires.few));
     }
 
-pub loop-smaller : goal.loop-smaller
-loop-smaller g c = falls c.loop.comes c.turn.new.comes c.in_ok-turn.ensures.step.comes_count c.in_ok-turn.ensures.step.comes_width (c.in_ok-turn.ensures.step.more c.if-branch.true)
-
 pub returns-clause-settled : goal.returns-clause-settled
 returns-clause-settled g c =
     let course = g.T.Transfer.course c.args.transfer.now in
     let size : length course.blocks ≡ length c.args.blocks.now = ap (λ (all : List Block). length all) c.requires.blocks ∙ length-map c.args.blocks.now block_view in
     record {
-      brought = c.in_ok-turn.ensures.step.keeps (bits_of c.args.comes.now) c.loop.invariant.brought;
-      closed = all_closed course.forward course.blocks course.is_open (bits_of c.turn.new.comes) (bits_of c.turn.new.leaves)
-          (λ k lt to edge. c.in_ok-turn.ensures.closed c.if-branch.false k (omega (arith, lt, size)) to edge);
+      brought = c.loop.invariant.brought;
+      closed = all_closed course.forward course.blocks course.is_open (bits_of c.loop.comes) (bits_of c.loop.leaves)
+          (λ k lt to edge. c.loop.invariant.closed c.if-is_new.false k (omega (arith, lt, size)) to edge);
     }

@@ -1,5 +1,5 @@
-use Rattle.std.proofs.Common.{◌≡◌, ◌-◌, ◌*◌, length}
-use Rattle.graph_paths.specs.Flood.{AreBrought, AreTables, AreSameFrom}
+use Rattle.std.proofs.Common.{◌≡◌, ℕ, ◌+◌, ◌-◌, ◌*◌, ◌<◌, if◌then◌else◌, false, length}
+use Rattle.graph_paths.specs.Flood.{AreBrought, AreTables, AreSameFrom, IsClosedAt}
 use Rattle.graph_paths.specs.PathMarksTable.{bits_of, told}
 use Rattle.graph_paths.proofs.flood.settle.Given as goal
 
@@ -7,6 +7,7 @@ abbrev pub invariant-loop : goal.invariant-loop
 invariant-loop g l = record {
   tables : AreTables (g.T.Transfer.course l.transfer) l.comes l.leaves;
   brought : AreBrought (g.T.Transfer.course l.transfer) (bits_of l.fn.comes) (bits_of l.comes) (bits_of l.leaves);
+  closed : l.is_new ≡ false → (n : ℕ) → n < length l.blocks → IsClosedAt (g.T.Transfer.course l.transfer) n (bits_of l.comes) (bits_of l.leaves);
   comes_count : l.comes.count ≡ l.fn.comes.count;
   leaves_count : l.leaves.count ≡ l.fn.leaves.count;
   spare_comes : AreSameFrom (length l.blocks) (bits_of l.fn.comes) (bits_of l.comes);
@@ -14,4 +15,4 @@ invariant-loop g l = record {
 }
 
 abbrev pub decreases-loop : goal.decreases-loop
-decreases-loop g l = l.comes.count * l.comes.width - told l.comes
+decreases-loop g l = l.comes.count * l.comes.width - told l.comes + (if l.is_new then 1 else 0)
