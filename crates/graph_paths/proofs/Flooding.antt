@@ -197,8 +197,8 @@ module _ (c : Course) (a b a1 b1 a2 b2 : Marks) (r s : Bool) (one : IsStep c a b
   room : a2.count * a2.width ≡ a.count * a.width
   room = ap (λ n. n * a2.width) (other.comes_count ∙ one.comes_count) ∙ ap (λ n. a.count * n) (other.comes_width ∙ one.comes_width)
 
-  pub falls : a2.count * a2.width - told a2 + (if s then 1 else 0) < a.count * a.width - told a + 1
-  falls = elim (cases s refl) [
+  least_room : a2.count * a2.width - told a2 + (if s then 1 else 0) < a.count * a.width - told a + 1
+  least_room = elim (cases s refl) [
     | inl new ↦ subst (λ t. a2.count * a2.width - told a2 + (if t then 1 else 0) < a.count * a.width - told a + 1) (sym new) (let h = other.more new in omega (arith, room, one.least, h, few_told a2))
     | inr quiet ↦ subst (λ t. a2.count * a2.width - told a2 + (if t then 1 else 0) < a.count * a.width - told a + 1) (sym quiet) (omega (arith, room, one.least, other.least, few_told a2))
   ]
@@ -206,3 +206,6 @@ module _ (c : Course) (a b a1 b1 a2 b2 : Marks) (r s : Bool) (one : IsStep c a b
       cases : (t : Bool) → s ≡ t → (s ≡ true) ⊎ (s ≡ false)
       cases true e = inl e
       cases false e = inr e
+
+  pub falls : (t : Bool) → t ≡ true → a2.count * a2.width - told a2 + (if s then 1 else 0) < a.count * a.width - told a + (if t then 1 else 0)
+  falls t e = subst (λ b. a2.count * a2.width - told a2 + (if s then 1 else 0) < a.count * a.width - told a + (if b then 1 else 0)) (sym e) least_room

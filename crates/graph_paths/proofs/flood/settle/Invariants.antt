@@ -3,8 +3,8 @@ use Rattle.graph_paths.specs.Flood.{AreBrought, AreTables, AreSameFrom, IsClosed
 use Rattle.graph_paths.specs.PathMarksTable.{bits_of, told}
 use Rattle.graph_paths.proofs.flood.settle.Given as goal
 
-abbrev pub invariant-loop : goal.invariant-loop
-invariant-loop g l = record {
+abbrev pub invariant-loop-is_new : goal.invariant-loop-is_new
+invariant-loop-is_new g l = record {
   tables : AreTables (g.T.Transfer.course l.transfer) l.comes l.leaves;
   brought : AreBrought (g.T.Transfer.course l.transfer) (bits_of l.fn.comes) (bits_of l.comes) (bits_of l.leaves);
   closed : l.is_new ≡ false → (n : ℕ) → n < length l.blocks → IsClosedAt (g.T.Transfer.course l.transfer) n (bits_of l.comes) (bits_of l.leaves);
@@ -14,5 +14,5 @@ invariant-loop g l = record {
   spare_leaves : AreSameFrom (length l.blocks) (bits_of l.fn.leaves) (bits_of l.leaves);
 }
 
-abbrev pub decreases-loop : goal.decreases-loop
-decreases-loop g l = l.comes.count * l.comes.width - told l.comes + (if l.is_new then 1 else 0)
+abbrev pub decreases-loop-is_new : goal.decreases-loop-is_new
+decreases-loop-is_new g l = l.comes.count * l.comes.width - told l.comes + (if l.is_new then 1 else 0)
