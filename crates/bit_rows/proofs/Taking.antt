@@ -120,10 +120,10 @@ module _ (words : List ℕ) (stride width rows : ℕ) (are : AreRows words strid
             let zeroth : to * stride + 0 ≡ to = omega (arith, here) in
             ap not (eq-eqb w b (sym (get_or-set_same words to w 0 one_within) ∙ ap (λ j. get_or (set words to w) j 0) (sym zeroth)
             ∙ same_bits words stride width rows are view seen (set words to w) (length-set words to w) to to_in one_apart one_rows
-                (λ k lt. subst (λ j. get_or words j 0 < 2 ^ 64) (let q : to ≡ to * stride + k = omega (arith, here, one, lt) in q) (subst (λ n. n < 2 ^ 64) was fit))
-                (λ k lt. subst (λ j. get_or (set words to w) j 0 < 2 ^ 64) (let q : to ≡ to * stride + k = omega (arith, here, one, lt) in q)
-                  (subst (λ n. n < 2 ^ 64) (sym (get_or-set_same words to w 0 one_within)) fits))
-                e 0 (omega (arith, one))
+            (λ k lt. subst (λ j. get_or words j 0 < 2 ^ 64) (let q : to ≡ to * stride + k = omega (arith, here, one, lt) in q) (subst (λ n. n < 2 ^ 64) was fit))
+            (λ k lt. subst (λ j. get_or (set words to w) j 0 < 2 ^ 64) (let q : to ≡ to * stride + k = omega (arith, here, one, lt) in q)
+            (subst (λ n. n < 2 ^ 64) (sym (get_or-set_same words to w 0 one_within)) fits))
+            e 0 (omega (arith, one))
             ∙ ap (λ j. get_or words j 0) zeroth ∙ sym was))),
       )
 

@@ -37,7 +37,7 @@ invariant_of-self c =
     let other_word = get_or_read o.words.items c.args.row c.index.result.now (one_within o.words.items o.stride o.width o.rows c.other.invariant c.args.other.now c.other.view_is (other_stride ∙ c.if-self-eq1.true) c.args.row c.requires.row) c.index.ensures 0 in
     let is = ap (λ w. met_word true w c.index-before.result.now) other_word ∙ ap (met_word true (get_or o.words.items c.args.row 0)) before in
     one_rows i.words.items i.stride i.width i.rows c.self.invariant c.args.self.now c.self.view_is c.if-self-eq1.true c.args.to c.requires.to o.words.items c.args.row
-        (met_word true) (met_word true c.index.result.now c.index-before.result.now) is o.rows c.args.other.now are seen c.requires.row (met_bit true) (met_word_bit true) refl
+    (met_word true) (met_word true c.index.result.now c.index-before.result.now) is o.rows c.args.other.now are seen c.requires.row (met_bit true) (met_word_bit true) refl
 
 pub returns-then-self-eq1-clause-met : goal.returns-then-self-eq1-clause-met
 returns-then-self-eq1-clause-met c =
@@ -52,7 +52,7 @@ returns-then-self-eq1-clause-met c =
     let other_word = get_or_read o.words.items c.args.row c.index.result.now (one_within o.words.items o.stride o.width o.rows c.other.invariant c.args.other.now c.other.view_is (other_stride ∙ c.if-self-eq1.true) c.args.row c.requires.row) c.index.ensures 0 in
     let is = ap (λ w. met_word true w c.index-before.result.now) other_word ∙ ap (met_word true (get_or o.words.items c.args.row 0)) before in
     one_view i.words.items i.stride i.width i.rows c.self.invariant c.args.self.now c.self.view_is c.if-self-eq1.true c.args.to c.requires.to o.words.items c.args.row
-        (met_word true) (met_word true c.index.result.now c.index-before.result.now) is o.rows c.args.other.now are seen c.requires.row (met_bit true) (met_word_bit true) refl
+    (met_word true) (met_word true c.index.result.now c.index-before.result.now) is o.rows c.args.other.now are seen c.requires.row (met_bit true) (met_word_bit true) refl
 
 pub returns-then-self-eq1-clause-changed : goal.returns-then-self-eq1-clause-changed
 returns-then-self-eq1-clause-changed c =
@@ -68,7 +68,7 @@ returns-then-self-eq1-clause-changed c =
     let is = ap (λ w. met_word true w c.index-before.result.now) other_word ∙ ap (met_word true (get_or o.words.items c.args.row 0)) before in
     let fits = met_fits c.index.result.now c.index-before.result.now (omega arith) (omega arith) in
     one_same i.words.items i.stride i.width i.rows c.self.invariant c.args.self.now c.self.view_is c.if-self-eq1.true c.args.to c.requires.to o.words.items c.args.row
-        (met_word true) (met_word true c.index.result.now c.index-before.result.now) is o.rows c.args.other.now are seen c.requires.row (met_bit true) (met_word_bit true) refl c.index-before.result.now before (omega arith) fits
+    (met_word true) (met_word true c.index.result.now c.index-before.result.now) is o.rows c.args.other.now are seen c.requires.row (met_bit true) (met_word_bit true) refl c.index-before.result.now before (omega arith) fits
 
 pub add_words-requires-clause-to : goal.add_words-requires-clause-to
 add_words-requires-clause-to c = let i = c.self.inside in

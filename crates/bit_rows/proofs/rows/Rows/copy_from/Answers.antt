@@ -31,8 +31,8 @@ invariant_of-self c =
     let seen = same_seen o.words.items i.stride i.width o.stride o.width o.rows other_stride other_width ∙ c.other.view_is in
     let are = same_shape o.words.items i.stride i.width o.stride o.width o.rows other_stride other_width c.other.invariant in
     one_rows i.words.items i.stride i.width i.rows c.self.invariant c.args.self.now c.self.view_is c.if-self-eq1.true c.args.to c.requires.to o.words.items c.args.row (λ a b. a) c.index.result.now
-        (get_or_read o.words.items c.args.row c.index.result.now (one_within o.words.items o.stride o.width o.rows c.other.invariant c.args.other.now c.other.view_is (other_stride ∙ c.if-self-eq1.true) c.args.row c.requires.row) c.index.ensures 0)
-        o.rows c.args.other.now are seen c.requires.row (λ a b. a) (λ a b j. refl) refl
+    (get_or_read o.words.items c.args.row c.index.result.now (one_within o.words.items o.stride o.width o.rows c.other.invariant c.args.other.now c.other.view_is (other_stride ∙ c.if-self-eq1.true) c.args.row c.requires.row) c.index.ensures 0)
+    o.rows c.args.other.now are seen c.requires.row (λ a b. a) (λ a b j. refl) refl
 
 pub returns-then-self-eq1 : goal.returns-then-self-eq1
 returns-then-self-eq1 c =
@@ -44,8 +44,8 @@ returns-then-self-eq1 c =
     let seen = same_seen o.words.items i.stride i.width o.stride o.width o.rows other_stride other_width ∙ c.other.view_is in
     let are = same_shape o.words.items i.stride i.width o.stride o.width o.rows other_stride other_width c.other.invariant in
     one_view i.words.items i.stride i.width i.rows c.self.invariant c.args.self.now c.self.view_is c.if-self-eq1.true c.args.to c.requires.to o.words.items c.args.row (λ a b. a) c.index.result.now
-        (get_or_read o.words.items c.args.row c.index.result.now (one_within o.words.items o.stride o.width o.rows c.other.invariant c.args.other.now c.other.view_is (other_stride ∙ c.if-self-eq1.true) c.args.row c.requires.row) c.index.ensures 0)
-        o.rows c.args.other.now are seen c.requires.row (λ a b. a) (λ a b j. refl) refl
+    (get_or_read o.words.items c.args.row c.index.result.now (one_within o.words.items o.stride o.width o.rows c.other.invariant c.args.other.now c.other.view_is (other_stride ∙ c.if-self-eq1.true) c.args.row c.requires.row) c.index.ensures 0)
+    o.rows c.args.other.now are seen c.requires.row (λ a b. a) (λ a b j. refl) refl
     ∙ ap (λ r. slice_set c.args.self.now c.args.to r) (joined_first (row_at c.args.other.now c.args.row) (row_at c.args.self.now c.args.to) c.requires.width)
 
 pub copy_words-requires-clause-to : goal.copy_words-requires-clause-to
