@@ -364,9 +364,9 @@ module _ (h : HomedForm) (valid : IsValid h.unit) (homed : HaveHomes h) (apart :
     go_same l among fits = subst (λ o. DoesSame h (go_to c l) (entered_over o)) (sym (slice_get-map (placed_block home) c.here.graph.blocks l)) (by_block (slice_get c.here.graph.blocks l) refl)
       where
         entered_over : Option Block → Stepped
-        entered_over o = entered d o
+        entered_over o = entered d l o
 
-        by_block : (o : Option Block) → slice_get c.here.graph.blocks l ≡ o → DoesSame h (entered c o) (entered_over (option_map (placed_block home) o))
+        by_block : (o : Option Block) → slice_get c.here.graph.blocks l ≡ o → DoesSame h (entered c l o) (entered_over (option_map (placed_block home) o))
         by_block None at = tt
         by_block (Some b) at = record {
           held = held;

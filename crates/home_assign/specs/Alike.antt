@@ -36,6 +36,7 @@ module _ (h : HomedForm) where
     function = a.function;
     graph = placed_graph (home_of h a.function) a.graph;
     place = a.place;
+    block = a.block;
     names = held;
     shadows = shadows;
     first_object = a.first_object;

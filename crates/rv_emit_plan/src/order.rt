@@ -9,7 +9,7 @@ use crate::loops::Loops;
 use crate::placing::Placing;
 use crate::search::Search;
 use crate::table::{at, count, put};
-use graph_core::{End, Graph};
+use graph_core::Graph;
 use std::alloc::{AllocError, Global};
 
 /// An edge, by how seldom it is likely to be followed.
@@ -169,10 +169,7 @@ fn links_of(
 /// Whether a block returns.
 fn returns(graph: &Graph, block: u32) -> bool {
     match graph.blocks.get(block as usize) {
-        Some(block) => match block.end {
-            End::Return(_) => true,
-            End::Jump(_) | End::Branch { .. } => false,
-        },
+        Some(block) => block.end.targets().as_slice().is_empty(),
         None => false,
     }
 }

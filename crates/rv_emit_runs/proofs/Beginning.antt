@@ -192,6 +192,7 @@ module _ (codes : ℕ → FunctionCode) (u : UnitForm) (valid : (k : ℕ) → Is
       function = function;
       graph = graph;
       place = graph.entry;
+      block = 0;
       names = λ x. Odd;
       shadows = λ x. shadow.Gone;
       first_object = length c.memory;

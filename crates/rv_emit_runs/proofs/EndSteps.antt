@@ -155,6 +155,7 @@ module _ (h : HomedForm) (valid : IsValid h.unit) (homed : HaveHomes h) (e : Emi
               function = c.here.function;
               graph = placed_graph (home_at (codes_in h e code c.here.function).storage) (codes_in h e code c.here.function).graph;
               place = c.here.place;
+              block = enters.number;
               rest = (placed_block (home_at (codes_in h e code c.here.function).storage) from.from).instructions;
               end = (placed_block (home_at (codes_in h e code c.here.function).storage) from.from).end;
             })
@@ -166,13 +167,14 @@ module _ (h : HomedForm) (valid : IsValid h.unit) (homed : HaveHomes h) (e : Emi
               function = c.here.function;
               graph = placed_graph (home_at (codes_in h e code c.here.function).storage) (codes_in h e code c.here.function).graph;
               place = c.here.place;
+              block = enters.number;
               rest = (placed_block (home_at (codes_in h e code c.here.function).storage) from.from).instructions;
               end = (placed_block (home_at (codes_in h e code c.here.function).storage) from.from).end;
             }
         spot =
             ap (λ (x : Configuration). spot_of x.here) (sym enters.is)
-            ∙ ap (λ (b : Block). record { function = c.here.function; graph = c.here.graph; place = c.here.place; rest = b.instructions; end = b.end }) from.is
-            ∙ ap (λ (g : Graph). record { function = c.here.function; graph = g; place = c.here.place; rest = (placed_block (home_at f.storage) from.from).instructions; end = (placed_block (home_at f.storage) from.from).end }) r.rest.graph
+            ∙ ap (λ (b : Block). record { function = c.here.function; graph = c.here.graph; place = c.here.place; block = enters.number; rest = b.instructions; end = b.end }) from.is
+            ∙ ap (λ (g : Graph). record { function = c.here.function; graph = g; place = c.here.place; block = enters.number; rest = (placed_block (home_at f.storage) from.from).instructions; end = (placed_block (home_at f.storage) from.from).end }) r.rest.graph
 
         abbrev wanted : List Held
         wanted = known_in h e code c.here.function r.rest.low enters.number

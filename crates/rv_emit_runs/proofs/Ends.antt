@@ -119,9 +119,9 @@ pub record ComesTo (p : Program) (s : State) (b : Bool) (most to : ℕ) (w : Set
   pub memory : holding.memory ≡ h.memory
   pub input : holding.input ≡ h.input
 
--- What is left of the block and its end are no part of the frame.
-pub block_framed : (w : Setting) (c : Configuration) (h : Holding) (block : Block) → HoldsFrame w c h → HoldsFrame w (record c { here = record c.here { rest = block.instructions; end = block.end } }) h
-block_framed w c h block frame = record {
+-- The block, what is left of it and its end are no part of the frame.
+pub block_framed : (w : Setting) (c : Configuration) (h : Holding) (number : ℕ) (block : Block) → HoldsFrame w c h → HoldsFrame w (record c { here = record c.here { block = number; rest = block.instructions; end = block.end } }) h
+block_framed w c h number block frame = record {
   fetch = frame.fetch;
   scratch = frame.scratch;
   aligned = frame.aligned;
@@ -143,7 +143,7 @@ pub record EntersBlock (p : Program) (t : Targets) (s : State) (b : Bool) (most 
   pub target : Among number labels
   pub block : Block
   pub there : slice_get c.here.graph.blocks number ≡ Some block
-  pub is : record c { here = record c.here { rest = block.instructions; end = block.end } } ≡ d
+  pub is : record c { here = record c.here { block = number; rest = block.instructions; end = block.end } } ≡ d
   pub comes : ComesTo p s b most (t.label number) w h d
 
 -- Code does the step of an end that goes on to a block. Where the step is wild, nothing is said of the code.
@@ -156,7 +156,7 @@ DoesEnd p t s b most w c h labels Wild = Unit {0}
 enters : (p : Program) (t : Targets) (s : State) (b : Bool) (most : ℕ) (w : Setting) (c : Configuration) (h : Holding) (labels : List ℕ) (l : ℕ) → Among l labels → ComesTo p s b most (t.label l) w h c → DoesEnd p t s b most w c h labels (go_to c l)
 enters p t s b most w c h labels l target comes = by_some (slice_get c.here.graph.blocks l) refl
   where
-    by_some : (found : Option Block) → slice_get c.here.graph.blocks l ≡ found → DoesEnd p t s b most w c h labels (entered c found)
+    by_some : (found : Option Block) → slice_get c.here.graph.blocks l ≡ found → DoesEnd p t s b most w c h labels (entered c l found)
     by_some None e = tt
     by_some (Some block) e = record {
       number = l;
@@ -169,7 +169,7 @@ enters p t s b most w c h labels l target comes = by_some (slice_get c.here.grap
         few = comes.few;
         holding = comes.holding;
         reaches = comes.reaches;
-        frame = block_framed w c comes.holding block comes.frame;
+        frame = block_framed w c comes.holding l block comes.frame;
         kept = comes.kept;
         memory = comes.memory;
         input = comes.input;

@@ -74,6 +74,7 @@ pub record RestAt (h : HomedForm) (e : EmittedForm) (code : IsCode h e) (x : Spo
   pub low : x.function < length h.unit.graphs
   pub graph : x.graph ≡ placed_graph (home_at (codes_in h e code x.function).storage) (codes_in h e code x.function).graph
   pub number : ℕ
+  pub numbered : x.block ≡ number
   pub block : Block
   pub there : slice_get (codes_in h e code x.function).graph.blocks number ≡ Some block
   pub at : IsBlockAt h code.arrangement (program_in h e code) (places_in h e code x.function) x.function (known_in h e code x.function low) number block
@@ -110,6 +111,7 @@ module _ (h : HomedForm) (e : EmittedForm) (code : IsCode h e) where
         function = f;
         graph = placed_graph (home_at (codes_in h e code f).storage) (codes_in h e code f).graph;
         place = place;
+        block = l;
         rest = (placed_block (home_at (codes_in h e code f).storage) b).instructions;
         end = (placed_block (home_at (codes_in h e code f).storage) b).end;
       })
@@ -124,6 +126,7 @@ module _ (h : HomedForm) (e : EmittedForm) (code : IsCode h e) where
           low = low;
           graph = refl;
           number = l;
+          numbered = refl;
           block = b;
           there = there;
           at = (code.functions f low).blocks l b there;
@@ -192,6 +195,7 @@ module _ (h : HomedForm) (e : EmittedForm) (code : IsCode h e) where
           low = r.low;
           graph = r.graph;
           number = r.number;
+          numbered = r.numbered;
           block = r.block;
           there = r.there;
           at = r.at;

@@ -162,6 +162,7 @@ module _ (codes : ℕ → FunctionCode) (u : UnitForm) (valid : (k : ℕ) → Is
         function = u.main;
         graph = graph;
         place = graph.entry;
+        block = 0;
         names = λ x. Odd;
         shadows = λ x. shadow.Gone;
         first_object = length (first_memory u.statics);

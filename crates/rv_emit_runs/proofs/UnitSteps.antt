@@ -14,16 +14,17 @@ use Rattle.graph_core.specs.Runs.{Activation, Configuration, Event, Put, Exited,
 
 -- ---- Where an activation is
 
--- Its function and graph, the place that it has come to, and what is left of its block.
+-- Its function and graph, the place that it has come to, its block, and what is left of it.
 pub record Spot : Type 0 where
   pub function : ℕ
   pub graph : Graph
   pub place : ℕ
+  pub block : ℕ
   pub rest : List Instruction
   pub end : End
 
 abbrev pub spot_of : Activation → Spot
-spot_of a = record { function = a.function; graph = a.graph; place = a.place; rest = a.rest; end = a.end }
+spot_of a = record { function = a.function; graph = a.graph; place = a.place; block = a.block; rest = a.rest; end = a.end }
 
 -- A step leaves it there.
 abbrev pub KeepsSpot : Configuration → Stepped → Type 0
@@ -147,9 +148,9 @@ got_right : (c : Configuration) (wanted : Option ℕ) (input : List ℕ) → Sho
 got_right c wanted [] = tt
 got_right c wanted (byte ∷ input) = tt
 
-entered_right : (c : Configuration) (found : Option Block) → ShowsRightly (entered c found)
-entered_right c None = tt
-entered_right c (Some b) = tt
+entered_right : (c : Configuration) (number : ℕ) (found : Option Block) → ShowsRightly (entered c number found)
+entered_right c number None = tt
+entered_right c number (Some b) = tt
 
 returned_right : (memory : Memory) (input : List ℕ) (v : Value) (waiting : List Activation) → ShowsRightly (returned memory input v waiting)
 returned_right memory input v [] = exited_right v
@@ -198,13 +199,13 @@ execute_right u (CopyWords object bytes words) c = memory_right c (option_and_th
 execute_right u (Call x f all) c = unless_right (list_any is_odd (map (value u.statics c.here.names) all)) (call u c x f (map (value u.statics c.here.names) all)) (call_right u c x f (map (value u.statics c.here.names) all))
 
 end_right : (u : UnitForm) (e : End) (c : Configuration) → ShowsRightly (execute_end u e c)
-end_right u (Jump l) c = entered_right c (slice_get c.here.graph.blocks l)
+end_right u (Jump l) c = entered_right c l (slice_get c.here.graph.blocks l)
 end_right u (Branch k a b l m) c = by_found (holds (is_live c.memory) k (value u.statics c.here.names a) (value u.statics c.here.names b))
   where
     by_found : (found : Option Bool) → ShowsRightly (branched c found l m)
     by_found None = tt
-    by_found (Some true) = entered_right c (slice_get c.here.graph.blocks l)
-    by_found (Some false) = entered_right c (slice_get c.here.graph.blocks m)
+    by_found (Some true) = entered_right c l (slice_get c.here.graph.blocks l)
+    by_found (Some false) = entered_right c m (slice_get c.here.graph.blocks m)
 end_right u (Return None) c = returned_right (ended_from c.here.first_object c.memory) c.input Odd c.waiting
 end_right u (Return (Some a)) c = returned_right (ended_from c.here.first_object c.memory) c.input (value u.statics c.here.names a) c.waiting
 

@@ -64,18 +64,18 @@ instruction_keeps u (Zero o w) c none = from_same c (execute u (Zero o w) c) (ex
 instruction_keeps u (CopyWords o b w) c none = from_same c (execute u (CopyWords o b w) c) (execute_keeps u (CopyWords o b w) c tt)
 
 -- An end that leads to a block.
-block_keeps : (c : Configuration) (found : Option Block) → KeepsWaiting c (entered c found)
-block_keeps c None = tt
-block_keeps c (Some b) = refl
+block_keeps : (c : Configuration) (number : ℕ) (found : Option Block) → KeepsWaiting c (entered c number found)
+block_keeps c number None = tt
+block_keeps c number (Some b) = refl
 
 pub end_keeps : (u : UnitForm) (e : End) (c : Configuration) (l : ℕ) → Among l (targets_of e) → KeepsWaiting c (execute_end u e c)
-end_keeps u (Jump to) c l among = block_keeps c (slice_get c.here.graph.blocks to)
+end_keeps u (Jump to) c l among = block_keeps c to (slice_get c.here.graph.blocks to)
 end_keeps u (Branch k a b if_true if_false) c l among = by_found (holds (is_live c.memory) k (value u.statics c.here.names a) (value u.statics c.here.names b))
   where
     by_found : (found : Option Bool) → KeepsWaiting c (branched c found if_true if_false)
     by_found None = tt
-    by_found (Some true) = block_keeps c (slice_get c.here.graph.blocks if_true)
-    by_found (Some false) = block_keeps c (slice_get c.here.graph.blocks if_false)
+    by_found (Some true) = block_keeps c if_true (slice_get c.here.graph.blocks if_true)
+    by_found (Some false) = block_keeps c if_false (slice_get c.here.graph.blocks if_false)
 end_keeps u (Return v) c l among = elim among [ ]
 
 -- A return leaves one less.

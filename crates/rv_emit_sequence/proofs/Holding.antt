@@ -1,9 +1,7 @@
 -- What is held, and what is wanted where the end of a block leads.
-use Rattle.std.proofs.Common.{◌≡◌, ◌≤◌, ◌-◌, ℕ, List, [], ◌∷◌, length, take, drop, get_or, refl, sym, subst}
-use Rattle.graph_core.specs.declared.block.Comparison.{Comparison}
-use Rattle.graph_core.specs.Graphs.{End, Jump, Branch, Operand}
+use Rattle.std.proofs.Common.{◌≡◌, ◌<◌, ◌≤◌, ◌-◌, ℕ, suc, Some, List, [], ◌∷◌, length, map, take, drop, get_or, slice_get, refl, sym, subst, arith}
+use Rattle.graph_core.specs.declared.name.Label.{Label}
 use Rattle.graph_core.specs.Paths.{Among, front, behind}
-use Rattle.graph_core.specs.Uses.{targets_of}
 use Rattle.rv_emit_words.specs.declared.piece.Held.{Held}
 use Rattle.rv_emit_sequence.specs.Sequences.{Holds}
 use Rattle.rv_emit_sequence.proofs.Splitting.{split_first}
@@ -29,17 +27,9 @@ holds_first held left d some one rest = subst (λ l. Holds held l) (sym (split_f
 
 -- ---- Ends
 
-pub jump_leads : (held : List Held) (at : ℕ → List Held) (e : End) (to : ℕ) → e ≡ Jump to → Holds held (at to) → (l : ℕ) → Among l (targets_of e) → Holds held (at l)
-jump_leads held at e to is good l there = by_place l (subst (λ d. Among l (targets_of d)) is there)
-  where
-    by_place : (l : ℕ) → Among l (to ∷ []) → Holds held (at l)
-    by_place l front = good
-    by_place l (behind none) = elim none [ ]
-
-pub branch_leads : (held : List Held) (at : ℕ → List Held) (e : End) (k : Comparison) (x y : Operand) (if_true if_false : ℕ) → e ≡ Branch k x y if_true if_false → Holds held (at if_true) → Holds held (at if_false) → (l : ℕ) → Among l (targets_of e) → Holds held (at l)
-branch_leads held at e k x y if_true if_false is one two l there = by_place l (subst (λ d. Among l (targets_of d)) is there)
-  where
-    by_place : (l : ℕ) → Among l (if_true ∷ if_false ∷ []) → Holds held (at l)
-    by_place l front = one
-    by_place l (behind front) = two
-    by_place l (behind (behind none)) = elim none [ ]
+-- What is wanted at each of some labels is held.
+pub labels_lead : (held : List Held) (at : ℕ → List Held) (labels : List Label) (index : ℕ) → ((k : ℕ) (x : Label) → k < index → slice_get labels k ≡ Some x → Holds held (at x.0)) → length labels ≤ index
+    → (l : ℕ) → Among l (map (λ (x : Label). x.0) labels) → Holds held (at l)
+labels_lead held at [] index all few l none = elim none [ ]
+labels_lead held at (x ∷ more) index all few l front = all 0 x (omega (arith, few)) refl
+labels_lead held at (x ∷ more) index all few l (behind there) = labels_lead held at more (index - 1) (λ k y lt found. all (suc k) y (omega (arith, lt, few)) found) (omega (arith, few)) l there

@@ -32,38 +32,28 @@ fn add_held(all: &mut Vec<Held>, held: &[Held]) -> Result<(), AllocError>
 }
 
 /// What is to be held where the end of a block leads.
-fn loads_of(alloc: Global, plan: &Plan, end: End) -> Result<Vec<Held>, AllocError>
+fn loads_of(alloc: Global, plan: &Plan, end: &End) -> Result<Vec<Held>, AllocError>
     ensures { IfOk result (λ loads. HoldsWell plan.now → AreConstants loads.items) }
 {
     let mut loads = Vec::new(alloc);
-    match end {
-        End::Return(_) => {}
-        End::Jump(label) => add_held(&mut loads, held_at(plan, label.0))?,
-        End::Branch {
-            then,
-            otherwise,
-            ..
-        } => {
-            add_held(&mut loads, held_at(plan, then.0))?;
-            add_held(&mut loads, held_at(plan, otherwise.0))?;
-        }
+    let targets = end.targets();
+    for label in targets.as_slice() {
+        add_held(&mut loads, held_at(plan, label.0))?;
     }
     Ok(loads)
 }
 
 /// Whether what is held behind a block is what each block holds to which its end leads.
-fn leads_well(plan: &Plan, end: End, held: &[Held]) -> bool
-    ensures { result ≡ true → (l : ℕ) → Among l (targets_of (end_view end)) → Holds held.now (held_at plan.now l) }
+fn leads_well(plan: &Plan, end: &End, held: &[Held]) -> bool
+    ensures { result ≡ true → (l : ℕ) → Among l (targets_of (end_view end.now)) → Holds held.now (held_at plan.now l) }
 {
-    match end {
-        End::Return(_) => true,
-        End::Jump(label) => holds_all(held, held_at(plan, label.0)),
-        End::Branch {
-            then,
-            otherwise,
-            ..
-        } => holds_all(held, held_at(plan, then.0)) && holds_all(held, held_at(plan, otherwise.0)),
+    let targets = end.targets();
+    for label in targets.as_slice() {
+        if !holds_all(held, held_at(plan, label.0)) {
+            return false;
+        }
     }
+    true
 }
 
 /// The block that stands next, where these stand behind one, or the end of the function.
@@ -92,10 +82,10 @@ impl Sequence {
         let Some(block) = graph.blocks.get(number as usize) else {
             return Ok(false);
         };
-        let loads = loads_of(alloc, plan, block.end)?;
+        let loads = loads_of(alloc, plan, &block.end)?;
         let known = held_at(plan, number);
         let code = code_of_block(alloc, storage, block, next, known, &loads)?;
-        if !leads_well(plan, block.end, &code.held) {
+        if !leads_well(plan, &block.end, &code.held) {
             return Ok(false);
         }
         self.push_block(number, &code)?;

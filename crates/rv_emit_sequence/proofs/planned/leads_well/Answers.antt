@@ -1,16 +1,13 @@
-use Rattle.std.proofs.Common.{subst, ap}
-use Rattle.graph_core.specs.Graphs.{end_view}
+use Rattle.std.proofs.Common.{◌≡◌, ◌≤◌, ◌∙◌, ap, sym, subst, length, map, arith}
+use Rattle.graph_core.specs.declared.name.Label.{Label}
+use Rattle.graph_core.specs.Paths.{Among}
 use Rattle.rv_emit_plan.specs.Plans.{held_at}
-use Rattle.rv_emit_sequence.specs.Sequences.{Holds}
-use Rattle.rv_emit_sequence.proofs.Holding.{branch_leads, jump_leads}
+use Rattle.rv_emit_sequence.proofs.Holding.{labels_lead}
 use Rattle.rv_emit_sequence.proofs.planned.leads_well.Goals as goal
 
-pub returns-in-Jump : goal.returns-in-Jump
-returns-in-Jump c =
-    λ good. jump_leads c.args.held.now (held_at c.args.plan.now) (end_view c.args.end) c.in-Jump.label.0 (ap end_view c.in-Jump.is) (subst (λ w. Holds c.args.held.now w) c.held_at.ensures (c.holds_all.ensures good))
-
-pub returns-then-holds_all : goal.returns-then-holds_all
-returns-then-holds_all c =
-    λ good. branch_leads c.args.held.now (held_at c.args.plan.now) (end_view c.args.end) _ _ _ _ _ (ap end_view c.in-Branch.is)
-    (subst (λ w. Holds c.args.held.now w) c.held_at-in-Branch.ensures (c.holds_all-in-Branch.ensures c.if-holds_all.true))
-    (subst (λ w. Holds c.args.held.now w) c.held_at-then-holds_all.ensures (c.holds_all-then-holds_all.ensures good))
+pub returns : goal.returns
+returns c =
+    let labels = c.as_slice-label-items.result.now in
+    let targets = ap (map (λ (x : Label). x.0)) c.as_slice-label-items.ensures ∙ c.targets-targets.ensures in
+    let all : length labels ≤ c.loop-label.label-index = omega (arith, c.loop-label-test.false) in
+    λ well l there. labels_lead c.args.held.now (held_at c.args.plan.now) labels c.loop-label.label-index c.loop-label.invariant all l (subst (Among l) (sym targets) there)
