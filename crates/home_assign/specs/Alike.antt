@@ -30,7 +30,7 @@ module _ (h : HomedForm) where
   abbrev pub held_in : (function : ℕ) → (held : ℕ → Value) → (x : ℕ) → Value
   held_in f held x = held (home_number (home_of h f x))
 
-  -- The activation over homes of an activation, where its homes hold these values and it has these shadows.
+  -- The activation over homes of an activation, in the same block, where its homes hold these values and it has these shadows.
   abbrev pub placed_activation : Activation → (held : ℕ → Value) → (shadows : ℕ → Shadow) → Activation
   placed_activation a held shadows = record {
     function = a.function;

@@ -73,6 +73,7 @@ first_state known l b = growing (known l) (option_map_or (λ p. p) b.place 0) fa
 pub record RestAt (h : HomedForm) (e : EmittedForm) (code : IsCode h e) (x : Spot) (index : ℕ) (held : List Held) (begins : Bool) : Type 0 where
   pub low : x.function < length h.unit.graphs
   pub graph : x.graph ≡ placed_graph (home_at (codes_in h e code x.function).storage) (codes_in h e code x.function).graph
+  -- the number of its block
   pub number : ℕ
   pub numbered : x.block ≡ number
   pub block : Block
