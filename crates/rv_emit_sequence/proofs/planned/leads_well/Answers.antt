@@ -1,4 +1,4 @@
-use Rattle.std.proofs.Common.{◌≡◌, ◌≤◌, ◌∙◌, ap, sym, subst, length, map, arith}
+use Rattle.std.proofs.Common.{◌≤◌, ◌∙◌, ap, sym, subst, length, map, arith}
 use Rattle.graph_core.specs.declared.name.Label.{Label}
 use Rattle.graph_core.specs.Paths.{Among}
 use Rattle.rv_emit_plan.specs.Plans.{held_at}
