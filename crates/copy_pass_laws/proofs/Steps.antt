@@ -169,9 +169,9 @@ module _ (u v : UnitForm) (made : EachFunction IsPropagated u.graphs v.graphs) w
     go_same l to fits = by_blocks (at_both c.here.graph.blocks blocks l fits.made.count)
       where
         by_blocks : AtBoth (λ x y. Unit {0}) c.here.graph.blocks blocks l → DoesSame (go_to c l) (go_to d l)
-        by_blocks (inl none) = subst (λ o. DoesSame (entered c o) (go_to d l)) (sym none.0) (subst (λ o. DoesSame Wild (entered d o)) (sym none.1) tt)
+        by_blocks (inl none) = subst (λ o. DoesSame (entered c l o) (go_to d l)) (sym none.0) (subst (λ o. DoesSame Wild (entered d l o)) (sym none.1) tt)
         by_blocks (inr some) =
-            subst (λ o. DoesSame (entered c o) (go_to d l)) (sym some.2) (subst (λ o. DoesSame (entered c (Some some.0)) (entered d o)) (sym some.3) (record {
+            subst (λ o. DoesSame (entered c l o) (go_to d l)) (sym some.2) (subst (λ o. DoesSame (entered c l (Some some.0)) (entered d l o)) (sym some.3) (record {
               blocks = blocks;
               rest = some.1.instructions;
               end = some.1.end;

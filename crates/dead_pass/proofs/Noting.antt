@@ -15,7 +15,7 @@ use Rattle.dead_pass_writes.specs.declared.writes.Spot.{Spot}
 use Rattle.dead_pass_notes.specs.declared.idle_graph.IdleGraph.{IdleGraph}
 use Rattle.dead_pass_notes.specs.declared.notes.Notes.{Notes}
 use Rattle.dead_pass_notes.specs.declared.recipes.NotePoint.{NotePoint}
-use Rattle.dead_pass_notes.specs.Idle.{graph_of}
+use Rattle.dead_pass_notes.specs.Idle.{assignments_of, graph_of}
 use Rattle.dead_pass_notes.specs.Said.{IsSaid, SaysAs, noted, AreSaid, ends, gone, stays}
 use Rattle.dead_pass_notes.specs.Sources.{HasRoom, IsKnown, IsSaidAt}
 use Rattle.dead_pass_notes.specs.RemovalNotesStale.{AreKnown, HasComeBehind, HasOtherWays, HasSameWays}
@@ -36,7 +36,7 @@ ready_ways log idle old new same room ready =
       known = record {
         blocks = same.blocks ∙ known.blocks;
         names = same.names ∙ known.names;
-        stale = subst (λ m. AreStale (graph_of idle) (graph_of idle).name_count m) (sym same.stale) known.stale;
+        stale = subst (λ m. AreStale (assignments_of idle) (graph_of idle) (graph_of idle).name_count m) (sym same.stale) known.stale;
         all = subst (λ m. AreAll (graph_of idle) (is_going (turn_of idle.turns.items)) (bits_of idle.reached 0) (graph_of idle).name_count (bits_of m)) (sym same.stale) known.all;
       };
       room = room ready.room;
@@ -65,7 +65,7 @@ module _ (log : List Logged) (idle : IdleGraph) (notes : Notes) (at : NotePoint)
   known_here = known_at idle notes at b before (Note x v ∷ rest) ready.borne_out ready.known ready.named notes.table.count notes.table.width here.visited.is here.visited.reached here.instructions (ap suc here.behind) here.come
 
   -- a note that says what it shall
-  pub says : (w : NoteValue) → IsSaidAt log (graph_of idle) at x v w → SaysAs log (graph_of idle) at.spot.block rest b.end (Note x v) (Note x w)
+  pub says : (w : NoteValue) → IsSaidAt (assignments_of idle) log (graph_of idle) at x v w → SaysAs (assignments_of idle) log (graph_of idle) at.spot.block rest b.end (Note x v) (Note x w)
   says w said =
       let g = graph_of idle in
       let n = at.spot.block in
@@ -73,7 +73,7 @@ module _ (log : List Logged) (idle : IdleGraph) (notes : Notes) (at : NotePoint)
       let left = left_there g n (suc at.spot.left) b before (Note x v ∷ rest) is here.instructions (ap suc here.behind) in
       noted (point_reached g (bits_of idle.reached 0) ready.borne_out.led n b before (Note x v ∷ rest) is here.instructions here.visited.reached)
       (record { block = b; before = before; is = is; instructions = here.instructions; ends = refl; place = here.place x v refl })
-      (subst (λ e. IsSaid log g at.place.0 n x v (Note x v ∷ rest) e w) (end_there g n b is) (subst (λ l. IsSaid log g at.place.0 n x v l (end_at g n) w) left said))
+      (subst (λ e. IsSaid (assignments_of idle) log g at.place.0 n x v (Note x v ∷ rest) e w) (end_there g n b is) (subst (λ l. IsSaid (assignments_of idle) log g at.place.0 n x v l (end_at g n) w) left said))
 
 -- A WALK OVER A BLOCK to which a path comes.
 module _ (log : List Logged) (idle : IdleGraph) (n : ℕ) (b : Block) where
@@ -84,7 +84,7 @@ module _ (log : List Logged) (idle : IdleGraph) (n : ℕ) (b : Block) where
     pub instructions : b.instructions ≡ before ++ ahead
     pub in_force : place ≡ place_behind before b.place
     pub come : HasComeBehind idle notes n before (length ahead)
-    pub said : (later : List Instruction) → AreSaid log (graph_of idle) n b.end ahead later → AreSaid log (graph_of idle) n b.end b.instructions (left ++ later)
+    pub said : (later : List Instruction) → AreSaid (assignments_of idle) log (graph_of idle) n b.end ahead later → AreSaid (assignments_of idle) log (graph_of idle) n b.end b.instructions (left ++ later)
 
   module _ (visited : IsVisited idle n b) where
     -- it has come to an instruction
@@ -106,15 +106,15 @@ module _ (log : List Logged) (idle : IdleGraph) (n : ℕ) (b : Block) where
 
     -- What is left of those ahead of an instruction says what it shall, and so does what is left of it.
     module _ (ready : (notes : Notes) × IsReady log idle notes) (before : List Instruction) (i : Instruction) (rest left longer : List Instruction) (parts : b.instructions ≡ before ++ i ∷ rest)
-        (go : (later : List Instruction) → AreSaid log (graph_of idle) n b.end (i ∷ rest) later → AreSaid log (graph_of idle) n b.end b.instructions (left ++ later)) where
+        (go : (later : List Instruction) → AreSaid (assignments_of idle) log (graph_of idle) n b.end (i ∷ rest) later → AreSaid (assignments_of idle) log (graph_of idle) n b.end b.instructions (left ++ later)) where
       abbrev IsLeft : List Instruction → Type 0
-      IsLeft l = AreSaid log (graph_of idle) n b.end b.instructions l
+      IsLeft l = AreSaid (assignments_of idle) log (graph_of idle) n b.end b.instructions l
 
-      said_gone : is_going (turn_of idle.turns.items) n (length rest) ≡ true → longer ≡ left ++ without i → (later : List Instruction) → AreSaid log (graph_of idle) n b.end rest later → IsLeft (longer ++ later)
+      said_gone : is_going (turn_of idle.turns.items) n (length rest) ≡ true → longer ≡ left ++ without i → (later : List Instruction) → AreSaid (assignments_of idle) log (graph_of idle) n b.end rest later → IsLeft (longer ++ later)
       said_gone going grown later said =
           subst IsLeft (sym (append_assoc left (without i) later) ∙ ap (λ l. l ++ later) (sym grown)) (go (without i ++ later) (gone ((ready.1.borne_out.goes.goes n b before rest i visited.is parts).0 going) said))
 
-      said_stayed : is_going (turn_of idle.turns.items) n (length rest) ≡ false → IsSaidBehind log (graph_of idle) n b i rest left longer → (later : List Instruction) → AreSaid log (graph_of idle) n b.end rest later → IsLeft (longer ++ later)
+      said_stayed : is_going (turn_of idle.turns.items) n (length rest) ≡ false → IsSaidBehind (assignments_of idle) log (graph_of idle) n b i rest left longer → (later : List Instruction) → AreSaid (assignments_of idle) log (graph_of idle) n b.end rest later → IsLeft (longer ++ later)
       said_stayed staying behind later said =
           subst IsLeft (sym (append_assoc left (behind.left ∷ []) later) ∙ ap (λ l. l ++ later) (sym behind.is))
           (go (behind.left ∷ later) (stays (λ is. true≢false (sym ((ready.1.borne_out.goes.goes n b before rest i visited.is parts).1 is) ∙ staying)) behind.says said))
@@ -126,7 +126,7 @@ module _ (log : List Logged) (idle : IdleGraph) (n : ℕ) (b : Block) where
     -- the walk goes on over an instruction
     walk_next : (going : Bool) (at : NotePoint) (count : ℕ) (place next : Option ℕ) (old new : Notes) (i : Instruction) (rest left longer : List Instruction) → at.spot ≡ record { block = n; left = count } → ((p : ℕ) → place ≡ Some p → at.place.0 ≡ p)
         → length rest ≡ count → going ≡ is_going (turn_of idle.turns.items) n count → IsPushed going i left longer
-        → ((before : List Instruction) → going ≡ false → IsReady log idle old → IsHere idle old at b before i rest → IsSaidBehind log (graph_of idle) at.spot.block b i rest left longer)
+        → ((before : List Instruction) → going ≡ false → IsReady log idle old → IsHere idle old at b before i rest → IsSaidBehind (assignments_of idle) log (graph_of idle) at.spot.block b i rest left longer)
         → (IsReady log idle old → IsReady log idle new)
         → ((before : List Instruction) → IsReady log idle old → HasComeBehind idle old n before (suc count) → HasComeBehind idle new n (before ++ i ∷ []) count)
         → ((before : List Instruction) → place ≡ place_behind before b.place → next ≡ place_behind (before ++ i ∷ []) b.place)
@@ -140,15 +140,15 @@ module _ (log : List Logged) (idle : IdleGraph) (n : ℕ) (b : Block) where
           instructions = w.instructions ∙ sym (append_assoc w.before (i ∷ []) rest);
           in_force = in_force w.before w.in_force;
           come = subst (λ k. HasComeBehind idle new n (w.before ++ i ∷ []) k) (sym counts) (come w.before w.ready (subst (λ k. HasComeBehind idle old n w.before (suc k)) counts w.come));
-          said = said_on going i left longer pushed ((later : List Instruction) → AreSaid log (graph_of idle) n b.end rest later → AreSaid log (graph_of idle) n b.end b.instructions (longer ++ later))
+          said = said_on going i left longer pushed ((later : List Instruction) → AreSaid (assignments_of idle) log (graph_of idle) n b.end rest later → AreSaid (assignments_of idle) log (graph_of idle) n b.end b.instructions (longer ++ later))
               (λ goes grown. said_gone (old, w.ready) w.before i rest left longer w.instructions w.said (told ∙ goes) grown)
               (λ staying. said_stayed (old, w.ready) w.before i rest left longer w.instructions w.said (told ∙ staying)
-              (subst (λ k. IsSaidBehind log (graph_of idle) k b i rest left longer) block (behind w.before staying w.ready (here_now old at count place i rest left spot in_place counts w))));
+              (subst (λ k. IsSaidBehind (assignments_of idle) log (graph_of idle) k b i rest left longer) block (behind w.before staying w.ready (here_now old at count place i rest left spot in_place counts w))));
         }
 
     pub walk_on : {A : Type 0} (view : A → Instruction) (ahead : List A) (x : A) (going : Bool) (at : NotePoint) (count : ℕ) (place next : Option ℕ) (old new : Notes) (left longer : List Instruction) → 1 ≤ length ahead → x ≡ get_or ahead 0 x
         → at.spot ≡ record { block = n; left = count } → ((p : ℕ) → place ≡ Some p → at.place.0 ≡ p) → count ≡ length (take (length ahead - 1) (drop 1 ahead)) → going ≡ is_going (turn_of idle.turns.items) n count → IsPushed going (view x) left longer
-        → ((before rest : List Instruction) → going ≡ false → IsReady log idle old → IsHere idle old at b before (view x) rest → IsSaidBehind log (graph_of idle) at.spot.block b (view x) rest left longer)
+        → ((before rest : List Instruction) → going ≡ false → IsReady log idle old → IsHere idle old at b before (view x) rest → IsSaidBehind (assignments_of idle) log (graph_of idle) at.spot.block b (view x) rest left longer)
         → (IsReady log idle old → IsReady log idle new)
         → ((before : List Instruction) → IsReady log idle old → HasComeBehind idle old n before (suc count) → HasComeBehind idle new n (before ++ view x ∷ []) count)
         → ((before : List Instruction) → place ≡ place_behind before b.place → next ≡ place_behind (before ++ view x ∷ []) b.place)
@@ -163,9 +163,9 @@ module _ (log : List Logged) (idle : IdleGraph) (n : ℕ) (b : Block) where
   -- the walk begins
   pub walk_first : (notes : Notes) (place : Option ℕ) (all : List Instruction) → IsReady log idle notes → HasComeBehind idle notes n [] (length all) → b.place ≡ place → b.instructions ≡ all → IsUnderWay notes place all []
   walk_first notes place all ready come kept parts =
-      record { ready = ready; before = []; instructions = parts; in_force = sym kept; come = come; said = λ later said. subst (λ l. AreSaid log (graph_of idle) n b.end l later) (sym parts) said }
+      record { ready = ready; before = []; instructions = parts; in_force = sym kept; come = come; said = λ later said. subst (λ l. AreSaid (assignments_of idle) log (graph_of idle) n b.end l later) (sym parts) said }
 
   -- and is done
-  pub walk_done : {A : Type 0} (view : A → Instruction) (ahead : List A) (notes : Notes) (place : Option ℕ) (left : List Instruction) → length ahead < 1 → IsUnderWay notes place (map view ahead) left → AreSaid log (graph_of idle) n b.end b.instructions left
-  walk_done view [] notes place left lt w = subst (λ l. AreSaid log (graph_of idle) n b.end b.instructions l) (append_nil left) (w.said [] ends)
+  pub walk_done : {A : Type 0} (view : A → Instruction) (ahead : List A) (notes : Notes) (place : Option ℕ) (left : List Instruction) → length ahead < 1 → IsUnderWay notes place (map view ahead) left → AreSaid (assignments_of idle) log (graph_of idle) n b.end b.instructions left
+  walk_done view [] notes place left lt w = subst (λ l. AreSaid (assignments_of idle) log (graph_of idle) n b.end b.instructions l) (append_nil left) (w.said [] ends)
   walk_done view (y ∷ ahead) notes place left lt w = absurd (omega (arith, lt))

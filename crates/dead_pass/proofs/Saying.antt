@@ -4,6 +4,7 @@ use Rattle.std.specs.Prelude.{IfSome, slice_get}
 use Rattle.std.proofs.lemmas.Bool.{cases_Bool}
 use Rattle.std.proofs.lemmas.List.{length-append}
 use Rattle.std.proofs.lemmas.Option.{same_Some, none-some}
+use Rattle.places.specs.declared.flow.Assignment.{Assignment}
 use Rattle.graph_core.specs.declared.name.Name as declared-name
 use Rattle.graph_core.specs.declared.recipe.NoteValue as declared-value
 use Rattle.graph_core.specs.declared.instruction.Instr as declared-instr
@@ -19,7 +20,7 @@ use Rattle.graph_paths.proofs.Points.{point_reached, reached_told}
 use Rattle.graph_paths.specs.PathMarksTable.{bits_of}
 use Rattle.dead_pass_notes.specs.declared.idle_graph.IdleGraph.{IdleGraph}
 use Rattle.dead_pass_notes.specs.declared.notes.Notes.{Notes}
-use Rattle.dead_pass_notes.specs.Idle.{IsBorneOut, graph_of}
+use Rattle.dead_pass_notes.specs.Idle.{IsBorneOut, assignments_of, graph_of}
 use Rattle.dead_pass_notes.specs.Said.{SaysAs, noted, unreached, other, AreSaid, ends, stays, SaysWhatItShall}
 use Rattle.dead_pass_notes.specs.Stale.{IsStale, went, before as stale_before}
 use Rattle.dead_pass.specs.Noted.{ArePlaced, IsReady}
@@ -36,12 +37,12 @@ no_note_view (instr.Note x v) none = absurd (none x v refl)
 no_note_view _ none = refl
 
 -- what is no note stays
-pub no_note : (log : List Logged) (g : Graph) (n : ℕ) (rest : List Instruction) (e : End) (i : Instruction) → is_note i ≡ false → SaysAs log g n rest e i i
+pub no_note : {assignments : List Assignment} → (log : List Logged) (g : Graph) (n : ℕ) (rest : List Instruction) (e : End) (i : Instruction) → is_note i ≡ false → SaysAs assignments log g n rest e i i
 no_note log g n rest e i none = other (λ x v is. true≢false (sym (ap is_note is) ∙ none))
 
 module _ (log : List Logged) (idle : IdleGraph) (borne : IsBorneOut idle) (n : ℕ) (b : Block) (is : slice_get (graph_of idle).blocks n ≡ Some b) where
   -- where no path comes all stays
-  pub unreached_said : bits_of idle.reached 0 n ≡ false → (before rest : List Instruction) → b.instructions ≡ before ++ rest → AreSaid log (graph_of idle) n b.end rest rest
+  pub unreached_said : bits_of idle.reached 0 n ≡ false → (before rest : List Instruction) → b.instructions ≡ before ++ rest → AreSaid (assignments_of idle) log (graph_of idle) n b.end rest rest
   unreached_said none before [] parts = ends
   unreached_said none before (i ∷ rest) parts =
       let comes : IsReached (graph_of idle) n (i ∷ rest) b.end → ⊥ = λ r. true≢false (sym (reached_told (graph_of idle) (bits_of idle.reached 0) borne.led r) ∙ none) in
@@ -49,33 +50,33 @@ module _ (log : List Logged) (idle : IdleGraph) (borne : IsBorneOut idle) (n : �
 
 -- WHERE NOTHING GOES each note says what it said.
 module _ (log : List Logged) (idle : IdleGraph) (borne : IsBorneOut idle) (none : (n left : ℕ) → is_going (turn_of idle.turns.items) n left ≡ false) where
-  never : {n : ℕ} {rest : List Instruction} {e : End} → Goes (graph_of idle) n rest e → ⊥
+  never : {n : ℕ} {rest : List Instruction} {e : End} → Goes (assignments_of idle) (graph_of idle) n rest e → ⊥
   never goes = of goes.idle goes
     where
-      of : {n : ℕ} {rest : List Instruction} {e : End} → IsIdle (graph_of idle) n rest e → Goes (graph_of idle) n rest e → ⊥
+      of : {n : ℕ} {rest : List Instruction} {e : End} → IsIdle (assignments_of idle) (graph_of idle) n rest e → Goes (assignments_of idle) (graph_of idle) n rest e → ⊥
       of (is_idle {n} {i} {rest} {e} {p} {x} stood target may computed read_by) goes =
-          true≢false (sym ((borne.goes.goes n stood.block stood.before rest i stood.is stood.instructions).1 (subst (λ f. Goes (graph_of idle) n (i ∷ rest) f) stood.ends goes)) ∙ none n (length rest))
+          true≢false (sym ((borne.goes.goes n stood.block stood.before rest i stood.is stood.instructions).1 (subst (λ f. Goes (assignments_of idle) (graph_of idle) n (i ∷ rest) f) stood.ends goes)) ∙ none n (length rest))
 
-  never_stale : {y : ℕ} {h : History} → IsStale (graph_of idle) y h → ⊥
+  never_stale : {y : ℕ} {h : History} → IsStale (assignments_of idle) (graph_of idle) y h → ⊥
   never_stale (went it w) = never w.goes
   never_stale (stale_before it s) = never_stale s
 
   module _ (n : ℕ) (b : Block) (is : slice_get (graph_of idle).blocks n ≡ Some b) (has : HasPlace b.instructions b.place) (way : bits_of idle.reached 0 n ≡ true) where
-    same_said : (before : List Instruction) (i : Instruction) (rest : List Instruction) → b.instructions ≡ before ++ i ∷ rest → SaysAs log (graph_of idle) n rest b.end i i
+    same_said : (before : List Instruction) (i : Instruction) (rest : List Instruction) → b.instructions ≡ before ++ i ∷ rest → SaysAs (assignments_of idle) log (graph_of idle) n rest b.end i i
     same_said before (Note x v) rest parts =
         let placed = note_placed before rest x v b.place (subst (λ l. HasPlace l b.place) parts has) in
         noted (point_reached (graph_of idle) (bits_of idle.reached 0) borne.led n b before (Note x v ∷ rest) is parts way) (record { block = b; before = before; is = is; instructions = parts; ends = refl; place = placed.1 })
         (stays (λ d. never d.goes) (λ l. never_stale l.stale.stale))
     same_said before i rest parts = no_note log (graph_of idle) n rest b.end i refl
 
-    all_said : (before rest : List Instruction) → b.instructions ≡ before ++ rest → AreSaid log (graph_of idle) n b.end rest rest
+    all_said : (before rest : List Instruction) → b.instructions ≡ before ++ rest → AreSaid (assignments_of idle) log (graph_of idle) n b.end rest rest
     all_said before [] parts = ends
     all_said before (i ∷ rest) parts = stays never (same_said before i rest parts) (all_said (before ++ i ∷ []) rest (parts ∙ sym (append_assoc before (i ∷ []) rest)))
 
-  pub graph_same : ArePlaced (graph_of idle) → SaysWhatItShall log (graph_of idle) (graph_of idle)
+  pub graph_same : ArePlaced (graph_of idle) → SaysWhatItShall (assignments_of idle) log (graph_of idle) (graph_of idle)
   graph_same placed = record {
     notes = λ n b c at there. (let same_block : b ≡ c = same_Some b c (sym at ∙ there) in
-        subst (λ (d : Block). AreSaid log (graph_of idle) n b.end b.instructions d.instructions) same_block
+        subst (λ (d : Block). AreSaid (assignments_of idle) log (graph_of idle) n b.end b.instructions d.instructions) same_block
         (elim (cases_Bool (bits_of idle.reached 0 n)) [
           | inl way ↦ all_said n b at (placed n b at) way [] b.instructions refl
           | inr none_comes ↦ unreached_said log idle borne n b at none_comes [] b.instructions refl
@@ -99,7 +100,7 @@ pub record AreUnderWay (log : List Logged) (idle : IdleGraph) (notes : Notes) (n
   pub ready : IsReady log idle notes
   pub counted : length left ≡ number
   pub ahead_there : (k : ℕ) (b : Block) → slice_get ahead k ≡ Some b → slice_get (graph_of idle).blocks (number + k) ≡ Some b
-  pub said : (n : ℕ) (b c : Block) → slice_get (graph_of idle).blocks n ≡ Some b → slice_get left n ≡ Some c → AreSaid log (graph_of idle) n b.end b.instructions c.instructions
+  pub said : (n : ℕ) (b c : Block) → slice_get (graph_of idle).blocks n ≡ Some b → slice_get left n ≡ Some c → AreSaid (assignments_of idle) log (graph_of idle) n b.end b.instructions c.instructions
 
 module _ (log : List Logged) (idle : IdleGraph) where
   pub blocks_begin : (notes : Notes) (all : List Block) → IsReady log idle notes → (graph_of idle).blocks ≡ all → AreUnderWay log idle notes 0 all []
@@ -107,7 +108,7 @@ module _ (log : List Logged) (idle : IdleGraph) where
       record { ready = ready; counted = refl; ahead_there = λ k b at. (let z : 0 + k ≡ k = omega arith in ap (λ m. slice_get (graph_of idle).blocks m) z ∙ ap (λ l. slice_get l k) e ∙ at); said = λ n b c at there. absurd (none-some c there) }
 
   next_said : (old new : Notes) (number : ℕ) (x made : Block) (ahead left longer : List Block) → longer ≡ left ++ made ∷ [] → (IsReady log idle old → IsReady log idle new)
-      → (IsReady log idle old → slice_get (graph_of idle).blocks number ≡ Some x → AreSaid log (graph_of idle) number x.end x.instructions made.instructions)
+      → (IsReady log idle old → slice_get (graph_of idle).blocks number ≡ Some x → AreSaid (assignments_of idle) log (graph_of idle) number x.end x.instructions made.instructions)
       → AreUnderWay log idle old number (x ∷ ahead) left → AreUnderWay log idle new (number + 1) ahead longer
   next_said old new number x made ahead left longer grown ready said w =
       let counted = w.counted in
@@ -122,13 +123,13 @@ module _ (log : List Logged) (idle : IdleGraph) where
           | inl was ↦ w.said n b c at was
           | inr last ↦ (let last_number : number ≡ n = sym (last.0 ∙ counted) in
               let same_block : x ≡ b = same_Some x b (sym here ∙ ap (λ k. slice_get (graph_of idle).blocks k) last_number ∙ at) in
-              subst (λ (d : Block). AreSaid log (graph_of idle) n b.end b.instructions d.instructions) last.1
-              (subst (λ (d : Block). AreSaid log (graph_of idle) n d.end d.instructions made.instructions) same_block (subst (λ k. AreSaid log (graph_of idle) k x.end x.instructions made.instructions) last_number (said w.ready here))))
+              subst (λ (d : Block). AreSaid (assignments_of idle) log (graph_of idle) n b.end b.instructions d.instructions) last.1
+              (subst (λ (d : Block). AreSaid (assignments_of idle) log (graph_of idle) n d.end d.instructions made.instructions) same_block (subst (λ k. AreSaid (assignments_of idle) log (graph_of idle) k x.end x.instructions made.instructions) last_number (said w.ready here))))
         ];
       }
 
   pub blocks_on : {A : Type 0} (view : A → Block) (ahead : List A) (x : A) (old new : Notes) (number : ℕ) (made : Block) (left longer : List Block) → 1 ≤ length ahead → x ≡ get_or ahead 0 x → longer ≡ left ++ made ∷ [] → (IsReady log idle old → IsReady log idle new)
-      → (IsReady log idle old → slice_get (graph_of idle).blocks number ≡ Some (view x) → AreSaid log (graph_of idle) number (view x).end (view x).instructions made.instructions)
+      → (IsReady log idle old → slice_get (graph_of idle).blocks number ≡ Some (view x) → AreSaid (assignments_of idle) log (graph_of idle) number (view x).end (view x).instructions made.instructions)
       → AreUnderWay log idle old number (map view ahead) left → AreUnderWay log idle new (number + 1) (map view (take (length ahead - 1) (drop 1 ahead))) longer
   blocks_on view [] x old new number made left longer le e grown ready said w = absurd (omega (arith, le))
   blocks_on view (y ∷ ahead) x old new number made left longer le e grown ready said w =

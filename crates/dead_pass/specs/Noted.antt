@@ -1,5 +1,6 @@
 -- What is known for notes to be said as they shall, while a graph is gone over.
 use Rattle.std.specs.Prelude.{◌≡◌, ℕ, suc, true, Some, List, [], ◌∷◌, ◌++◌, length, slice_get}
+use Rattle.places.specs.declared.flow.Assignment.{Assignment}
 use Rattle.graph_core.specs.Graphs.{NoteValue, Instruction, Note, Block, Graph, Logged}
 use Rattle.graph_core.specs.Validity.{HasPlace, place_behind}
 use Rattle.graph_paths.specs.PathMarksTable.{bits_of}
@@ -39,7 +40,7 @@ pub record IsHere (idle : IdleGraph) (notes : Notes) (at : NotePoint) (b : Block
   pub come : HasComeBehind idle notes at.spot.block before (suc at.spot.left)
 
 -- Behind others stands what is left of an instruction that stays: if it is a note, it says what it shall.
-pub record IsSaidBehind (log : List Logged) (g : Graph) (n : ℕ) (b : Block) (i : Instruction) (rest old new : List Instruction) : Type 0 where
+pub record IsSaidBehind (assignments : List Assignment) (log : List Logged) (g : Graph) (n : ℕ) (b : Block) (i : Instruction) (rest old new : List Instruction) : Type 0 where
   pub left : Instruction
   pub is : new ≡ old ++ left ∷ []
-  pub says : SaysAs log g n rest b.end i left
+  pub says : SaysAs assignments log g n rest b.end i left

@@ -1,7 +1,7 @@
 //! What is left of a graph.
 
 ghost use Rattle.std.specs.Prelude.{◌≡◌, ◌<◌, ◌^◌, ◌++◌, IfOk, IfSome, List, None, OnOk, Some, false, ℕ, length, map, slice_get};
-ghost use Rattle.dead_pass_notes.specs.Idle.{IsBorneOut, graph_of};
+ghost use Rattle.dead_pass_notes.specs.Idle.{IsBorneOut, assignments_of, graph_of};
 ghost use Rattle.dead_pass_notes.specs.Said.{AreSaid, SaysAs, SaysWhatItShall};
 ghost use Rattle.dead_pass_notes.specs.Sources.{HasRoom};
 ghost use Rattle.dead_pass_notes.specs.RemovalNotesStale.{HasOtherWays};
@@ -63,7 +63,7 @@ fn left_note(
     ensures note { IfOk result (λ left. IsNoteOf of.0 (instruction_view left)) }
     ensures same { OnOk result (HasOtherWays notes.old notes.new) }
     ensures room { OnOk result (HasRoom idle.now notes.old.ways → HasRoom idle.now notes.new.ways) }
-    ensures said { IfOk result (λ left. (log : List Logged) (b : BlockForm) (before rest : List InstructionForm) → IsReady log idle.now notes.old → IsHere idle.now notes.old note b before (NoteOf of.0 (note_view value.now)) rest → SaysAs log (graph_of idle.now) note.spot.block rest b.end (NoteOf of.0 (note_view value.now)) (instruction_view left)) }
+    ensures said { IfOk result (λ left. (log : List Logged) (b : BlockForm) (before rest : List InstructionForm) → IsReady log idle.now notes.old → IsHere idle.now notes.old note b before (NoteOf of.0 (note_view value.now)) rest → SaysAs (assignments_of idle.now) log (graph_of idle.now) note.spot.block rest b.end (NoteOf of.0 (note_view value.now)) (instruction_view left)) }
 {
     let value = notes.said(alloc, idle, note, of, value)?;
     Ok(Instr::Note { of, value })
@@ -80,7 +80,7 @@ fn kept(
     ensures left { IfOk result (λ left. IsKeptAs (instruction_view instruction.now) (instruction_view left)) }
     ensures same { OnOk result (HasOtherWays notes.old notes.new) }
     ensures room { OnOk result (HasRoom idle.now notes.old.ways → HasRoom idle.now notes.new.ways) }
-    ensures said { IfOk result (λ left. (log : List Logged) (b : BlockForm) (before rest : List InstructionForm) → IsReady log idle.now notes.old → IsHere idle.now notes.old at b before (instruction_view instruction.now) rest → SaysAs log (graph_of idle.now) at.spot.block rest b.end (instruction_view instruction.now) (instruction_view left)) }
+    ensures said { IfOk result (λ left. (log : List Logged) (b : BlockForm) (before rest : List InstructionForm) → IsReady log idle.now notes.old → IsHere idle.now notes.old at b before (instruction_view instruction.now) rest → SaysAs (assignments_of idle.now) log (graph_of idle.now) at.spot.block rest b.end (instruction_view instruction.now) (instruction_view left)) }
 {
     if let Instr::Note { of, value } = instruction {
         let note = left_note(alloc, idle, notes, at, *of, value)?;
@@ -103,7 +103,7 @@ fn push_left(
     ensures left { OnOk result (IsPushed goes (instruction_view instruction.now) (map instruction_view left.old.items) (map instruction_view left.new.items)) }
     ensures same { OnOk result (HasOtherWays notes.old notes.new) }
     ensures room { OnOk result (HasRoom idle.now notes.old.ways → HasRoom idle.now notes.new.ways) }
-    ensures said { OnOk result ((log : List Logged) (b : BlockForm) (before rest : List InstructionForm) → goes ≡ false → IsReady log idle.now notes.old → IsHere idle.now notes.old at b before (instruction_view instruction.now) rest → IsSaidBehind log (graph_of idle.now) at.spot.block b (instruction_view instruction.now) rest (map instruction_view left.old.items) (map instruction_view left.new.items)) }
+    ensures said { OnOk result ((log : List Logged) (b : BlockForm) (before rest : List InstructionForm) → goes ≡ false → IsReady log idle.now notes.old → IsHere idle.now notes.old at b before (instruction_view instruction.now) rest → IsSaidBehind (assignments_of idle.now) log (graph_of idle.now) at.spot.block b (instruction_view instruction.now) rest (map instruction_view left.old.items) (map instruction_view left.new.items)) }
 {
     if goes {
         push_gone(alloc, instruction, left)?;
@@ -137,7 +137,7 @@ fn left_of(
 ) -> Result<Vec<Instr>, AllocError>
     ensures left { IfOk result (λ left. AreLeftBy (is_going (turn_of idle.now.turns.items) number) (map instruction_view instructions.now) (map instruction_view left.items)) }
     ensures ready { OnOk result ((log : List Logged) → IsReady log idle.now notes.old → IsReady log idle.now notes.new) }
-    ensures said { IfOk result (λ left. (log : List Logged) (b : BlockForm) → IsReady log idle.now notes.old → IsVisited idle.now number b → b.place ≡ placed kept_place → b.instructions ≡ map instruction_view instructions.now → AreSaid log (graph_of idle.now) number b.end b.instructions (map instruction_view left.items)) }
+    ensures said { IfOk result (λ left. (log : List Logged) (b : BlockForm) → IsReady log idle.now notes.old → IsVisited idle.now number b → b.place ≡ placed kept_place → b.instructions ≡ map instruction_view instructions.now → AreSaid (assignments_of idle.now) log (graph_of idle.now) number b.end b.instructions (map instruction_view left.items)) }
 {
     notes.begin(number);
     let mut left = Vec::new(alloc);
@@ -164,7 +164,7 @@ fn left_block(
 ) -> Result<Block, AllocError>
     ensures left { IfOk result (λ left. IsLeftBlockBy (is_going (turn_of idle.now.turns.items)) (bits_of idle.now.reached 0) number (block_view block.now) (block_view left)) }
     ensures ready { OnOk result ((log : List Logged) → IsReady log idle.now notes.old → IsReady log idle.now notes.new) }
-    ensures said { IfOk result (λ left. (log : List Logged) → IsReady log idle.now notes.old → slice_get (graph_of idle.now).blocks number ≡ Some (block_view block.now) → AreSaid log (graph_of idle.now) number (block_view block.now).end (block_view block.now).instructions (block_view left).instructions) }
+    ensures said { IfOk result (λ left. (log : List Logged) → IsReady log idle.now notes.old → slice_get (graph_of idle.now).blocks number ≡ Some (block_view block.now) → AreSaid (assignments_of idle.now) log (graph_of idle.now) number (block_view block.now).end (block_view block.now).instructions (block_view left).instructions) }
 {
     if !idle.is_reached(number) {
         let same = block.duplicate(alloc)?;
@@ -186,7 +186,7 @@ fn blocks_left(
 ) -> Result<Vec<Block>, AllocError>
     requires few { length blocks.now < 2 ^ 32 }
     ensures left { IfOk result (λ left. AreLeftBlocksBy (is_going (turn_of idle.now.turns.items)) (bits_of idle.now.reached 0) 0 (map block_view blocks.now) (map block_view left.items)) }
-    ensures said { IfOk result (λ left. (log : List Logged) → IsReady log idle.now notes.old → (graph_of idle.now).blocks ≡ map block_view blocks.now → SaysWhatItShall log (graph_of idle.now) (record (graph_of idle.now) { blocks = map block_view left.items })) }
+    ensures said { IfOk result (λ left. (log : List Logged) → IsReady log idle.now notes.old → (graph_of idle.now).blocks ≡ map block_view blocks.now → SaysWhatItShall (assignments_of idle.now) log (graph_of idle.now) (record (graph_of idle.now) { blocks = map block_view left.items })) }
 {
     let mut left = Vec::new(alloc);
     let mut number = 0u32;
@@ -207,8 +207,8 @@ pub fn graph_left(
     removed: &RemovedChanges,
 ) -> Result<Option<Graph>, AllocError>
     requires { IsBorneOut idle.now }
-    ensures left { IfOk result (λ o. IfSome o (λ left. IsReduced (graph_of idle.now) (graph_view left))) }
-    ensures notes { IfOk result (λ o. IfSome o (λ left. (log : List Logged) (u : UnitForm) → AreToldOf log removed.now → IsGraph u (graph_of idle.now) → SaysWhatItShall log (graph_of idle.now) (graph_view left))) }
+    ensures left { IfOk result (λ o. IfSome o (λ left. IsReduced (assignments_of idle.now) (graph_of idle.now) (graph_view left))) }
+    ensures notes { IfOk result (λ o. IfSome o (λ left. (log : List Logged) (u : UnitForm) → AreToldOf log removed.now → IsGraph u (graph_of idle.now) → SaysWhatItShall (assignments_of idle.now) log (graph_of idle.now) (graph_view left))) }
 {
     if idle.stays() {
         let same = idle.graph.duplicate(alloc)?;

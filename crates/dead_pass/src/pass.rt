@@ -2,9 +2,10 @@
 
 ghost use Rattle.std.specs.Prelude.{◌≡◌, ◌<◌, ◌^◌, IfOk, IfSome, List, codes, length, map};
 ghost use Rattle.std.specs.List.{AllByRecursion};
+ghost use Rattle.places.specs.declared.flow.Assignment.{Assignment};
 ghost use Rattle.debug_records.specs.Change.{pass_name};
 ghost use Rattle.debug_records.specs.declared.change.Kind.TheVariants.{Removed};
-ghost use Rattle.dead_pass_notes.specs.Idle.{IsBorneOut, graph_of};
+ghost use Rattle.dead_pass_notes.specs.Idle.{IsBorneOut, IsOf, graph_of};
 ghost use Rattle.dead_pass_notes.specs.Said.{SaysWhatItShall};
 ghost use Rattle.dead_pass_writes.specs.RemovedChangesTelling.{AreToldOf};
 ghost use Rattle.dead_pass.specs.Left.{IsLeftGraph};
@@ -22,6 +23,7 @@ use dead_pass_writes::RemovedChanges;
 use debug_records::{Kind, PassName};
 use graph_core::{Graph, Unit};
 use pass_law::{Case, log_cases};
+use places::FlowTable;
 use std::alloc::{AllocError, Global};
 
 /// The name of the pass.
@@ -35,13 +37,18 @@ fn dead_name() -> PassName
 }
 
 /// What goes of each graph.
-fn idle_graphs(alloc: Global, graphs: &[Graph]) -> Result<Option<Vec<IdleGraph<'_>>>, AllocError>
+fn idle_graphs<'a>(
+    alloc: Global,
+    graphs: &'a [Graph],
+    flow: &'a FlowTable,
+) -> Result<Option<Vec<IdleGraph<'a>>>, AllocError>
     ensures graphs { IfOk result (λ o. IfSome o (λ all. map graph_of all.items ≡ map graph_view graphs.now)) }
+    ensures assignments { IfOk result (λ o. IfSome o (λ all. AllByRecursion (IsOf flow.now.assignments.items) all.items)) }
     ensures borne_out { IfOk result (λ o. IfSome o (λ all. AllByRecursion IsBorneOut all.items)) }
 {
     let mut all = Vec::new(alloc);
     for graph in graphs {
-        let Some(idle) = IdleGraph::new(alloc, graph)? else {
+        let Some(idle) = IdleGraph::new(alloc, graph, flow)? else {
             return Ok(None);
         };
         all.push(idle)?;
@@ -52,7 +59,7 @@ fn idle_graphs(alloc: Global, graphs: &[Graph]) -> Result<Option<Vec<IdleGraph<'
 /// The assignments of scalars that go, function by function. None where their numbers are too large.
 fn removed_cases(alloc: Global, idle: &[IdleGraph<'_>]) -> Result<Option<Vec<Case>>, AllocError>
     requires { AllByRecursion IsBorneOut idle.now }
-    ensures { IfOk result (λ o. IfSome o (λ cases. AreCasesOf (λ before after. IsRemovedWrite before) (map graph_of idle.now) (map graph_of idle.now) cases.items)) }
+    ensures { IfOk result (λ o. IfSome o (λ cases. (assignments : List Assignment) → AllByRecursion (IsOf assignments) idle.now → AreCasesOf (λ before after. IsRemovedWrite assignments before) (map graph_of idle.now) (map graph_of idle.now) cases.items)) }
 {
     let mut cases = Vec::new(alloc);
     for number in 0..idle.len() {
@@ -71,8 +78,8 @@ fn graphs_left(
     removed: &RemovedChanges,
 ) -> Result<Option<Vec<Graph>>, AllocError>
     requires { AllByRecursion IsBorneOut idle.now }
-    ensures left { IfOk result (λ o. IfSome o (λ left. EachFunction IsReduced (map graph_of idle.now) (map graph_view left.items))) }
-    ensures notes { IfOk result (λ o. IfSome o (λ left. (log : List Logged) (u : UnitForm) → AreToldOf log removed.now → AllByRecursion (IsGraph u) (map graph_of idle.now) → EachFunction (SaysWhatItShall log) (map graph_of idle.now) (map graph_view left.items))) }
+    ensures left { IfOk result (λ o. IfSome o (λ left. (assignments : List Assignment) → AllByRecursion (IsOf assignments) idle.now → EachFunction (IsReduced assignments) (map graph_of idle.now) (map graph_view left.items))) }
+    ensures notes { IfOk result (λ o. IfSome o (λ left. (log : List Logged) (u : UnitForm) → AreToldOf log removed.now → AllByRecursion (IsGraph u) (map graph_of idle.now) → (assignments : List Assignment) → AllByRecursion (IsOf assignments) idle.now → EachFunction (SaysWhatItShall assignments log) (map graph_of idle.now) (map graph_view left.items))) }
 {
     let mut left = Vec::new(alloc);
     let mut ahead = idle;
@@ -87,7 +94,7 @@ fn graphs_left(
 }
 
 /// A unit without its dead assignments (Kennedy 1981; notes by Hennessy 1982). In code that some path reaches a computation goes, or a call's target, where what it
-/// writes is a temporary, or a scalar that nothing else assigns in its place, and each read that it reaches is by a computation that goes. The log tells each
+/// writes is a temporary, or a scalar that nothing else writes in its place, which assigns its variable, and each read that it reaches is by a computation that goes. The log tells each
 /// assignment of a scalar that goes by a change `Removed` of the pass `dead`: of its place and variable; in order of place, then of block and instruction. Its note gives the recipe of its right side, where there is one, or else that the value is gone by the change;
 /// earlier notes become so where a name of their recipe is no longer written.
 ///
@@ -99,13 +106,13 @@ pub fn remove_dead(alloc: Global, unit: &Unit) -> Result<Option<Unit>, AllocErro
     ensures valid { IfOk result (λ o. IfSome o (λ v. IsValid (unit_view v))) }
     ensures shared { IfOk result (λ o. IfSome o (λ v. ShareTheSame (unit_view unit.now) (unit_view v))) }
     ensures log { IfOk result (λ o. IfSome o (λ v. AddsChanges (pass_name (codes "dead")) Removed (unit_view unit.now) (unit_view v))) }
-    ensures changes { IfOk result (λ o. IfSome o (λ v. AddsChangesOf (pass_name (codes "dead")) Removed (λ before after. IsRemovedWrite before) (unit_view unit.now) (unit_view v))) }
+    ensures changes { IfOk result (λ o. IfSome o (λ v. AddsChangesOf (pass_name (codes "dead")) Removed (λ before after. IsRemovedWrite (unit_view unit.now).assignments before) (unit_view unit.now) (unit_view v))) }
     ensures functions { IfOk result (λ o. IfSome o (λ v. EachFunction KeepsAllButBlocks (unit_view unit.now).graphs (unit_view v).graphs)) }
     ensures left { IfOk result (λ o. IfSome o (λ v. EachFunction IsLeftGraph (unit_view unit.now).graphs (unit_view v).graphs)) }
-    ensures exact { IfOk result (λ o. IfSome o (λ v. EachFunction IsReduced (unit_view unit.now).graphs (unit_view v).graphs)) }
+    ensures exact { IfOk result (λ o. IfSome o (λ v. EachFunction (IsReduced (unit_view unit.now).assignments) (unit_view unit.now).graphs (unit_view v).graphs)) }
     ensures notes { IfOk result (λ o. IfSome o (λ v. SayWhatTheyShall (unit_view unit.now) (unit_view v))) }
 {
-    let Some(idle) = idle_graphs(alloc, &unit.graphs)? else {
+    let Some(idle) = idle_graphs(alloc, &unit.graphs, &unit.flow)? else {
         return Ok(None);
     };
     let Some(mut cases) = removed_cases(alloc, &idle)? else {

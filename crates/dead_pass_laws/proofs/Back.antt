@@ -26,11 +26,11 @@ module _ (u : UnitForm) (log : List Logged) (g : Graph) (blocks : List Block) (t
     pub comes : ComesTo g k note n rest e
     pub way : Leads g k note last n rest e
     pub are_true : AreTrue u.statics first h
-    pub stale : (y : ℕ) → IsStale g y h → (IsWrittenBetween g k note y n rest e → ⊥) → IsStale g y whole
-    pub holds : (y : ℕ) → (ComesStale g y k note last → ⊥) → (IsWrittenBetween g k note y n rest e → ⊥) → values_behind first h y ≡ others y
+    pub stale : (y : ℕ) → IsStale u.assignments g y h → (IsWrittenBetween u.assignments g k note y n rest e → ⊥) → IsStale u.assignments g y whole
+    pub holds : (y : ℕ) → (ComesStale u.assignments g y k note last → ⊥) → (IsWrittenBetween u.assignments g k note y n rest e → ⊥) → values_behind first h y ≡ others y
 
   -- So it is at the note.
-  pub from_note : AreTrue u.statics first whole → ((y : ℕ) → (ComesStale g y k note last → ⊥) → values_behind first whole y ≡ others y) → From whole k note last
+  pub from_note : AreTrue u.statics first whole → ((y : ℕ) → (ComesStale u.assignments g y k note last → ⊥) → values_behind first whole y ≡ others y) → From whole k note last
   from_note are_true fresh = record {
     along = arrives;
     comes = there refl refl;
@@ -73,7 +73,7 @@ module _ (u : UnitForm) (log : List Logged) (g : Graph) (blocks : List Block) (t
     behind = record { block = here.block; before = here.before; is = here.is; instructions = here.instructions; ends = here.ends }
 
     -- what goes went
-    pub it_went : Goes g n (i ∷ rest) e → Went g passed
+    pub it_went : Goes u.assignments g n (i ∷ rest) e → Went u.assignments g passed
     it_went goes = record { rest = rest; end = e; behind = behind; left = refl; goes = goes }
 
     module _ (from : From (passed ∷ h) n rest e) where
@@ -83,14 +83,14 @@ module _ (u : UnitForm) (log : List Logged) (g : Graph) (blocks : List Block) (t
 
       -- a write of a name that stays lies between here and the note
       abbrev IsBetween : ℕ → Type 0
-      IsBetween y = IsWrittenBetween g k note y n (i ∷ rest) e
+      IsBetween y = IsWrittenBetween u.assignments g k note y n (i ∷ rest) e
 
       -- where none lies between here and the note none lies between what is behind and the note
-      later : (y : ℕ) → (IsBetween y → ⊥) → IsWrittenBetween g k note y n rest e → ⊥
+      later : (y : ℕ) → (IsBetween y → ⊥) → IsWrittenBetween u.assignments g k note y n rest e → ⊥
       later y none b = none (still away plain b)
 
       -- what writes a name without a write between that stays makes it stale at the note
-      stale_there : (y : ℕ) → writes y i ≡ true → (IsBetween y → ⊥) → IsStale g y whole
+      stale_there : (y : ℕ) → writes y i ≡ true → (IsBetween y → ⊥) → IsStale u.assignments g y whole
       stale_there y it none = elim (decided u log g blocks taken n i rest e behind) [
         | inl goes ↦ from.stale y (went it (it_went goes)) (later y none)
         | inr stays ↦ absurd (none (written away it stays from.comes))

@@ -57,12 +57,12 @@ module _ (u : UnitForm) (log : List Logged) where
   unless_same false p q same = same
 
   -- What is left of a block to which control goes, and its end.
-  pub block_said : (g : Graph) (blocks : List Block) (n : ℕ) (b c : Block) → IsTaken u log g blocks → slice_get g.blocks n ≡ Some b → slice_get blocks n ≡ Some c → AreSaid log g n b.end b.instructions c.instructions
+  pub block_said : (g : Graph) (blocks : List Block) (n : ℕ) (b c : Block) → IsTaken u log g blocks → slice_get g.blocks n ≡ Some b → slice_get blocks n ≡ Some c → AreSaid u.assignments log g n b.end b.instructions c.instructions
   block_said g blocks n b c taken stood stands = taken.said.notes n b c stood stands
 
   -- and its end
   pub block_ends : (g : Graph) (blocks : List Block) (n : ℕ) (b c : Block) → IsTaken u log g blocks → slice_get g.blocks n ≡ Some b → slice_get blocks n ≡ Some c → c.end ≡ b.end
-  block_ends g blocks n b c taken stood stands = (let one : IsReducedBlock g n b c = taken.reduced.blocks n b c stood stands in one.end)
+  block_ends g blocks n b c taken stood stands = (let one : IsReducedBlock u.assignments g n b c = taken.reduced.blocks n b c stood stands in one.end)
 
   module _ (memory : Memory) (input : List ℕ) (f : ℕ) (vs : List Value) (xs ys : List Activation) (waits : Pairs (Waits u log) xs ys) where
     -- a graph that has a first block

@@ -35,10 +35,10 @@ pub record IsTaken (u : UnitForm) (log : List Logged) (g : Graph) (blocks : List
   pub valid : IsGraph u g
   pub marked : IsWellMarked u g
   pub different : AreAllDifferent (markers_of_blocks g.blocks)
-  pub reduced : IsReduced g (reduced_graph g blocks)
-  pub said : SaysWhatItShall log g (reduced_graph g blocks)
+  pub reduced : IsReduced u.assignments g (reduced_graph g blocks)
+  pub said : SaysWhatItShall u.assignments log g (reduced_graph g blocks)
   pub older : (p variable : ℕ) → WasTaken u.log p variable → HasRemoval log p variable
-  pub newer : (p x variable : ℕ) → IsVariable g x variable → IsDropped g p x → HasRemoval log p variable
+  pub newer : (p x variable : ℕ) → IsVariable g x variable → IsDropped u.assignments g p x → HasRemoval log p variable
 
 -- A value is what an instruction computes of names and constants, if it is a move, an operation or a truncation.
 abbrev pub IsValueOf : List StaticObject → (names : ℕ → Value) → Instruction → Value → Type 0
@@ -60,13 +60,13 @@ pub record Came (u : UnitForm) (log : List Logged) (g : Graph) (blocks : List Bl
   pub along : Path g history n rest end
   pub holds : names ≡ values_behind first history
   pub are_true : AreTrue u.statics first history
-  pub agree : (x : ℕ) → Lags g x history n rest end ⊎ (others x ≡ names x)
+  pub agree : (x : ℕ) → Lags u.assignments g x history n rest end ⊎ (others x ≡ names x)
 
 module _ (u : UnitForm) (log : List Logged) (g : Graph) (blocks : List Block) where
   module _ (names others : ℕ → Value) (n : ℕ) (i : Instruction) (rest : List Instruction) (e : End) (w : Value) where
     -- A name that is not written agrees or lags as before.
     agree_kept : (x : ℕ) (held : ℕ → Value) → (came : Came u log g blocks names others n (i ∷ rest) e) → writes x i ≡ false → held x ≡ others x
-        → Lags g x (record { block = n; left = length rest; instruction = i; wrote = w } ∷ came.history) n rest e ⊎ (held x ≡ name_by (target_of i) w names x)
+        → Lags u.assignments g x (record { block = n; left = length rest; instruction = i; wrote = w } ∷ came.history) n rest e ⊎ (held x ≡ name_by (target_of i) w names x)
     agree_kept x held came other same = elim (came.agree x) [
       | inl lags ↦ inl (lags_behind g x came.history n i rest e w other lags)
       | inr one ↦ inr (same ∙ one ∙ sym (name_kept (target_of i) w names x (unwritten_other x i other)))
@@ -88,7 +88,7 @@ module _ (u : UnitForm) (log : List Logged) (g : Graph) (blocks : List Block) wh
     }
 
     -- An instruction whose write goes: the name lags.
-    pub came_over : IsValueOf u.statics names i w → Goes g n (i ∷ rest) e → Came u log g blocks names others n (i ∷ rest) e → Came u log g blocks (name_by (target_of i) w names) others n rest e
+    pub came_over : IsValueOf u.statics names i w → Goes u.assignments g n (i ∷ rest) e → Came u log g blocks names others n (i ∷ rest) e → Came u log g blocks (name_by (target_of i) w names) others n rest e
     came_over is goes_there came = record {
       taken = came.taken;
       first = came.first;
@@ -125,7 +125,7 @@ module _ (u : UnitForm) (log : List Logged) (g : Graph) (blocks : List Block) wh
     }
 
     -- What comes next and is no computation that goes reads names that agree.
-    pub reads_agree : (rest : List Instruction) (e : End) → ((is_computed_next rest ≡ true) → Goes g n rest e → ⊥) → Came u log g blocks names others n rest e → (x : ℕ) → ReadsNext x rest e → others x ≡ names x
+    pub reads_agree : (rest : List Instruction) (e : End) → ((is_computed_next rest ≡ true) → Goes u.assignments g n rest e → ⊥) → Came u log g blocks names others n rest e → (x : ℕ) → ReadsNext x rest e → others x ≡ names x
     reads_agree rest e stay came x reads = elim (came.agree x) [
       | inl lags ↦ (let both = lags_read g x came.history n rest e lags reads in
           absurd (stay both.0 (record { reached = record { history = came.history; path = came.along }; idle = both.1 })))

@@ -20,7 +20,7 @@ use Rattle.dead_pass_laws.proofs.Whole.{function_made, removed_follows}
 use Rattle.dead_pass_laws.proofs.Marked.{graph_marked}
 use Rattle.dead_pass_laws.proofs.Program.{removed_program}
 
-module _ (u v : UnitForm) (marked : AreWellMarked u) (shared : ShareTheSame u v) (pass : PassName) (adds : AddsChangesOf pass Removed (λ before after. IsRemovedWrite before) u v) where
+module _ (u v : UnitForm) (marked : AreWellMarked u) (shared : ShareTheSame u v) (pass : PassName) (adds : AddsChangesOf pass Removed (λ before after. IsRemovedWrite u.assignments before) u v) where
   -- What a change of the log before removed, one of the log after did.
   removed_still : (p variable : ℕ) → WasTaken u.log p variable → WasTaken v.log p variable
   removed_still p variable r =
@@ -28,27 +28,27 @@ module _ (u v : UnitForm) (marked : AreWellMarked u) (shared : ShareTheSame u v)
       (record { change = r.change; logged = among_left r.change u.log (map (logged_as pass Removed) adds.cases) r.logged; taken = r.taken; at = r.at; of = r.of })
 
   -- What is made of a function is well marked.
-  function_marked : (f : ℕ) (g h : Graph) → slice_get u.graphs f ≡ Some g → slice_get v.graphs f ≡ Some h → IsReduced g h → SaysWhatItShall v.log g h → IsWellMarked v h
+  function_marked : (f : ℕ) (g h : Graph) → slice_get u.graphs f ≡ Some g → slice_get v.graphs f ≡ Some h → IsReduced u.assignments g h → SaysWhatItShall u.assignments v.log g h → IsWellMarked v h
   function_marked f g h stood stands reduced said =
       let made : IsMade u v.log g h = function_made u v marked pass adds f g h stood stands reduced said in
       subst (λ k. IsWellMarked v k) (sym made.is) (graph_marked u v shared g h.blocks made.taken removed_still)
 
   -- So is each function of the unit after.
-  functions_marked : EachFunction IsReduced u.graphs v.graphs → SayWhatTheyShall u v → (f : ℕ) (h : Graph) → slice_get v.graphs f ≡ Some h → IsWellMarked v h
-  functions_marked reduced said f h at = by_both (each_at (λ g k. IsReduced g k × SaysWhatItShall v.log g k) u.graphs v.graphs f (each_of_both IsReduced (SaysWhatItShall v.log) u.graphs v.graphs reduced said))
+  functions_marked : EachFunction (IsReduced u.assignments) u.graphs v.graphs → SayWhatTheyShall u v → (f : ℕ) (h : Graph) → slice_get v.graphs f ≡ Some h → IsWellMarked v h
+  functions_marked reduced said f h at = by_both (each_at (λ g k. IsReduced u.assignments g k × SaysWhatItShall u.assignments v.log g k) u.graphs v.graphs f (each_of_both (IsReduced u.assignments) (SaysWhatItShall u.assignments v.log) u.graphs v.graphs reduced said))
     where
-      by_both : AtBoth (λ g k. IsReduced g k × SaysWhatItShall v.log g k) u.graphs v.graphs f → IsWellMarked v h
+      by_both : AtBoth (λ g k. IsReduced u.assignments g k × SaysWhatItShall u.assignments v.log g k) u.graphs v.graphs f → IsWellMarked v h
       by_both (inl none) = (let no : None ≡ Some h = sym none.1 ∙ at in absurd (none-some h no))
       by_both (inr some) = (let one : some.1 ≡ h = same_Some some.1 h (sym some.3 ∙ at) in subst (λ k. IsWellMarked v k) one (function_marked f some.0 some.1 some.2 some.3 some.4.0 some.4.1))
 
 -- THE REMOVAL OF DEAD ASSIGNMENTS KEEPS MARKS. Where from each function of a well marked unit just the writes are gone that go, notes say what they shall, a change is logged for each write of a variable
 -- that went, and what functions share is the same, the unit after is well marked, if it is valid.
-pub removed_marked : (u v : UnitForm) → AreWellMarked u → IsValid v → ShareTheSame u v → (pass : PassName) → AddsChangesOf pass Removed (λ before after. IsRemovedWrite before) u v → EachFunction IsReduced u.graphs v.graphs → SayWhatTheyShall u v
+pub removed_marked : (u v : UnitForm) → AreWellMarked u → IsValid v → ShareTheSame u v → (pass : PassName) → AddsChangesOf pass Removed (λ before after. IsRemovedWrite u.assignments before) u v → EachFunction (IsReduced u.assignments) u.graphs v.graphs → SayWhatTheyShall u v
     → AreWellMarked v
 removed_marked u v marked valid shared pass adds reduced said = record { valid = valid; graphs = functions_marked u v marked shared pass adds reduced said }
 
 -- THE REMOVAL OF DEAD ASSIGNMENTS KEEPS WHAT A UNIT DOES.
-pub removed_keeps : (u v : UnitForm) → AreWellMarked u → IsValid v → ShareTheSame u v → (pass : PassName) → AddsChangesOf pass Removed (λ before after. IsRemovedWrite before) u v → EachFunction IsReduced u.graphs v.graphs → SayWhatTheyShall u v
+pub removed_keeps : (u v : UnitForm) → AreWellMarked u → IsValid v → ShareTheSame u v → (pass : PassName) → AddsChangesOf pass Removed (λ before after. IsRemovedWrite u.assignments before) u v → EachFunction (IsReduced u.assignments) u.graphs v.graphs → SayWhatTheyShall u v
     → Keeps u v
 removed_keeps u v marked valid shared pass adds reduced said = record {
   marked = marked;

@@ -3,13 +3,14 @@ use Rattle.std.proofs.Common.{◌≡◌, ℕ, suc, ◌<◌, inl, inr, true, fals
 use Rattle.std.specs.Prelude.{◌==◌, ◌&&◌, slice_get}
 use Rattle.std.proofs.lemmas.Bool.{cases_Bool}
 use Rattle.std.proofs.lemmas.Option.{same_Some}
+use Rattle.places.specs.declared.flow.Assignment.{Assignment}
 use Rattle.graph_core.specs.declared.value.Value.{Value}
 use Rattle.graph_core.specs.Graphs.{Instruction, Marker, Note, Move, Operate, Truncate, Same, Address, Load, Store, Zero, CopyWords, Call, End, Block, Graph, Logged, UnitForm}
 use Rattle.graph_core.specs.Paths.{History, Way, stays, passes, goes, Path, path, place_by, place_of, is_marker, is_bound}
 use Rattle.graph_core.specs.Points.{StandsWith, assignments_in}
 use Rattle.graph_core.specs.Uses.{target_of}
 use Rattle.graph_core_weights.proofs.Standing.{StandsSo, path_stands, marker_once}
-use Rattle.dead_pass_rule.specs.Idle.{MayGo, IsIdle, idle, Goes}
+use Rattle.dead_pass_rule.specs.Idle.{MayGo, assigns_scalar, IsIdle, idle, Goes}
 use Rattle.dead_pass_notes.specs.Stale.{Went, IsStale, went, before as stale_before}
 use Rattle.dead_pass_laws.proofs.Came.{IsTaken}
 use Rattle.dead_pass_laws.proofs.Once.{not_bound}
@@ -62,36 +63,37 @@ plain_target x (CopyWords o w v) target = refl
 plain_target x (Call y f all) target = refl
 
 -- A write of a scalar that goes stands in a place that assigns the scalar once.
-pub record IsOnceIn (g : Graph) (x m : ℕ) (rest : List Instruction) (e : End) : Type 0 where
+pub record IsOnceIn (assignments : List Assignment) (g : Graph) (x m : ℕ) (rest : List Instruction) (e : End) : Type 0 where
   pub place : ℕ
   pub stands : StandsWith g place m rest e
   pub once : assignments_in g place x ≡ 1
+  pub assigned : assigns_scalar assignments g place x ≡ true
 
 -- a write of a scalar that is idle stands in one
-idle_once : (g : Graph) (x m : ℕ) (j : Instruction) (more : List Instruction) (f : End) → target_of j ≡ Some x → x < length g.scalars → IsIdle g m (j ∷ more) f → IsOnceIn g x m (j ∷ more) f
-idle_once g x m j more f target less (idle {p} {x = y} stands written may computes further) = record { place = p; stands = stands; once = by_may may }
+idle_once : {assignments : List Assignment} → (g : Graph) (x m : ℕ) (j : Instruction) (more : List Instruction) (f : End) → target_of j ≡ Some x → x < length g.scalars → IsIdle assignments g m (j ∷ more) f → IsOnceIn assignments g x m (j ∷ more) f
+idle_once {assignments} g x m j more f target less (idle {p} {x = y} stands written may computes further) = (let both = by_may may in record { place = p; stands = stands; once = both.0; assigned = both.1 })
   where
     one : y ≡ x
     one = same_Some y x (sym written ∙ target)
 
-    by_may : MayGo g p y → assignments_in g p x ≡ 1
+    by_may : MayGo assignments g p y → (assignments_in g p x ≡ 1) × (assigns_scalar assignments g p x ≡ true)
     by_may (inl over) = absurd (omega (arith, over, less, one))
-    by_may (inr once) = sym (ap (assignments_in g p) one) ∙ once
+    by_may (inr both) = (sym (ap (assignments_in g p) one) ∙ both.0, sym (ap (assigns_scalar assignments g p) one) ∙ both.1)
 
 -- So does one that goes.
-pub goes_once : (g : Graph) (x m : ℕ) (j : Instruction) (more : List Instruction) (f : End) → target_of j ≡ Some x → x < length g.scalars → Goes g m (j ∷ more) f → IsOnceIn g x m (j ∷ more) f
+pub goes_once : {assignments : List Assignment} → (g : Graph) (x m : ℕ) (j : Instruction) (more : List Instruction) (f : End) → target_of j ≡ Some x → x < length g.scalars → Goes assignments g m (j ∷ more) f → IsOnceIn assignments g x m (j ∷ more) f
 goes_once g x m j more f target less it_goes = idle_once g x m j more f target less it_goes.idle
 
 module _ (u : UnitForm) (log : List Logged) (g : Graph) (blocks : List Block) (taken : IsTaken u log g blocks) where
   -- What went of a path goes at its point.
-  pub went_goes : (h : History) (n : ℕ) (i : Instruction) (rest : List Instruction) (e : End) (v : Value) → Path g h n (i ∷ rest) e → Went g (record { block = n; left = length rest; instruction = i; wrote = v }) → Goes g n (i ∷ rest) e
+  pub went_goes : (h : History) (n : ℕ) (i : Instruction) (rest : List Instruction) (e : End) (v : Value) → Path g h n (i ∷ rest) e → Went u.assignments g (record { block = n; left = length rest; instruction = i; wrote = v }) → Goes u.assignments g n (i ∷ rest) e
   went_goes h n i rest e v along w =
       let s = path_at u g taken.valid taken.marked along in
       let one : w.behind.block ≡ s.block = same_Some w.behind.block s.block (sym w.behind.is ∙ s.is) in
       let parts : w.behind.before ++ i ∷ w.rest ≡ s.before ++ i ∷ rest = sym w.behind.instructions ∙ ap (λ (b : Block). b.instructions) one ∙ s.instructions in
       let left : w.rest ≡ rest = rest_same (same_behind w.behind.before s.before (i ∷ w.rest) (i ∷ rest) (ap suc w.left) parts) in
       let ends : w.end ≡ e = w.behind.ends ∙ ap (λ (b : Block). b.end) one ∙ sym s.ends in
-      subst (λ f. Goes g n (i ∷ rest) f) ends (subst (λ l. Goes g n (i ∷ l) w.end) left w.goes)
+      subst (λ f. Goes u.assignments g n (i ∷ rest) f) ends (subst (λ l. Goes u.assignments g n (i ∷ l) w.end) left w.goes)
 
   -- Only at its beginning a path comes to the entry's marker.
   entry_first : (h : History) (n : ℕ) (rest : List Instruction) (e : End) → Path g h n (Marker g.entry ∷ rest) e → h ≡ []
@@ -103,14 +105,14 @@ module _ (u : UnitForm) (log : List Logged) (g : Graph) (blocks : List Block) (t
 
   module _ (x : ℕ) (scalar : x < length g.scalars) (bound : (g.entry == g.entry && is_bound x g.parameters) ≡ true) where
     -- nothing is stale where nothing was passed
-    none_stale : (h : History) → h ≡ [] → IsStale g x h → ⊥
-    none_stale h none stale = absurd_first (subst (λ l. IsStale g x l) none stale)
+    none_stale : (h : History) → h ≡ [] → IsStale u.assignments g x h → ⊥
+    none_stale h none stale = absurd_first (subst (λ l. IsStale u.assignments g x l) none stale)
       where
-        absurd_first : IsStale g x [] → ⊥
+        absurd_first : IsStale u.assignments g x [] → ⊥
         absurd_first s = elim s [ ]
 
     -- a write of it in the entry's place does not go
-    goes_not : (h : History) (n : ℕ) (i : Instruction) (rest : List Instruction) (e : End) → Path g h n (i ∷ rest) e → target_of i ≡ Some x → place_of h ≡ Some g.entry → Goes g n (i ∷ rest) e → ⊥
+    goes_not : (h : History) (n : ℕ) (i : Instruction) (rest : List Instruction) (e : End) → Path g h n (i ∷ rest) e → target_of i ≡ Some x → place_of h ≡ Some g.entry → Goes u.assignments g n (i ∷ rest) e → ⊥
     goes_not h n i rest e along target place it_goes =
         let o = goes_once g x n i rest e target scalar it_goes in
         let one : o.place ≡ g.entry = same_Some o.place g.entry (sym (stands_path u g taken.valid taken.marked h n i rest e o.place along (plain_target x i target) o.stands) ∙ place) in
@@ -119,7 +121,7 @@ module _ (u : UnitForm) (log : List Logged) (g : Graph) (blocks : List Block) (t
 
     module _ (b : Block) (at : slice_get g.blocks 0 ≡ Some b) where
       -- so it is along a way from the first block
-      way_fresh : {h : History} {n : ℕ} {rest : List Instruction} {e : End} → Way g 0 b.instructions b.end h n rest e → place_of h ≡ Some g.entry → IsStale g x h → ⊥
+      way_fresh : {h : History} {n : ℕ} {rest : List Instruction} {e : End} → Way g 0 b.instructions b.end h n rest e → place_of h ≡ Some g.entry → IsStale u.assignments g x h → ⊥
       way_fresh stays place stale = none_stale [] refl stale
       way_fresh (passes {h} {n} {i} {left} {e} way v) place (went it w) =
           let target = target_written x i it in
@@ -131,5 +133,5 @@ module _ (u : UnitForm) (log : List Logged) (g : Graph) (blocks : List Block) (t
       way_fresh (goes way to c there) place stale = way_fresh way place stale
 
     -- A scalar that a parameter is bound to is not stale in the entry's place.
-    pub bound_fresh : (h : History) (n : ℕ) (rest : List Instruction) (e : End) → Path g h n rest e → place_of h ≡ Some g.entry → IsStale g x h → ⊥
+    pub bound_fresh : (h : History) (n : ℕ) (rest : List Instruction) (e : End) → Path g h n rest e → place_of h ≡ Some g.entry → IsStale u.assignments g x h → ⊥
     bound_fresh h n rest e (path b at way) place stale = way_fresh b at way place stale

@@ -38,13 +38,13 @@ less_told false w v b c write before none = (let both = or_parts w b none in or_
 module _ (u : UnitForm) (log : List Logged) (g : Graph) (blocks : List Block) (taken : IsTaken u log g blocks) where
   -- A name lags where a path has come, and a write of it that goes stands in the place in force.
   pub record LagsHere (x : ℕ) (hist : History) (n : ℕ) (rest : List Instruction) (e : End) : Type 0 where
-    pub lags : Lags g x hist n rest e
-    pub goes_here : (p : ℕ) → place_of hist ≡ Some p → GoesIn g p x
+    pub lags : Lags u.assignments g x hist n rest e
+    pub goes_here : (p : ℕ) → place_of hist ≡ Some p → GoesIn u.assignments g p x
 
   -- A name was written in the place in force on the path of the graph after, by what stays.
   pub record IsStill (x : ℕ) (hist after : History) : Type 0 where
     pub was_written : written (reduced_graph g blocks) x after ≡ true
-    pub stays_written : (p : ℕ) → place_of hist ≡ Some p → StaysWritten g p x
+    pub stays_written : (p : ℕ) → place_of hist ≡ Some p → StaysWritten u.assignments g p x
 
   -- A history of the graph before and one of the graph after that follows it: the places are the same, calls too, no more is owed, and a name that was written in the place was written, or lags.
   pub record IsFollowed (hist after : History) (n : ℕ) (rest : List Instruction) (e : End) : Type 0 where
@@ -90,7 +90,7 @@ module _ (u : UnitForm) (log : List Logged) (g : Graph) (blocks : List Block) (t
       stands_here p place = path_stands u g taken.valid taken.marked hist n i rest e p along plain (place_same p place)
 
       -- Where it goes, a name that it writes lags behind it.
-      lags_new : (x : ℕ) → writes x i ≡ true → Goes g n (i ∷ rest) e → LagsHere x longer n rest e
+      lags_new : (x : ℕ) → writes x i ≡ true → Goes u.assignments g n (i ∷ rest) e → LagsHere x longer n rest e
       lags_new x it goes = record {
         lags = lags_first g x hist n i rest e w behind (target_written x i it) goes;
         goes_here = λ p place. record { n = n; instruction = i; rest = rest; end = e; stands = stands_here p place; target = target_written x i it; goes = goes };
@@ -106,7 +106,7 @@ module _ (u : UnitForm) (log : List Logged) (g : Graph) (blocks : List Block) (t
 
     -- ---- Nothing is left of it
 
-    module _ (computes : is_computation i ≡ true) (goes : Goes g n (i ∷ rest) e) where
+    module _ (computes : is_computation i ≡ true) (goes : Goes u.assignments g n (i ∷ rest) e) where
       -- it is plain
       is_plain : IsPlain i
       is_plain = computed_plain i computes
@@ -132,7 +132,7 @@ module _ (u : UnitForm) (log : List Logged) (g : Graph) (blocks : List Block) (t
 
     -- ---- Something is left of it
 
-    module _ (j : Instruction) (more : List Instruction) (v : Value) (left : IsLeft log g n rest e i j) where
+    module _ (j : Instruction) (more : List Instruction) (v : Value) (left : IsLeft u.assignments log g n rest e i j) where
       -- what is left is like it
       like : IsLike i j
       like = left_like log g n rest e left
@@ -149,7 +149,7 @@ module _ (u : UnitForm) (log : List Logged) (g : Graph) (blocks : List Block) (t
             ∙ less_told (notes x i) (writes x i) (writes x j) b c (like.write x) before (sym (owed_plain assigns x i b plain) ∙ none)
       ]
         where
-          by_marker : is_marker i ≡ true → StaysOrCalls log g n rest e i j → owed_by assigns x j c ≡ false
+          by_marker : is_marker i ≡ true → StaysOrCalls u.assignments log g n rest e i j → owed_by assigns x j c ≡ false
           by_marker marks (inl kept) = owed_marker assigns x b c (said_kept log g n rest e kept.1) marks ∙ none
           by_marker marks (inr calls) = absurd (true≢false (sym marks ∙ calls.1))
 
@@ -171,7 +171,7 @@ module _ (u : UnitForm) (log : List Logged) (g : Graph) (blocks : List Block) (t
         written_after x it = if_false (is_marker j) (bound_at (reduced_graph g blocks) x j) (writes x j || written (reduced_graph g blocks) x after) (like.marker ∙ plain) ∙ it
 
         -- a name that it writes is written, or lags
-        still_now : (x : ℕ) → writes x i ≡ true → StaysOrCalls log g n rest e i j → LagsHere x longer n rest e ⊎ IsStill x longer longer_after
+        still_now : (x : ℕ) → writes x i ≡ true → StaysOrCalls u.assignments log g n rest e i j → LagsHere x longer n rest e ⊎ IsStill x longer longer_after
         still_now x now (inr calls) = inl (lags_new plain x now calls.0)
         still_now x now (inl kept) = inr (record {
           was_written = written_after x (or_left (writes x j) (written (reduced_graph g blocks) x after) (kept_writes x (said_kept log g n rest e kept.1) ∙ now));

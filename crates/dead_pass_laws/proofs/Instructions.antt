@@ -2,6 +2,7 @@
 use Rattle.std.proofs.Common.{◌≡◌, ℕ, ◌⊎◌, inl, inr, Bool, true, false, true≢false, Option, Some, None, List, [], ◌∷◌, refl, sym, ap}
 use Rattle.std.specs.Prelude.{◌||◌, if◌then◌else◌}
 use Rattle.std.proofs.lemmas.Option.{none-some}
+use Rattle.places.specs.declared.flow.Assignment.{Assignment}
 use Rattle.graph_core.specs.declared.instruction.Callee.{Callee}
 use Rattle.graph_core.specs.Graphs.{Operand, NoteValue, Instruction, Marker, Note, Move, Operate, Truncate, Same, Address, Load, Store, Zero, CopyWords, Call, End, Graph, Logged}
 use Rattle.graph_core.specs.Paths.{place_by, writes, is_marker, is_call, notes, bound_at, owed_by}
@@ -37,11 +38,11 @@ target_as (Call None f all) x target = absurd (none-some x target)
 target_as (Call (Some y) f all) x target = called
 
 -- What is idle writes a name.
-idle_as : (g : Graph) (n : ℕ) (i : Instruction) (rest : List Instruction) (e : End) → IsIdle g n (i ∷ rest) e → GoesAs i
+idle_as : {assignments : List Assignment} → (g : Graph) (n : ℕ) (i : Instruction) (rest : List Instruction) (e : End) → IsIdle assignments g n (i ∷ rest) e → GoesAs i
 idle_as g n i rest e (idle {x = x} stands written may computes further) = target_as i x written
 
 -- So what goes is one of these.
-pub goes_as : (g : Graph) (n : ℕ) (i : Instruction) (rest : List Instruction) (e : End) → Goes g n (i ∷ rest) e → GoesAs i
+pub goes_as : {assignments : List Assignment} → (g : Graph) (n : ℕ) (i : Instruction) (rest : List Instruction) (e : End) → Goes assignments g n (i ∷ rest) e → GoesAs i
 goes_as g n i rest e goes = idle_as g n i rest e goes.idle
 
 -- What holds of a computation: it begins no place, notes nothing, calls nothing, and nothing is left of it where it goes.
@@ -99,25 +100,25 @@ kept_like : {i j : Instruction} → IsKeptAs i j → IsLike i j
 kept_like same = record { marker = refl; place = λ o. refl; behind = λ o. refl; call = refl; note = λ x. refl; reads = refl; bound = λ g x. refl; write = λ x none. none }
 kept_like kept_noted = record { marker = refl; place = λ o. refl; behind = λ o. refl; call = refl; note = λ x. refl; reads = refl; bound = λ g x. refl; write = λ x none. none }
 
-module _ (log : List Logged) (g : Graph) (n : ℕ) (rest : List Instruction) (e : End) where
+module _ {assignments : List Assignment} (log : List Logged) (g : Graph) (n : ℕ) (rest : List Instruction) (e : End) where
   -- What a note shall say is said by a note of the same scalar, and else it is the same.
-  pub said_kept : {i j : Instruction} → SaysAs log g n rest e i j → IsKeptAs i j
+  pub said_kept : {i j : Instruction} → SaysAs assignments log g n rest e i j → IsKeptAs i j
   said_kept (noted reached stands said) = kept_noted
   said_kept (unreached none) = same
   said_kept (other none) = same
 
   -- So what is left of one is like it.
-  pub left_like : {i j : Instruction} → IsLeft log g n rest e i j → IsLike i j
+  pub left_like : {i j : Instruction} → IsLeft assignments log g n rest e i j → IsLike i j
   left_like (stays stay said) = kept_like (said_kept said)
   left_like (untargeted goes) = record { marker = refl; place = λ o. refl; behind = λ o. refl; call = refl; note = λ x. refl; reads = refl; bound = λ h x. refl; write = λ x none. refl }
 
 -- What stays is kept, and what goes and leaves something is a call, which is no marker and no computation, and writes nothing any more.
-abbrev pub StaysOrCalls : (log : List Logged) (g : Graph) (n : ℕ) (rest : List Instruction) (e : End) (i j : Instruction) → Type 0
-StaysOrCalls log g n rest e i j =
-    ((Goes g n (i ∷ rest) e → ⊥) × SaysAs log g n rest e i j) ⊎ (Goes g n (i ∷ rest) e × (is_marker i ≡ false) × (is_computation i ≡ false) × ((x : ℕ) → writes x j ≡ false))
+abbrev pub StaysOrCalls : (assignments : List Assignment) (log : List Logged) (g : Graph) (n : ℕ) (rest : List Instruction) (e : End) (i j : Instruction) → Type 0
+StaysOrCalls assignments log g n rest e i j =
+    ((Goes assignments g n (i ∷ rest) e → ⊥) × SaysAs assignments log g n rest e i j) ⊎ (Goes assignments g n (i ∷ rest) e × (is_marker i ≡ false) × (is_computation i ≡ false) × ((x : ℕ) → writes x j ≡ false))
 
 -- So it is of what is left.
-pub left_cases : (log : List Logged) (g : Graph) (n : ℕ) (rest : List Instruction) (e : End) {i j : Instruction} → IsLeft log g n rest e i j → StaysOrCalls log g n rest e i j
+pub left_cases : {assignments : List Assignment} → (log : List Logged) (g : Graph) (n : ℕ) (rest : List Instruction) (e : End) {i j : Instruction} → IsLeft assignments log g n rest e i j → StaysOrCalls assignments log g n rest e i j
 left_cases log g n rest e (stays stay said) = inl (stay, said)
 left_cases log g n rest e (untargeted goes) = inr (goes, refl, refl, λ x. refl)
 
@@ -128,14 +129,14 @@ is_fixed (Call x f all) = false
 is_fixed _ = true
 
 -- What is left and is neither a note nor a call was the same.
-pub left_was : (log : List Logged) (g : Graph) (n : ℕ) (rest : List Instruction) (e : End) {i j : Instruction} → IsLeft log g n rest e i j → is_fixed j ≡ true → i ≡ j
+pub left_was : {assignments : List Assignment} → (log : List Logged) (g : Graph) (n : ℕ) (rest : List Instruction) (e : End) {i j : Instruction} → IsLeft assignments log g n rest e i j → is_fixed j ≡ true → i ≡ j
 left_was log g n rest e (stays stay (noted reached stands said)) fixed = absurd (true≢false (sym fixed))
 left_was log g n rest e (stays stay (unreached none)) fixed = refl
 left_was log g n rest e (stays stay (other none)) fixed = refl
 left_was log g n rest e (untargeted goes) fixed = absurd (true≢false (sym fixed))
 
 -- What is left as a note was a note of the same scalar.
-pub left_note : (log : List Logged) (g : Graph) (n : ℕ) (rest : List Instruction) (e : End) {i j : Instruction} (x : ℕ) (w : NoteValue) → IsLeft log g n rest e i j → j ≡ Note x w → (v : NoteValue) × (i ≡ Note x v)
+pub left_note : {assignments : List Assignment} → (log : List Logged) (g : Graph) (n : ℕ) (rest : List Instruction) (e : End) {i j : Instruction} (x : ℕ) (w : NoteValue) → IsLeft assignments log g n rest e i j → j ≡ Note x w → (v : NoteValue) × (i ≡ Note x v)
 left_note log g n rest e x w (stays stay (noted {v = v} reached stands said)) one = (let name = note_name one in (v, ap (λ z. Note z v) name))
 left_note log g n rest e x w (stays stay (unreached none)) one = (w, one)
 left_note log g n rest e x w (stays stay (other none)) one = (w, one)

@@ -35,7 +35,7 @@ behind_at : {A : Type 0} (xs ys : List A) (k : ℕ) (x : A) → slice_get ys k �
 behind_at [] ys k x at = (k, at)
 behind_at (y ∷ xs) ys k x at = (let later = behind_at xs ys k x at in (suc later.0, later.1))
 
-module _ (u v : UnitForm) (pass : PassName) (adds : AddsChangesOf pass Removed (λ before after. IsRemovedWrite before) u v) where
+module _ (u v : UnitForm) (pass : PassName) (adds : AddsChangesOf pass Removed (λ before after. IsRemovedWrite u.assignments before) u v) where
   -- Of an assignment that went before some change tells.
   pub older_told : (p variable : ℕ) → WasTaken u.log p variable → HasRemoval v.log p variable
   older_told p variable was =
@@ -44,11 +44,11 @@ module _ (u v : UnitForm) (pass : PassName) (adds : AddsChangesOf pass Removed (
       (k.0 + 1, record { k = k.0; change = was.change; counted = refl; is = at; taken = was.taken; in_place = was.at; of = was.of })
 
   -- And of one that goes now.
-  pub newer_told : (f : ℕ) (g h : Graph) → slice_get u.graphs f ≡ Some g → slice_get v.graphs f ≡ Some h → (p x variable : ℕ) → IsVariable g x variable → IsDropped g p x → HasRemoval v.log p variable
+  pub newer_told : (f : ℕ) (g h : Graph) → slice_get u.graphs f ≡ Some g → slice_get v.graphs f ≡ Some h → (p x variable : ℕ) → IsVariable g x variable → IsDropped u.assignments g p x → HasRemoval v.log p variable
   newer_told f g h stood stands p x variable scalar d =
       let c : Case = record { place = record { 0 = p }; block = d.n; index = length d.stands.before; operand = 0; var = record { 0 = variable } } in
-      let is : IsRemovedWrite g c = record { instruction = d.instruction; rest = d.rest; end = d.end; stood = d.stands; index = refl; goes = d.goes; x = x; written = d.target; variable = scalar; no_read = refl } in
-      let one : IsCaseOf (λ before after. IsRemovedWrite before) u.graphs v.graphs (f, c) = record { before = g; after = h; stood = stood; stands = stands; case = is } in
+      let is : IsRemovedWrite u.assignments g c = record { instruction = d.instruction; rest = d.rest; end = d.end; stood = d.stands; index = refl; goes = d.goes; x = x; written = d.target; variable = scalar; no_read = refl } in
+      let one : IsCaseOf (λ before after. IsRemovedWrite u.assignments before) u.graphs v.graphs (f, c) = record { before = g; after = h; stood = stood; stands = stands; case = is } in
       let has : Contains adds.all.of (f, c) = adds.all.all.each (f, c) one in
       let there : slice_get adds.all.of has.0 ≡ Some (f, c) = contained_at adds.all.of has.0 (f, c) (f, c) has.1 has.2 in
       let case : slice_get adds.cases has.0 ≡ Some c = ap (λ l. slice_get l has.0) adds.all.are ∙ mapped_at (λ (a : ℕ × Case). a.1) adds.all.of has.0 (f, c) there in

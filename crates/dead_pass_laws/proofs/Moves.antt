@@ -2,6 +2,7 @@
 use Rattle.std.proofs.Common.{◌≡◌, ℕ, ◌⊎◌, inl, inr, true≢false, Option, Some, None, List, [], ◌∷◌, ◌++◌, ◌+◌, refl, sym, ◌∙◌, subst}
 use Rattle.std.proofs.lemmas.Option.{none-some}
 use Rattle.event_runs.specs.Agreement.{Pairs}
+use Rattle.places.specs.declared.flow.Assignment.{Assignment}
 use Rattle.graph_core.specs.declared.value.Value.{Value}
 use Rattle.graph_core.specs.declared.value.Shadow.{Shadow}
 use Rattle.graph_core.specs.Graphs.{NoteValue, Instruction, Marker, Note, Move, Operate, Truncate, Same, Address, Load, Store, Zero, CopyWords, Call, End, Block, Graph, Logged, UnitForm}
@@ -24,14 +25,14 @@ use Rattle.dead_pass_laws.proofs.Still.{SaysStill}
 abbrev pub NotesHold : UnitForm → List Logged → Type 0
 NotesHold u log =
     (g : Graph) (blocks : List Block) (names others : ℕ → Value) (n p x : ℕ) (k m : NoteValue) (rest : List Instruction) (e : End) → Came u log g blocks names others n (Note x k ∷ rest) e → StandsWith g p n (Note x k ∷ rest) e
-    → IsSaid log g p n x k (Note x k ∷ rest) e m → SaysStill u.statics names others k m
+    → IsSaid u.assignments log g p n x k (Note x k ∷ rest) e m → SaysStill u.statics names others k m
 
 -- What goes writes a name.
-writes_some : (g : Graph) (n : ℕ) (i : Instruction) (rest : List Instruction) (e : End) → IsIdle g n (i ∷ rest) e → (x : ℕ) × (target_of i ≡ Some x)
+writes_some : {assignments : List Assignment} → (g : Graph) (n : ℕ) (i : Instruction) (rest : List Instruction) (e : End) → IsIdle assignments g n (i ∷ rest) e → (x : ℕ) × (target_of i ≡ Some x)
 writes_some g n i rest e (idle {x} stands target may computes further) = (x, target)
 
 -- so what writes none does not go
-goes_written : (g : Graph) (n : ℕ) (i : Instruction) (rest : List Instruction) (e : End) → target_of i ≡ None → Goes g n (i ∷ rest) e → ⊥
+goes_written : {assignments : List Assignment} → (g : Graph) (n : ℕ) (i : Instruction) (rest : List Instruction) (e : End) → target_of i ≡ None → Goes assignments g n (i ∷ rest) e → ⊥
 goes_written g n i rest e none went = (let some = writes_some g n i rest e went.idle in none-some some.0 (sym none ∙ some.1))
 
 module _ (u v : UnitForm) (log : List Logged) (made : EachFunction (IsMade u log) u.graphs v.graphs) (hold : NotesHold u log) where
@@ -54,10 +55,10 @@ module _ (u v : UnitForm) (log : List Logged) (made : EachFunction (IsMade u log
 
     -- this is left, before and after
     abbrev AreLeft : (xs ys : List Instruction) → Type 0
-    AreLeft xs ys = AreSaid log c.here.graph n c.here.end xs ys
+    AreLeft xs ys = AreSaid u.assignments log c.here.graph n c.here.end xs ys
 
     -- An instruction goes.
-    gone_followed : (i : Instruction) (more after : List Instruction) → Goes c.here.graph n (i ∷ more) c.here.end → CameTo (i ∷ more) → AreLeft more after
+    gone_followed : (i : Instruction) (more after : List Instruction) → Goes u.assignments c.here.graph n (i ∷ more) c.here.end → CameTo (i ∷ more) → AreLeft more after
         → IsFollowed (step_from u (i ∷ more) c) (d (without i ++ after)) (step_from (after_of u v log made) (without i ++ after) (d (without i ++ after)))
     gone_followed (Marker p) more after went came left = absurd (goes_written c.here.graph n (Marker p) more c.here.end refl went)
     gone_followed (Note x k) more after went came left = absurd (goes_written c.here.graph n (Note x k) more c.here.end refl went)
@@ -81,7 +82,7 @@ module _ (u v : UnitForm) (log : List Logged) (made : EachFunction (IsMade u log
         (reads_agree u log c.here.graph blocks c.here.names others n (Call x f all ∷ more) c.here.end (λ q g. true≢false (sym q)) came))
 
     -- An instruction stays.
-    stays_followed : (i j : Instruction) (more after : List Instruction) → (Goes c.here.graph n (i ∷ more) c.here.end → ⊥) → SaysAs log c.here.graph n more c.here.end i j → CameTo (i ∷ more) → AreLeft more after
+    stays_followed : (i j : Instruction) (more after : List Instruction) → (Goes u.assignments c.here.graph n (i ∷ more) c.here.end → ⊥) → SaysAs u.assignments log c.here.graph n more c.here.end i j → CameTo (i ∷ more) → AreLeft more after
         → IsFollowed (step_from u (i ∷ more) c) (d (j ∷ after)) (step_from (after_of u v log made) (j ∷ after) (d (j ∷ after)))
     stays_followed i j more after stay (noted {p} {x} {v = k} {w = m} reached stands said) came left =
         inr (note_same u v log made (behind more) blocks others shadows still after wants waiting waits n x k m (hold c.here.graph blocks c.here.names others n p x k m more c.here.end came stands said) came left)

@@ -86,7 +86,7 @@ module _ (u : UnitForm) (log : List Logged) (g : Graph) (blocks : List Block) (n
   scalar = scalar_at g.scalars x note_valid.0
 
   -- A name that is not stale at the note agrees there.
-  fresh_agrees : (y : ℕ) → (ComesStale g y n note e → ⊥) → others y ≡ names y
+  fresh_agrees : (y : ℕ) → (ComesStale u.assignments g y n note e → ⊥) → others y ≡ names y
   fresh_agrees y fresh = elim (came.agree y) [
     | inl lags ↦ absurd (fresh (record { history = whole; path = came.along; stale = lags.stale }))
     | inr one ↦ one
@@ -107,7 +107,7 @@ module _ (u : UnitForm) (log : List Logged) (g : Graph) (blocks : List Block) (n
   -- ---- The assignment of the scalar in the place went
 
   -- the note is of the scalar itself
-  own_note : IsDropped g p x → v ≡ Is (Of (Name x))
+  own_note : IsDropped u.assignments g p x → v ≡ Is (Of (Name x))
   own_note d = by_right right
     where
       by_right : IsRightNote u g p x scalar.0 v → v ≡ Is (Of (Name x))
@@ -115,7 +115,7 @@ module _ (u : UnitForm) (log : List Logged) (g : Graph) (blocks : List Block) (n
       by_right (inr another) = absurd (another.1 (written_in g p x d.n d.instruction d.rest d.end d.stands d.target))
 
   -- Its recipe gives what the scalar held before.
-  recipe_still : (r : Recipe) → IsRecipeOf g p n note e x r → SaysStill u.statics names others v (Is r)
+  recipe_still : (r : Recipe) → IsRecipeOf u.assignments g p n note e x r → SaysStill u.statics names others v (Is r)
   recipe_still r is =
       let d = is.dropped in
       let own : v ≡ Is (Of (Name x)) = own_note d in
@@ -127,16 +127,16 @@ module _ (u : UnitForm) (log : List Logged) (g : Graph) (blocks : List Block) (n
 
   -- ---- It did not
 
-  module _ (stayed : IsDropped g p x → ⊥) where
+  module _ (stayed : IsDropped u.assignments g p x → ⊥) where
     -- a write of the scalar in the place does not go
-    goes_not : (m : ℕ) (j : Instruction) (more : List Instruction) (f : End) (h : History) → Path g h m (j ∷ more) f → place_of h ≡ Some p → target_of j ≡ Some x → Goes g m (j ∷ more) f → ⊥
+    goes_not : (m : ℕ) (j : Instruction) (more : List Instruction) (f : End) (h : History) → Path g h m (j ∷ more) f → place_of h ≡ Some p → target_of j ≡ Some x → Goes u.assignments g m (j ∷ more) f → ⊥
     goes_not m j more f h along at target goes =
         let o = goes_once g x m j more f target note_valid.0 goes in
         let one : o.place ≡ p = same_Some o.place p (sym (stands_path u g came.taken.valid came.taken.marked h m j more f o.place along (plain_target x j target) o.stands) ∙ at) in
         stayed (record { n = m; instruction = j; rest = more; end = f; stands = subst (λ q. StandsWith g q m (j ∷ more) f) one o.stands; target = target; once = sym (ap (λ q. assignments_in g q x) one) ∙ o.once; goes = goes })
 
     -- Then the scalar is not stale at a note of itself,
-    own_fresh : v ≡ Is (Of (Name x)) → IsStale g x whole → ⊥
+    own_fresh : v ≡ Is (Of (Name x)) → IsStale u.assignments g x whole → ⊥
     own_fresh own stale = elim (cases_Bool (p == g.entry && is_bound x g.parameters)) [
       | inl bound ↦ (let at_entry : p ≡ g.entry = eqb-true p g.entry (and_parts (p == g.entry) (is_bound x g.parameters) bound).0 in
           bound_fresh u log g blocks came.taken x note_valid.0 (sym (ap (λ q. q == g.entry && is_bound x g.parameters) at_entry) ∙ bound) whole n note e came.along (place ∙ ap (λ q. Some q) at_entry) stale)
@@ -153,7 +153,7 @@ module _ (u : UnitForm) (log : List Logged) (g : Graph) (blocks : List Block) (n
     ]
 
     -- A note that says what it said gives what it gave.
-    still_same : (IsLost log g n note e x v → ⊥) → SaysStill u.statics names others v v
+    still_same : (IsLost u.assignments log g n note e x v → ⊥) → SaysStill u.statics names others v v
     still_same found = by_value v refl
       where
         by_value : (w : NoteValue) → v ≡ w → SaysStill u.statics names others w w
@@ -170,11 +170,11 @@ module _ (u : UnitForm) (log : List Logged) (g : Graph) (blocks : List Block) (n
   -- ---- What the log tells
 
   -- Of an assignment that went now some change tells, and of one that went before.
-  logged_now : IsDropped g p x → WasNeverRemoved log g p x → ⊥
+  logged_now : IsDropped u.assignments g p x → WasNeverRemoved log g p x → ⊥
   logged_now d never = (let told = came.taken.newer p x scalar.0 scalar.1 d in never scalar.0 told.0 scalar.1 told.1)
 
   -- and so it does of one that went before
-  logged_before : IsLost log g n note e x v → WasNeverRemoved log g p x → ⊥
+  logged_before : IsLost u.assignments log g n note e x v → WasNeverRemoved log g p x → ⊥
   logged_before l never = by_right right
     where
       by_right : IsRightNote u g p x scalar.0 v → ⊥
@@ -182,7 +182,7 @@ module _ (u : UnitForm) (log : List Logged) (g : Graph) (blocks : List Block) (n
       by_right (inr another) = (let told = came.taken.older p scalar.0 another.2 in never scalar.0 told.0 scalar.1 told.1)
 
   -- THE NOTE SAYS AFTER WHAT IT SAID BEFORE, or that the value is gone.
-  pub note_holds : (w : NoteValue) → IsSaid log g p n x v note e w → SaysStill u.statics names others v w
+  pub note_holds : (w : NoteValue) → IsSaid u.assignments log g p n x v note e w → SaysStill u.statics names others v w
   note_holds w (recipe {r} is) = recipe_still r is
   note_holds w (gone {number} dropped no_recipe scalar_is last) = is_gone
   note_holds w (unlogged dropped no_recipe never) = absurd (logged_now dropped never)

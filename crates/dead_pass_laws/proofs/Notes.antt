@@ -2,6 +2,7 @@
 use Rattle.std.proofs.Common.{◌≡◌, ◌≢◌, ℕ, ◌<◌, inl, inr, true, Some, List, ◌∷◌, length, refl, sym, ap, ◌∙◌, subst}
 use Rattle.std.specs.List.{AllByRecursion}
 use Rattle.std.proofs.lemmas.Option.{same_Some}
+use Rattle.places.specs.declared.flow.Assignment.{Assignment}
 use Rattle.graph_core.specs.Graphs.{Operand, Name, Recipe, Of, NoteValue, Is, Gone, Instruction, Note, End, Block, Graph, Logged, UnitForm}
 use Rattle.graph_core.specs.Paths.{History, Path, place_of, written}
 use Rattle.graph_core.specs.Points.{StandsWith}
@@ -38,24 +39,24 @@ gone_is e = cc
 same_name : {x y : ℕ} → Of (Name x) ≡ Of (Name y) → x ≡ y
 same_name e = cc
 
-module _ (g : Graph) (p k : ℕ) (note : List Instruction) (last : End) (x : ℕ) (stale : ComesStale g x k note last) where
+module _ {assignments : List Assignment} (g : Graph) (p k : ℕ) (note : List Instruction) (last : End) (x : ℕ) (stale : ComesStale assignments g x k note last) where
   -- No operand that is read has a name for its recipe that is stale at the note.
-  operand_other : (n : ℕ) (rest : List Instruction) (e : End) (a : Operand) (r : Recipe) → IsRecipe g p k note last n rest e a r → r ≡ Of (Name x) → ⊥
+  operand_other : (n : ℕ) (rest : List Instruction) (e : End) (a : Operand) (r : Recipe) → IsRecipe assignments g p k note last n rest e a r → r ≡ Of (Name x) → ⊥
   operand_other n rest e a r constant own = cc
   operand_other n rest e a r address own = cc
-  operand_other n rest e a r (name {y} not_local fresh unwritten) own = fresh (subst (λ z. ComesStale g z k note last) (sym (same_name own)) stale)
+  operand_other n rest e a r (name {y} not_local fresh unwritten) own = fresh (subst (λ z. ComesStale assignments g z k note last) (sym (same_name own)) stale)
   operand_other n rest e a r (moved {m} {t} {more} {f} {x = z} {a = b} {r = q} def given) own = operand_other m more f b q given own
   operand_other n rest e a r (truncated def given) own = cc
   operand_other n rest e a r (operated def left right) own = cc
 
   -- So no instruction has.
-  side_other : (n : ℕ) (rest : List Instruction) (e : End) (j : Instruction) (r : Recipe) → IsRightSide g p k note last n rest e j r → r ≡ Of (Name x) → ⊥
+  side_other : (n : ℕ) (rest : List Instruction) (e : End) (j : Instruction) (r : Recipe) → IsRightSide assignments g p k note last n rest e j r → r ≡ Of (Name x) → ⊥
   side_other n rest e j r (made_moved {x = z} {a} given) own = operand_other n rest e a r given own
   side_other n rest e j r (made_truncated given) own = cc
   side_other n rest e j r (made_operated left right) own = cc
 
   -- So the recipe of an assignment that goes is no name that is stale at the note.
-  recipe_other : (y : ℕ) (r : Recipe) → IsRecipeOf g p k note last y r → r ≡ Of (Name x) → ⊥
+  recipe_other : (y : ℕ) (r : Recipe) → IsRecipeOf assignments g p k note last y r → r ≡ Of (Name x) → ⊥
   recipe_other y r is own = (let d = is.dropped in side_other d.n d.rest d.end d.instruction r is.right own)
 
 module _ (u v : UnitForm) (g : Graph) (blocks : List Block) (taken : IsTaken u v.log g blocks) (longer : (p variable : ℕ) → WasTaken u.log p variable → WasTaken v.log p variable) where
@@ -79,7 +80,7 @@ module _ (u v : UnitForm) (g : Graph) (blocks : List Block) (taken : IsTaken u v
 
     -- ---- Where the assignment of its scalar went
 
-    module _ (d : IsDropped g p x) where
+    module _ (d : IsDropped u.assignments g p x) where
       -- it was written in the place before
       dropped_written : WrittenIn g p x
       dropped_written = instruction d.instruction (in_place g d.n d.stands.block d.stands.before d.instruction d.rest p d.stands.is d.stands.instructions d.stands.place) (writes_target x d.instruction d.target)
@@ -93,14 +94,14 @@ module _ (u v : UnitForm) (g : Graph) (blocks : List Block) (taken : IsTaken u v
           by_right (inr another) = absurd (another.1 dropped_written)
 
       -- and the scalar is stale there.
-      comes_stale : ComesStale g x n note e
+      comes_stale : ComesStale u.assignments g x n note e
       comes_stale = elim (followed.still_written x (was_behind was_own)) [
         | inl lags ↦ record { history = hist; path = along; stale = lags.lags.stale }
         | inr still ↦ absurd (dropped_none g p x d (still.stays_written p place))
       ]
 
       -- Its recipe is another.
-      dropped_other : (r : Recipe) → IsRecipeOf g p n note e x r → Is r ≢ Is (Of (Name x))
+      dropped_other : (r : Recipe) → IsRecipeOf u.assignments g p n note e x r → Is r ≢ Is (Of (Name x))
       dropped_other r is own = recipe_other g p n note e x comes_stale x r is (same_is own)
 
       -- Nothing writes the scalar in the place after,
@@ -121,7 +122,7 @@ module _ (u v : UnitForm) (g : Graph) (blocks : List Block) (taken : IsTaken u v
 
     -- ---- Where the assignment went before
 
-    module _ (l : IsLost v.log g n note e x value) where
+    module _ (l : IsLost u.assignments v.log g n note e x value) where
       -- so the note was not of the scalar itself
       abbrev WasAnother : Type 0
       WasAnother = (value ≢ Is (Of (Name x))) × (WrittenIn g p x → ⊥) × WasTaken u.log p variable
@@ -143,12 +144,12 @@ module _ (u v : UnitForm) (g : Graph) (blocks : List Block) (taken : IsTaken u v
     another_still w another none removed = inr (another, λ it. none (written_before u v.log g blocks taken p x it), longer p variable removed)
 
     -- A note that says what it said is right where the assignment of its scalar did not go.
-    same_right : (IsDropped g p x → ⊥) → IsRightNote u g p x variable value → IsRightNote v (reduced_graph g blocks) p x variable value
+    same_right : (IsDropped u.assignments g p x → ⊥) → IsRightNote u g p x variable value → IsRightNote v (reduced_graph g blocks) p x variable value
     same_right stayed (inl own) = inl (own.0, stays_written u v.log g blocks taken p x (written_kept u v.log g blocks taken p x scalar stayed own.1))
     same_right stayed (inr another) = another_still value another.0 another.1 another.2
 
     -- WHAT A NOTE SHALL SAY IS RIGHT.
-    pub said_right : (w : NoteValue) → IsSaid v.log g p n x value note e w → IsRightNote v (reduced_graph g blocks) p x variable w
+    pub said_right : (w : NoteValue) → IsSaid u.assignments v.log g p n x value note e w → IsRightNote v (reduced_graph g blocks) p x variable w
     said_right w (recipe {r} is) = dropped_right is.dropped (Is r) (dropped_other is.dropped r is)
     said_right w (gone {number} d none scalar_is last) = dropped_right d (Gone number) gone_is
     said_right w (unlogged d none never) = absurd (dropped_logged d never)
@@ -157,14 +158,14 @@ module _ (u v : UnitForm) (g : Graph) (blocks : List Block) (taken : IsTaken u v
     said_right w (stays stayed none) = same_right stayed was_right
 
     -- A note that says what it said stands behind a write that stays, if it is of the scalar itself.
-    same_behind : (IsDropped g p x → ⊥) → value ≡ Is (Of (Name x)) → written (reduced_graph g blocks) x after ≡ true
+    same_behind : (IsDropped u.assignments g p x → ⊥) → value ≡ Is (Of (Name x)) → written (reduced_graph g blocks) x after ≡ true
     same_behind stayed own = elim (followed.still_written x (was_behind own)) [
       | inl lags ↦ absurd (stayed (goes_dropped g p x scalar (lags.goes_here p place)))
       | inr still ↦ still.was_written
     ]
 
     -- AND WHERE IT IS OF THE SCALAR ITSELF, it stands behind a write.
-    pub said_behind : (w : NoteValue) → IsSaid v.log g p n x value note e w → w ≡ Is (Of (Name x)) → written (reduced_graph g blocks) x after ≡ true
+    pub said_behind : (w : NoteValue) → IsSaid u.assignments v.log g p n x value note e w → w ≡ Is (Of (Name x)) → written (reduced_graph g blocks) x after ≡ true
     said_behind w (recipe {r} is) own = absurd (dropped_other is.dropped r is own)
     said_behind w (gone {number} d none scalar_is last) own = absurd (gone_is own)
     said_behind w (unlogged d none never) own = absurd (dropped_logged d never)
@@ -180,10 +181,10 @@ module _ (u v : UnitForm) (g : Graph) (blocks : List Block) (taken : IsTaken u v
     is : i ≡ Note x value
     p : ℕ
     stands : StandsWith g p n (Note x value ∷ rest) e
-    says : IsSaid v.log g p n x value (Note x value ∷ rest) e w
+    says : IsSaid u.assignments v.log g p n x value (Note x value ∷ rest) e w
 
   -- So it was by what it is left of.
-  was_note : (hist : History) (n : ℕ) (i j : Instruction) (rest : List Instruction) (e : End) (x : ℕ) (w : NoteValue) → Path g hist n (i ∷ rest) e → j ≡ Note x w → IsLeft v.log g n rest e i j → WasNote hist n i rest e x w
+  was_note : (hist : History) (n : ℕ) (i j : Instruction) (rest : List Instruction) (e : End) (x : ℕ) (w : NoteValue) → Path g hist n (i ∷ rest) e → j ≡ Note x w → IsLeft u.assignments v.log g n rest e i j → WasNote hist n i rest e x w
   was_note hist n _ j rest e x w along one (left_stays stay (noted {p} {x = y} {v = value} {w = said} reached st says)) =
       let name : y ≡ x = note_name one in
       let what : said ≡ w = note_value one in
@@ -192,7 +193,7 @@ module _ (u v : UnitForm) (g : Graph) (blocks : List Block) (taken : IsTaken u v
         is = ap (λ z. Note z value) name;
         p = p;
         stands = subst (λ z. StandsWith g p n (Note z value ∷ rest) e) name st;
-        says = subst (λ z. IsSaid v.log g p n x value (Note x value ∷ rest) e z) what (subst (λ z. IsSaid v.log g p n z value (Note z value ∷ rest) e said) name says);
+        says = subst (λ z. IsSaid u.assignments v.log g p n x value (Note x value ∷ rest) e z) what (subst (λ z. IsSaid u.assignments v.log g p n z value (Note z value ∷ rest) e said) name says);
       }
   was_note hist n _ j rest e x w along one (left_stays stay (unreached none)) = absurd (none (record { history = hist; path = along }))
   was_note hist n _ j rest e x w along one (left_stays stay (other none)) = absurd (none x w one)

@@ -4,6 +4,7 @@ use Rattle.std.specs.Prelude.{slice_get}
 use Rattle.event_runs.specs.Agreement.{Pairs}
 use Rattle.debug_records.specs.declared.change.PassName.{PassName}
 use Rattle.debug_records.specs.declared.change.Kind.TheVariants.{Removed}
+use Rattle.places.specs.declared.flow.Assignment.{Assignment}
 use Rattle.graph_core.specs.Graphs.{Instruction, Marker, Block, End, Graph, UnitForm}
 use Rattle.graph_core.specs.Paths.{Among}
 use Rattle.graph_core.specs.Validity.{markers_in, markers_of_blocks}
@@ -21,7 +22,7 @@ going_markers : (i : Instruction) (rest others : List Instruction) → GoesAs i 
 going_markers i rest others (computed is) one = ap (λ l. markers_in (l ++ others)) (computed_plain i is).left ∙ one ∙ sym ((computed_plain i is).markers rest)
 going_markers _ rest others called one = one
 
-module _ (g : Graph) (n : ℕ) (e : End) where
+module _ {assignments : List Assignment} (g : Graph) (n : ℕ) (e : End) where
   -- What is left of one that stays has the same markers.
   staying_markers : {i j : Instruction} (rest behind others : List Instruction) → StaysAs g n behind e i j → markers_in others ≡ markers_in rest → markers_in (j ∷ others) ≡ markers_in (i ∷ rest)
   staying_markers rest behind others (same {i}) one = marker_same i one
@@ -32,7 +33,7 @@ module _ (g : Graph) (n : ℕ) (e : End) where
   staying_markers rest behind others (noted reached) one = one
 
   -- What is left of instructions has the same markers.
-  reduced_markers : (xs ys : List Instruction) → AreReduced g n e xs ys → markers_in ys ≡ markers_in xs
+  reduced_markers : (xs ys : List Instruction) → AreReduced assignments g n e xs ys → markers_in ys ≡ markers_in xs
   reduced_markers xs ys ends = refl
   reduced_markers xs ys (gone {i} {rest} {after = others} it_goes more) = going_markers i rest others (goes_as g n i rest e it_goes) (reduced_markers rest others more)
   reduced_markers xs ys (stays {i} {j} {rest} {after = others} stay is more) = staying_markers rest rest others is (reduced_markers rest others more)
@@ -48,7 +49,7 @@ blocks_markers (b ∷ bs) (c ∷ cs) count each =
 -- ---- Functions
 
 -- What is made of a function is of that function.
-same_function : (g h : Graph) → IsReduced g h → SameFunction g h
+same_function : {assignments : List Assignment} → (g h : Graph) → IsReduced assignments g h → SameFunction g h
 same_function g h made =
     let marks : markers_of_blocks h.blocks ≡ markers_of_blocks g.blocks =
     blocks_markers g.blocks h.blocks made.count (λ n b c at there. reduced_markers g n b.end b.instructions c.instructions (made.blocks n b c at there).instructions) in
@@ -61,7 +62,7 @@ same_function g h made =
     }
 
 -- So it is of all.
-same_functions : (gs hs : List Graph) → EachFunction IsReduced gs hs → Pairs SameFunction gs hs
+same_functions : {assignments : List Assignment} → (gs hs : List Graph) → EachFunction (IsReduced assignments) gs hs → Pairs SameFunction gs hs
 same_functions [] [] made = tt
 same_functions [] (h ∷ hs) made = absurd made
 same_functions (g ∷ gs) [] made = absurd made
@@ -69,7 +70,7 @@ same_functions (g ∷ gs) (h ∷ hs) made = (same_function g h made.0, same_func
 
 -- THE REMOVAL OF DEAD ASSIGNMENTS KEEPS THE PROGRAM. Where just the writes are gone that go, a change is logged for each write of a variable that went, and what functions share is the same, the unit
 -- after is of the same program.
-pub removed_program : (u v : UnitForm) → ShareTheSame u v → (pass : PassName) → AddsChangesOf pass Removed (λ before after. IsRemovedWrite before) u v → EachFunction IsReduced u.graphs v.graphs → SameProgram u v
+pub removed_program : (u v : UnitForm) → ShareTheSame u v → (pass : PassName) → AddsChangesOf pass Removed (λ before after. IsRemovedWrite u.assignments before) u v → EachFunction (IsReduced u.assignments) u.graphs v.graphs → SameProgram u v
 removed_program u v shared pass adds made = record {
   main = shared.main;
   statics = shared.statics;

@@ -58,25 +58,25 @@ module _ (u : UnitForm) (log : List Logged) (g : Graph) (blocks : List Block) (t
     pub from : FromHere h n (j ∷ rest) e
     pub behind : FromHere (record { block = n; left = length rest; instruction = j; wrote = w } ∷ h) n rest e
     pub place : place_of h ≡ Some p
-    pub own : (y : ℕ) → target_of j ≡ Some y → IsLocal g y ⊎ Goes g n (j ∷ rest) e
+    pub own : (y : ℕ) → target_of j ≡ Some y → IsLocal g y ⊎ Goes u.assignments g n (j ∷ rest) e
 
   -- what it reads of an operand
   abbrev pub Reads : Instruction → Operand → Type 0
   Reads j a = (y : ℕ) → Among y (names_of a) → Among y (reads_of j)
 
   -- The last write of a name reads in its place, too.
-  pub last_reader : (h : History) (x m : ℕ) (i : Instruction) (more : List Instruction) (f : End) → (is : IsLastOf h x m i more f) → ((y : ℕ) → target_of i ≡ Some y → IsLocal g y ⊎ Goes g m (i ∷ more) f) → IsReader is.history m i more f is.wrote
+  pub last_reader : (h : History) (x m : ℕ) (i : Instruction) (more : List Instruction) (f : End) → (is : IsLastOf h x m i more f) → ((y : ℕ) → target_of i ≡ Some y → IsLocal g y ⊎ Goes u.assignments g m (i ∷ more) f) → IsReader is.history m i more f is.wrote
   last_reader h x m i more f is own = record { plain = is.plain; from = is.from; behind = is.behind; place = is.place; own = own }
 
   -- a name that is no such temporary, is not stale at the note, and is not written between
-  name_value : (h : History) (n : ℕ) (j : Instruction) (rest : List Instruction) (e : End) (w : Value) (y : ℕ) → IsReader h n j rest e w → (IsLocal g y → ⊥) → (ComesStale g y k note last → ⊥) → (IsWrittenBetween g k note y n rest e → ⊥)
+  name_value : (h : History) (n : ℕ) (j : Instruction) (rest : List Instruction) (e : End) (w : Value) (y : ℕ) → IsReader h n j rest e w → (IsLocal g y → ⊥) → (ComesStale u.assignments g y k note last → ⊥) → (IsWrittenBetween u.assignments g k note y n rest e → ⊥)
       → others y ≡ values_behind first h y
   name_value h n j rest e w y reader not_local fresh unwritten = elim (cases_Bool (writes y j)) [
     | inl it ↦ absurd (by_own it (reader.own y (target_written y j it)))
     | inr other ↦ sym (reader.behind.holds y fresh unwritten) ∙ name_kept (target_of j) w (values_behind first h) y (unwritten_other y j other)
   ]
     where
-      by_own : writes y j ≡ true → IsLocal g y ⊎ Goes g n (j ∷ rest) e → ⊥
+      by_own : writes y j ≡ true → IsLocal g y ⊎ Goes u.assignments g n (j ∷ rest) e → ⊥
       by_own it (inl local) = not_local local
       by_own it (inr goes) =
           fresh (record { history = whole; path = arrives; stale = reader.behind.stale y (went it (it_went u log g blocks taken k note last first others whole arrives h n j rest e w reader.from.along reader.plain goes)) unwritten })
@@ -87,11 +87,11 @@ module _ (u : UnitForm) (log : List Logged) (g : Graph) (blocks : List Block) (t
       once_last h n (j ∷ rest) e t m i more f reader.from reader.place (taken.marked.local h n j t rest e def.local reader.from.along among) def.once def.stands def.target
 
   -- what it writes is such a temporary
-  own_local : (t : ℕ) (m : ℕ) (i : Instruction) (more : List Instruction) (f : End) → IsDefinition g p k note last t m more f i → (y : ℕ) → target_of i ≡ Some y → IsLocal g y ⊎ Goes g m (i ∷ more) f
+  own_local : (t : ℕ) (m : ℕ) (i : Instruction) (more : List Instruction) (f : End) → IsDefinition g p k note last t m more f i → (y : ℕ) → target_of i ≡ Some y → IsLocal g y ⊎ Goes u.assignments g m (i ∷ more) f
   own_local t m i more f def y target = inl (subst (λ z. IsLocal g z) (same_Some t y (sym def.target ∙ target)) def.local)
 
   -- What a recipe gives after is what was read before.
-  pub operand_value : (n : ℕ) (rest : List Instruction) (e : End) (a : Operand) (r : Recipe) → IsRecipe g p k note last n rest e a r → (h : History) (j : Instruction) (w : Value) → IsReader h n j rest e w → Reads j a
+  pub operand_value : (n : ℕ) (rest : List Instruction) (e : End) (a : Operand) (r : Recipe) → IsRecipe u.assignments g p k note last n rest e a r → (h : History) (j : Instruction) (w : Value) → IsReader h n j rest e w → Reads j a
       → recipe_value u.statics others r ≡ value u.statics (values_behind first h) a
   operand_value n rest e a r constant h j w reader reads = refl
   operand_value n rest e a r address h j w reader reads = refl
@@ -112,7 +112,7 @@ module _ (u : UnitForm) (log : List Logged) (g : Graph) (blocks : List Block) (t
       ∙ sym (is.value ∙ is.is)
 
   -- What the recipe of an instruction gives after is what the instruction wrote before.
-  pub written_value : (n : ℕ) (rest : List Instruction) (e : End) (j : Instruction) (r : Recipe) → IsRightSide g p k note last n rest e j r → (h : History) (w : Value) → IsReader h n j rest e w → IsValueOf u.statics (values_behind first h) j w
+  pub written_value : (n : ℕ) (rest : List Instruction) (e : End) (j : Instruction) (r : Recipe) → IsRightSide u.assignments g p k note last n rest e j r → (h : History) (w : Value) → IsReader h n j rest e w → IsValueOf u.statics (values_behind first h) j w
       → recipe_value u.statics others r ≡ w
   written_value n rest e j r (made_moved {x} {a} given) h w reader is = operand_value n rest e a r given h j w reader (λ y among. among) ∙ sym is
   written_value n rest e j r (made_truncated {x} {at} {a} {r = q} given) h w reader is = ap (truncate at) (operand_value n rest e a q given h j w reader (λ y among. among)) ∙ sym is

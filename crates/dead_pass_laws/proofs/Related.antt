@@ -33,7 +33,7 @@ module _ (u : UnitForm) (log : List Logged) where
   pub record Fits (g : Graph) (blocks : List Block) (names others : ℕ → Value) (before after : List Instruction) (end : End) : Type 0 where
     pub block : ℕ
     pub came : Came u log g blocks names others block before end
-    pub said : AreSaid log g block end before after
+    pub said : AreSaid u.assignments log g block end before after
 
   -- An activation before that waits for a call, and the same after: whatever value it goes on with, it goes on alike.
   pub record Waits (a b : Activation) : Type 0 where

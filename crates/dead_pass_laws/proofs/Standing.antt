@@ -1,6 +1,7 @@
 -- What stands in a place of the graph after, and of the graph before.
 use Rattle.std.proofs.Common.{◌≡◌, ℕ, ◌⊎◌, inl, inr, Option, Some, None, List, [], ◌∷◌, ◌++◌, length, refl, sym, ap, ◌∙◌, subst, arith}
 use Rattle.std.proofs.lemmas.List.{length-append}
+use Rattle.places.specs.declared.flow.Assignment.{Assignment}
 use Rattle.graph_core.specs.Graphs.{Instruction, Call, End, Block, Graph, Logged, UnitForm}
 use Rattle.graph_core.specs.Points.{StandsWith}
 use Rattle.graph_core.specs.Validity.{place_behind}
@@ -44,7 +45,7 @@ stands_at {place = place} (behind {j} s) =
 
 -- ---- From after to before
 
-module _ (log : List Logged) (g : Graph) (n : ℕ) (e : End) (p : ℕ) (j : Instruction) where
+module _ {assignments : List Assignment} (log : List Logged) (g : Graph) (n : ℕ) (e : End) (p : ℕ) (j : Instruction) where
   -- Among instructions before stood one in the place, of which this is left.
   record StoodIn (place : Option ℕ) (all : List Instruction) : Type 0 where
     instruction : Instruction
@@ -52,7 +53,7 @@ module _ (log : List Logged) (g : Graph) (n : ℕ) (e : End) (p : ℕ) (j : Inst
     rest : List Instruction
     whole : all ≡ before ++ instruction ∷ rest
     in_force : place_behind before place ≡ Some p
-    left : IsLeft log g n rest e instruction j
+    left : IsLeft assignments log g n rest e instruction j
 
   -- So it did with one more before it,
   stood_later : (i : Instruction) (place : Option ℕ) (rest : List Instruction) → StoodIn (place_behind (i ∷ []) place) rest → StoodIn place (i ∷ rest)
@@ -66,11 +67,11 @@ module _ (log : List Logged) (g : Graph) (n : ℕ) (e : End) (p : ℕ) (j : Inst
   }
 
   -- as the first of them,
-  stood_first : (i k : Instruction) (place : Option ℕ) (rest : List Instruction) → place ≡ Some p → k ≡ j → IsLeft log g n rest e i k → StoodIn place (i ∷ rest)
-  stood_first i k place rest at one left = record { instruction = i; before = []; rest = rest; whole = refl; in_force = at; left = subst (λ l. IsLeft log g n rest e i l) one left }
+  stood_first : (i k : Instruction) (place : Option ℕ) (rest : List Instruction) → place ≡ Some p → k ≡ j → IsLeft assignments log g n rest e i k → StoodIn place (i ∷ rest)
+  stood_first i k place rest at one left = record { instruction = i; before = []; rest = rest; whole = refl; in_force = at; left = subst (λ l. IsLeft assignments log g n rest e i l) one left }
 
   -- and with one that goes before it, or as that.
-  stood_going : (i : Instruction) (place : Option ℕ) (rest others : List Instruction) → GoesAs i → Goes g n (i ∷ rest) e → ((o : Option ℕ) → StandsIn p j o others → StoodIn o rest) → StandsIn p j place (without i ++ others) → StoodIn place (i ∷ rest)
+  stood_going : (i : Instruction) (place : Option ℕ) (rest others : List Instruction) → GoesAs i → Goes assignments g n (i ∷ rest) e → ((o : Option ℕ) → StandsIn p j o others → StoodIn o rest) → StandsIn p j place (without i ++ others) → StoodIn place (i ∷ rest)
   stood_going i place rest others (computed is) it_goes later s =
       stood_later i place rest (later (place_behind (i ∷ []) place) (subst (λ o. StandsIn p j o others) (sym ((computed_plain i is).place [] place)) (subst (λ l. StandsIn p j place (l ++ others)) (computed_plain i is).left s)))
   stood_going _ place rest others (called {x} {f} {all}) it_goes later s = elim (stands_cases s) [
@@ -79,7 +80,7 @@ module _ (log : List Logged) (g : Graph) (n : ℕ) (e : End) (p : ℕ) (j : Inst
   ]
 
   -- What stands in a place among what is left stood there.
-  stood_in : (place : Option ℕ) (xs ys : List Instruction) → AreSaid log g n e xs ys → StandsIn p j place ys → StoodIn place xs
+  stood_in : (place : Option ℕ) (xs ys : List Instruction) → AreSaid assignments log g n e xs ys → StandsIn p j place ys → StoodIn place xs
   stood_in place xs ys ends s = absurd (stands_none s refl)
   stood_in place xs ys (gone {i} {rest} {after = others} it_goes said) s = stood_going i place rest others (goes_as g n i rest e it_goes) it_goes (λ o more. stood_in o rest others said more) s
   stood_in place xs ys (stays {i} {j = k} {rest} {after = others} stay says said) s = elim (stands_cases s) [
@@ -89,7 +90,7 @@ module _ (log : List Logged) (g : Graph) (n : ℕ) (e : End) (p : ℕ) (j : Inst
 
 -- ---- From before to after
 
-module _ (log : List Logged) (g : Graph) (n : ℕ) (e : End) (p : ℕ) (i : Instruction) (rest : List Instruction) (stay : Goes g n (i ∷ rest) e → ⊥) where
+module _ {assignments : List Assignment} (log : List Logged) (g : Graph) (n : ℕ) (e : End) (p : ℕ) (i : Instruction) (rest : List Instruction) (stay : Goes assignments g n (i ∷ rest) e → ⊥) where
   -- An instruction that does not go stands in the place among what is left, itself or as a note of the same scalar.
   record StaysIn (place : Option ℕ) (ys : List Instruction) : Type 0 where
     other : Instruction
@@ -106,9 +107,9 @@ module _ (log : List Logged) (g : Graph) (n : ℕ) (e : End) (p : ℕ) (i : Inst
   stays_going _ place others called s = record { other = s.other; kept = s.kept; stands = behind s.stands }
 
   -- What stood in the place and does not go stands there among what is left.
-  stays_in : (place : Option ℕ) (before xs ys : List Instruction) → AreSaid log g n e xs ys → xs ≡ before ++ i ∷ rest → place_behind before place ≡ Some p → StaysIn place ys
+  stays_in : (place : Option ℕ) (before xs ys : List Instruction) → AreSaid assignments log g n e xs ys → xs ≡ before ++ i ∷ rest → place_behind before place ≡ Some p → StaysIn place ys
   stays_in place before xs ys ends whole at = (let l = length-append before (i ∷ rest) in let m = ap length whole in absurd (omega (arith, l, m)))
-  stays_in place [] xs ys (gone {i = k} {rest = more} it_goes said) whole at = absurd (stay (subst (λ l. Goes g n l e) whole it_goes))
+  stays_in place [] xs ys (gone {i = k} {rest = more} it_goes said) whole at = absurd (stay (subst (λ l. Goes assignments g n l e) whole it_goes))
   stays_in place [] xs ys (stays {i = k} {j} {rest = more} {after = others} other says said) whole at = record {
     other = j;
     kept = subst (λ z. IsKeptAs z j) (first_same whole) (said_kept log g n more e says);
@@ -153,7 +154,7 @@ module _ (u : UnitForm) (log : List Logged) (g : Graph) (blocks : List Block) (t
     pub rest : List Instruction
     pub end : End
     pub stands : StandsWith g p n (instruction ∷ rest) end
-    pub left : IsLeft log g n rest end instruction j
+    pub left : IsLeft u.assignments log g n rest end instruction j
 
   -- WHAT STANDS IN A PLACE of the graph after is left of what stood there before.
   pub stood_before : (p : ℕ) (j : Instruction) → InPlace (reduced_graph g blocks) p j → StoodBefore p j
@@ -176,10 +177,10 @@ module _ (u : UnitForm) (log : List Logged) (g : Graph) (blocks : List Block) (t
     pub stands : InPlace (reduced_graph g blocks) p other
 
   -- WHAT STOOD IN A PLACE of the graph before and does not go stands there after.
-  pub stands_after : (p n : ℕ) (i : Instruction) (rest : List Instruction) (e : End) → StandsWith g p n (i ∷ rest) e → (Goes g n (i ∷ rest) e → ⊥) → StandsAfter p i
+  pub stands_after : (p n : ℕ) (i : Instruction) (rest : List Instruction) (e : End) → StandsWith g p n (i ∷ rest) e → (Goes u.assignments g n (i ∷ rest) e → ⊥) → StandsAfter p i
   stands_after p n i rest e st stay =
       let c = block_after u log g blocks taken n st.block st.is in
-      let s = stays_in log g n st.block.end p i rest (λ it_goes. stay (subst (λ f. Goes g n (i ∷ rest) f) (sym st.ends) it_goes)) st.block.place st.before st.block.instructions c.block.instructions c.said st.instructions st.place in
+      let s = stays_in log g n st.block.end p i rest (λ it_goes. stay (subst (λ f. Goes u.assignments g n (i ∷ rest) f) (sym st.ends) it_goes)) st.block.place st.before st.block.instructions c.block.instructions c.said st.instructions st.place in
       record {
         other = s.other;
         kept = s.kept;

@@ -45,7 +45,7 @@ module _ (u v : UnitForm) (log : List Logged) (made : EachFunction (IsMade u log
 
     -- This is left behind it, before and after.
     abbrev IsLeft : Type 0
-    IsLeft = AreSaid log c.here.graph n c.here.end c.here.rest rest
+    IsLeft = AreSaid u.assignments log c.here.graph n c.here.end c.here.rest rest
 
     -- The names agree where this is read.
     abbrev Agree : List ℕ → Type 0
@@ -81,7 +81,7 @@ module _ (u v : UnitForm) (log : List Logged) (made : EachFunction (IsMade u log
     })
 
     -- A name is written before, and the write went.
-    pub writes_nothing : (i : Instruction) (x : ℕ) (w : Value) → target_of i ≡ Some x → IsValueOf u.statics c.here.names i w → rule.Goes c.here.graph n (i ∷ c.here.rest) c.here.end → CameAt i → IsLeft → DoesNothing u log (wrote c x w) d
+    pub writes_nothing : (i : Instruction) (x : ℕ) (w : Value) → target_of i ≡ Some x → IsValueOf u.statics c.here.names i w → rule.Goes u.assignments c.here.graph n (i ∷ c.here.rest) c.here.end → CameAt i → IsLeft → DoesNothing u log (wrote c x w) d
     writes_nothing i x w target is went came left = record {
       blocks = blocks;
       others = others;
@@ -129,7 +129,7 @@ module _ (u v : UnitForm) (log : List Logged) (made : EachFunction (IsMade u log
     some_same x e l (Some w) came left = writes_same (Load x e l) x w w refl tt refl came left
 
     -- A name is written before, if there is a value, and the write went.
-    pub some_nothing : (x : ℕ) (e : Element) (l : Location) (o : Option Value) → rule.Goes c.here.graph n (Load x e l ∷ c.here.rest) c.here.end → CameAt (Load x e l) → IsLeft → DoesNothing u log (wrote_some c x o) d
+    pub some_nothing : (x : ℕ) (e : Element) (l : Location) (o : Option Value) → rule.Goes u.assignments c.here.graph n (Load x e l ∷ c.here.rest) c.here.end → CameAt (Load x e l) → IsLeft → DoesNothing u log (wrote_some c x o) d
     some_nothing x e l None went came left = tt
     some_nothing x e l (Some w) went came left = writes_nothing (Load x e l) x w refl tt went came left
 
@@ -275,7 +275,7 @@ module _ (u v : UnitForm) (log : List Logged) (made : EachFunction (IsMade u log
     call_fits x f all came left w = record { block = n; came = came_past u log c.here.graph blocks c.here.names others n (Call x f all) c.here.rest c.here.end w tt came; said = left }
 
     -- and that of one whose write went
-    pub call_nothing : (x : Option ℕ) (f : Callee) (all : List Operand) → rule.Goes c.here.graph n (Call x f all ∷ c.here.rest) c.here.end → CameAt (Call x f all) → IsLeft → (w : Value) → Fits u log c.here.graph blocks (name_by x w c.here.names) (name_by None w others) c.here.rest rest c.here.end
+    pub call_nothing : (x : Option ℕ) (f : Callee) (all : List Operand) → rule.Goes u.assignments c.here.graph n (Call x f all ∷ c.here.rest) c.here.end → CameAt (Call x f all) → IsLeft → (w : Value) → Fits u log c.here.graph blocks (name_by x w c.here.names) (name_by None w others) c.here.rest rest c.here.end
     call_nothing x f all went came left w = record { block = n; came = came_over u log c.here.graph blocks c.here.names others n (Call x f all) c.here.rest c.here.end w tt went came; said = left }
 
     -- An instruction that is no note does after what it does before.

@@ -46,7 +46,7 @@ module _ (u : UnitForm) (log : List Logged) (g : Graph) (blocks : List Block) (t
     pub place : place_of history ≡ Some p
     pub value : values_behind first h x ≡ wrote
     pub is : IsValueOf u.statics (values_behind first history) j wrote
-    pub stale : IsStale g x h → Goes g m (j ∷ more) f
+    pub stale : IsStale u.assignments g x h → Goes u.assignments g m (j ∷ more) f
 
   -- there is such an instruction
   pub record HasLast (h : History) (p x : ℕ) : Type 0 where
@@ -63,7 +63,7 @@ module _ (u : UnitForm) (log : List Logged) (g : Graph) (blocks : List Block) (t
       passed = record { block = n; left = length rest; instruction = i; wrote = w }
 
       -- what went there goes
-      goes_here : writes x i ≡ true → IsStale g x (passed ∷ h) → Goes g n (i ∷ rest) e
+      goes_here : writes x i ≡ true → IsStale u.assignments g x (passed ∷ h) → Goes u.assignments g n (i ∷ rest) e
       goes_here it (went same gone) = went_goes u log g blocks taken h n i rest e w along gone
       goes_here it (stale_before other s) = absurd (true≢false (sym it ∙ other))
 
@@ -89,7 +89,7 @@ module _ (u : UnitForm) (log : List Logged) (g : Graph) (blocks : List Block) (t
       }
 
       -- where it does not, the name was stale before it if it is now
-      stale_earlier : writes x i ≡ false → IsStale g x (passed ∷ h) → IsStale g x h
+      stale_earlier : writes x i ≡ false → IsStale u.assignments g x (passed ∷ h) → IsStale u.assignments g x h
       stale_earlier other (went it w) = absurd (true≢false (sym it ∙ other))
       stale_earlier other (stale_before same s) = s
 

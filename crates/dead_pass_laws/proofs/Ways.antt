@@ -27,7 +27,7 @@ module _ (u : UnitForm) (log : List Logged) (g : Graph) (blocks : List Block) (t
     hist : History
     rest : List Instruction
     along : Path g hist n rest e
-    said : AreSaid log g n e rest left
+    said : AreSaid u.assignments log g n e rest left
     followed : IsFollowed u log g blocks taken hist after n rest e
 
   -- The same where an instruction comes next: it is what is left of one that comes next on the path before.
@@ -36,8 +36,8 @@ module _ (u : UnitForm) (log : List Logged) (g : Graph) (blocks : List Block) (t
     pub instruction : Instruction
     pub rest : List Instruction
     pub along : Path g hist n (instruction ∷ rest) e
-    pub left : IsLeft log g n rest e instruction j
-    pub said : AreSaid log g n e rest more
+    pub left : IsLeft u.assignments log g n rest e instruction j
+    pub said : AreSaid u.assignments log g n e rest more
     pub followed : IsFollowed u log g blocks taken hist after n (instruction ∷ rest) e
 
   -- The same where a block ends: it ends on the path before.
@@ -51,20 +51,20 @@ module _ (u : UnitForm) (log : List Logged) (g : Graph) (blocks : List Block) (t
   module _ (after : History) (n : ℕ) (e : End) where
     -- over one of which it is known what is behind it
     next_going : (hist : History) (i : Instruction) (behind others : List Instruction) (j : Instruction) (more : List Instruction) → GoesAs i → (is_computation i ≡ true → ComesNext after n j more e)
-        → Goes g n (i ∷ behind) e → AreSaid log g n e behind others → without i ++ others ≡ j ∷ more → Path g hist n (i ∷ behind) e → IsFollowed u log g blocks taken hist after n (i ∷ behind) e → ComesNext after n j more e
+        → Goes u.assignments g n (i ∷ behind) e → AreSaid u.assignments log g n e behind others → without i ++ others ≡ j ∷ more → Path g hist n (i ∷ behind) e → IsFollowed u log g blocks taken hist after n (i ∷ behind) e → ComesNext after n j more e
     next_going hist i behind others j more (computed is) later it_goes said same along followed = later is
     next_going hist _ behind others j more (called {x} {f} {all}) later it_goes said same along followed = record {
       hist = hist;
       instruction = Call (Some x) f all;
       rest = behind;
       along = along;
-      left = subst (λ k. IsLeft log g n behind e (Call (Some x) f all) k) (first_same same) (untargeted it_goes);
-      said = subst (λ l. AreSaid log g n e behind l) (rest_same same) said;
+      left = subst (λ k. IsLeft u.assignments log g n behind e (Call (Some x) f all) k) (first_same same) (untargeted it_goes);
+      said = subst (λ l. AreSaid u.assignments log g n e behind l) (rest_same same) said;
       followed = followed;
     }
 
     -- Where an instruction comes next on the path after, one comes next behind what goes.
-    next_of : (hist : History) (rest left : List Instruction) (j : Instruction) (more : List Instruction) → AreSaid log g n e rest left → left ≡ j ∷ more → Path g hist n rest e → IsFollowed u log g blocks taken hist after n rest e → ComesNext after n j more e
+    next_of : (hist : History) (rest left : List Instruction) (j : Instruction) (more : List Instruction) → AreSaid u.assignments log g n e rest left → left ≡ j ∷ more → Path g hist n rest e → IsFollowed u log g blocks taken hist after n rest e → ComesNext after n j more e
     next_of hist rest left j more ends same along followed = absurd (not_empty (sym same))
     next_of hist rest left j more (gone {i} {rest = behind} {after = others} it_goes said) same along followed =
         next_going hist i behind others j more (goes_as g n i behind e it_goes)
@@ -77,8 +77,8 @@ module _ (u : UnitForm) (log : List Logged) (g : Graph) (blocks : List Block) (t
       instruction = i;
       rest = behind;
       along = along;
-      left = subst (λ l. IsLeft log g n behind e i l) (first_same same) (left_stays stay says);
-      said = subst (λ l. AreSaid log g n e behind l) (rest_same same) said;
+      left = subst (λ l. IsLeft u.assignments log g n behind e i l) (first_same same) (left_stays stay says);
+      said = subst (λ l. AreSaid u.assignments log g n e behind l) (rest_same same) said;
       followed = followed;
     }
 
@@ -88,7 +88,7 @@ module _ (u : UnitForm) (log : List Logged) (g : Graph) (blocks : List Block) (t
     last_going _ others called later same = absurd (not_empty same)
 
     -- Where the block ends on the path after, it ends behind what goes.
-    last_of : (hist : History) (rest left : List Instruction) → AreSaid log g n e rest left → left ≡ [] → Path g hist n rest e → IsFollowed u log g blocks taken hist after n rest e → ComesLast after n e
+    last_of : (hist : History) (rest left : List Instruction) → AreSaid u.assignments log g n e rest left → left ≡ [] → Path g hist n rest e → IsFollowed u log g blocks taken hist after n rest e → ComesLast after n e
     last_of hist rest left ends same along followed = record { hist = hist; along = along; followed = followed }
     last_of hist rest left (gone {i} {rest = behind} {after = others} it_goes said) same along followed =
         last_going i others (goes_as g n i behind e it_goes)
@@ -104,7 +104,7 @@ module _ (u : UnitForm) (log : List Logged) (g : Graph) (blocks : List Block) (t
   pub record WasBlock (n : ℕ) (c : Block) : Type 0 where
     pub block : Block
     pub is : slice_get g.blocks n ≡ Some block
-    pub said : AreSaid log g n block.end block.instructions c.instructions
+    pub said : AreSaid u.assignments log g n block.end block.instructions c.instructions
     pub place : c.place ≡ block.place
     pub end : c.end ≡ block.end
 
@@ -116,14 +116,14 @@ module _ (u : UnitForm) (log : List Logged) (g : Graph) (blocks : List Block) (t
       by_both (inl none) = (let no : None ≡ Some c = sym none.1 ∙ at in absurd (none-some c no))
       by_both (inr some) =
           let one : some.1 ≡ c = same_Some some.1 c (sym some.3 ∙ at) in
-          let reduced : IsReducedBlock g n some.0 some.1 = taken.reduced.blocks n some.0 some.1 some.2 some.3 in
+          let reduced : IsReducedBlock u.assignments g n some.0 some.1 = taken.reduced.blocks n some.0 some.1 some.2 some.3 in
           subst (λ d. WasBlock n d) one (record { block = some.0; is = some.2; said = taken.said.notes n some.0 some.1 some.2 some.3; place = reduced.place; end = reduced.end })
 
   -- A block of the graph before is one of the graph after.
   pub record IsBlockAfter (n : ℕ) (b : Block) : Type 0 where
     pub block : Block
     pub is : slice_get blocks n ≡ Some block
-    pub said : AreSaid log g n b.end b.instructions block.instructions
+    pub said : AreSaid u.assignments log g n b.end b.instructions block.instructions
     pub place : block.place ≡ b.place
     pub end : block.end ≡ b.end
 
@@ -135,7 +135,7 @@ module _ (u : UnitForm) (log : List Logged) (g : Graph) (blocks : List Block) (t
       by_both (inl none) = (let no : None ≡ Some b = sym none.0 ∙ at in absurd (none-some b no))
       by_both (inr some) =
           let one : some.0 ≡ b = same_Some some.0 b (sym some.2 ∙ at) in
-          let reduced : IsReducedBlock g n some.0 some.1 = taken.reduced.blocks n some.0 some.1 some.2 some.3 in
+          let reduced : IsReducedBlock u.assignments g n some.0 some.1 = taken.reduced.blocks n some.0 some.1 some.2 some.3 in
           subst (λ d. IsBlockAfter n d) one (record { block = some.1; is = some.3; said = taken.said.notes n some.0 some.1 some.2 some.3; place = reduced.place; end = reduced.end })
 
   -- ---- Ways

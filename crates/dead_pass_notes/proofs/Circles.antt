@@ -1,6 +1,7 @@
 -- Copies that lead back to where they began give no recipe.
 use Rattle.std.proofs.Common.{◌≡◌, ℕ, zero, suc, ◌≤◌, ◌<◌, Option, Some, None, List, ◌∷◌, refl, sym, ap, ◌∙◌, subst, arith}
 use Rattle.std.specs.Prelude.{◌↔◌, ⊤}
+use Rattle.places.specs.declared.flow.Assignment.{Assignment}
 use Rattle.graph_core.specs.Graphs.{Operand, Name, Recipe, Instruction, Move, End, Graph}
 use Rattle.graph_core.specs.WellMarked.{IsLocal}
 use Rattle.dead_pass_writes.specs.declared.writes.Spot.{Spot}
@@ -11,9 +12,9 @@ use Rattle.dead_pass_notes.specs.Said.{IsRecipe, constant, address, name, moved,
 use Rattle.dead_pass_notes.specs.Sources.{noted, IsRead}
 use Rattle.dead_pass_notes.proofs.Sources.{same_definition, same_move, truncate_no_move, operate_no_move}
 
-module _ (g : Graph) (note : NotePoint) where
+module _ (assignments : List Assignment) (g : Graph) (note : NotePoint) where
   abbrev pub RecipeAt : (n : ℕ) → List Instruction → End → Operand → Recipe → Type 0
-  RecipeAt n rest e a r = IsRecipe g note.place.0 note.spot.block (noted g note) (end_at g note.spot.block) n rest e a r
+  RecipeAt n rest e a r = IsRecipe assignments g note.place.0 note.spot.block (noted g note) (end_at g note.spot.block) n rest e a r
 
   -- through how many copies a recipe goes first
   pub copies : {n : ℕ} {rest : List Instruction} {e : End} {a : Operand} {r : Recipe} → RecipeAt n rest e a r → ℕ
@@ -28,7 +29,7 @@ module _ (g : Graph) (note : NotePoint) where
   IsThrough at a r k = Through at.block (left_at g at.block at.left) (end_at g at.block) a r k
 
   -- Where each recipe at a spot has one there that goes through less copies, there is none.
-  pub no_circle : (at : Spot) (a : Operand) → ((r : Recipe) (k : ℕ) → IsThrough at a r k → (j : ℕ) × (j < k) × IsThrough at a r j) → (r : Recipe) → IsRead g note at a r → ⊥
+  pub no_circle : (at : Spot) (a : Operand) → ((r : Recipe) (k : ℕ) → IsThrough at a r k → (j : ℕ) × (j < k) × IsThrough at a r j) → (r : Recipe) → IsRead assignments g note at a r → ⊥
   no_circle at a less r q = go (copies q) (copies q) (omega arith) (q, refl)
     where
       go : (most k : ℕ) → k ≤ most → IsThrough at a r k → ⊥
@@ -42,7 +43,7 @@ module _ (g : Graph) (note : NotePoint) where
     unfolding copies
     copied_through at r k through = by through.0 through.1
       where
-        by : {q : Recipe} → (s : IsRead g note at (Name t) q) → copies s ≡ k → (j : ℕ) × (j < k) × IsThrough d a q j
+        by : {q : Recipe} → (s : IsRead assignments g note at (Name t) q) → copies s ≡ k → (j : ℕ) × (j < k) × IsThrough d a q j
         by (name not_local fresh unwritten) e = absurd (not_local local)
         by {q} (moved {m} {more = more} {f = f} {a = b} def s) e =
             let same = same_definition g note t local only tells d is def in
@@ -81,7 +82,7 @@ module _ (g : Graph) (note : NotePoint) where
     )
 
     -- A chain that came back gives no recipe.
-    pub marked_again : (at : Spot) → IsMarked (Some d) at (Name t) → (r : Recipe) → IsRead g note at (Name t) r → ⊥
+    pub marked_again : (at : Spot) → IsMarked (Some d) at (Name t) → (r : Recipe) → IsRead assignments g note at (Name t) r → ⊥
     marked_again at marked r q =
         let x = marked.0 in
         let a = marked.1 in

@@ -3,6 +3,7 @@ use Rattle.std.proofs.Common.{◌≡◌, ℕ, suc, ◌+◌, ◌*◌, ◌≤◌, 
 use Rattle.std.specs.Prelude.{◌↔◌, slice_get}
 use Rattle.std.proofs.lemmas.List.{length-append}
 use Rattle.std.proofs.lemmas.Option.{slice_get_within}
+use Rattle.places.specs.declared.flow.Assignment.{Assignment}
 use Rattle.graph_core.specs.Graphs.{Block, Graph}
 use Rattle.dead_pass_rule.specs.Certified.{AreIdle}
 use Rattle.dead_pass_writes.specs.declared.writes.Spot.{Spot}
@@ -21,7 +22,7 @@ pub record IsSearching (g : Graph) (goes : (block left : ℕ) → Bool) (to : Sp
   pub count : length now.seen.items ≡ length first.seen.items
   pub seen : AreSeen first → AreSeen now
   pub within : at ≤ length now.ahead.items
-  pub searched : (ready : IsReady g goes to first) → AreSeen first → IsSearched g goes ready.idle to y ready.point first.ahead.items now.ahead.items at
+  pub searched : (assignments : List Assignment) (ready : IsReady assignments g goes to first) → AreSeen first → IsSearched g goes ready.idle to y ready.point first.ahead.items now.ahead.items at
 
 module _ (g : Graph) (goes : (block left : ℕ) → Bool) (to : Spot) (y : ℕ) (first now : Ways) (at : ℕ) (w : Way) (is : slice_get now.ahead.items at ≡ Some w) (so_far : IsSearching g goes to y first now at) where
   pub searching_on : (new : Ways) (b : Block) → slice_get g.blocks w.block ≡ Some b → length new.seen.items ≡ length now.seen.items → (AreSeen now → AreSeen new)
@@ -35,7 +36,7 @@ module _ (g : Graph) (goes : (block left : ℕ) → Bool) (to : Spot) (y : ℕ) 
         count = size ∙ so_far.count;
         seen = λ s. seen (so_far.seen s);
         within = omega (arith, inside, long);
-        searched = λ ready s. searched_next g goes ready.idle to y ready.point first.ahead.items now.ahead.items new.ahead.items at w b is there grown (on (length g.blocks) (so_far.count ∙ ready.count) (so_far.seen s)) (so_far.searched ready s);
+        searched = λ assignments ready s. searched_next g goes ready.idle to y ready.point first.ahead.items now.ahead.items new.ahead.items at w b is there grown (on (length g.blocks) (so_far.count ∙ ready.count) (so_far.seen s)) (so_far.searched assignments ready s);
       }
 
   pub searching_skip : ((b : Block) → slice_get g.blocks w.block ≡ Some b → ⊥) → IsSearching g goes to y first now (at + 1)
@@ -45,36 +46,36 @@ module _ (g : Graph) (goes : (block left : ℕ) → Bool) (to : Spot) (y : ℕ) 
         count = so_far.count;
         seen = so_far.seen;
         within = omega (arith, inside);
-        searched = λ ready s. searched_skip g goes ready.idle to y ready.point first.ahead.items now.ahead.items at w is none (so_far.searched ready s);
+        searched = λ assignments ready s. searched_skip g goes ready.idle to y ready.point first.ahead.items now.ahead.items at w is none (so_far.searched assignments ready s);
       }
 
-module _ (g : Graph) (goes : (block left : ℕ) → Bool) (are : AreIdle g goes) (to : Spot) (y : ℕ) (point : IsPoint g to.block (suc to.left)) (n left : ℕ) (from : IsPoint g n left) where
+module _ {assignments : List Assignment} (g : Graph) (goes : (block left : ℕ) → Bool) (are : AreIdle assignments g goes) (to : Spot) (y : ℕ) (point : IsPoint g to.block (suc to.left)) (n left : ℕ) (from : IsPoint g n left) where
   abbrev Between : Type 0
-  Between = IsWrittenBetween g to.block (left_at g to.block (suc to.left)) y n (left_at g n left) (end_at g n)
+  Between = IsWrittenBetween assignments g to.block (left_at g to.block (suc to.left)) y n (left_at g n left) (end_at g n)
 
   -- the first scan stops there
   pub found_at_once : scan_of goes to y n false (left_at g n left) ≡ Stops true → Between
   found_at_once stops =
       let st = stands g n left from in
-      subst (λ e. IsWrittenBetween g to.block (left_at g to.block (suc to.left)) y n (left_at g n left) e) (sym st.ends) (scan_stops g goes are to y point n st.block st.before (left_at g n left) st.is st.parts false stops)
+      subst (λ e. IsWrittenBetween assignments g to.block (left_at g to.block (suc to.left)) y n (left_at g n left) e) (sym st.ends) (scan_stops g goes are to y point n st.block st.before (left_at g n left) st.is st.parts false stops)
 
-  none_comes_yet : SomeComes g to y [] → ⊥
+  none_comes_yet : SomeComes assignments g to y [] → ⊥
   none_comes_yet some = among_none some.has_come
 
   -- or it goes on
-  pub found_on : (old ahead : List Way) → old ≡ [] → HasGrown (end_at g n) (scan_of goes to y n false (left_at g n left)) old ahead → GoesOn (length g.blocks) ahead (end_at g n) (scan_of goes to y n false (left_at g n left)) → SomeComes g to y ahead ↔ Between
+  pub found_on : (old ahead : List Way) → old ≡ [] → HasGrown (end_at g n) (scan_of goes to y n false (left_at g n left)) old ahead → GoesOn (length g.blocks) ahead (end_at g n) (scan_of goes to y n false (left_at g n left)) → SomeComes assignments g to y ahead ↔ Between
   found_on old ahead none grown go = (to_between, on)
     where
       st : Stands g n left
       st = stands g n left from
 
-      to_between : SomeComes g to y ahead → Between
+      to_between : SomeComes assignments g to y ahead → Between
       to_between some =
           let grown_there = subst (λ e. HasGrown e (scan_of goes to y n false (left_at g n left)) old ahead) st.ends grown in
           elim (comes_back g goes are to y point n st.block st.before (left_at g n left) st.is st.parts false old ahead grown_there some) [
-            | inl before ↦ absurd (none_comes_yet (let P : List Way → Type 0 = λ ways. SomeComes g to y ways in subst P none before))
-            | inr comes ↦ subst (λ e. IsWrittenBetween g to.block (left_at g to.block (suc to.left)) y n (left_at g n left) e) (sym st.ends) comes
+            | inl before ↦ absurd (none_comes_yet (let P : List Way → Type 0 = λ ways. SomeComes assignments g to y ways in subst P none before))
+            | inr comes ↦ subst (λ e. IsWrittenBetween assignments g to.block (left_at g to.block (suc to.left)) y n (left_at g n left) e) (sym st.ends) comes
           ]
 
-      on : Between → SomeComes g to y ahead
+      on : Between → SomeComes assignments g to y ahead
       on between = written_on g goes are to y point ahead between st.block st.before st.is st.parts st.ends false go

@@ -3,6 +3,7 @@ use Rattle.std.proofs.Common.{◌≡◌, ℕ, ◌<◌, Bool, true, Some, List, [
 use Rattle.std.specs.Prelude.{◌↔◌, slice_get}
 use Rattle.std.proofs.lemmas.List.{length-append, take_at}
 use Rattle.std.proofs.lemmas.Option.{same_Some, slice_get_within}
+use Rattle.places.specs.declared.flow.Assignment.{Assignment}
 use Rattle.graph_core.specs.Graphs.{Instruction, Block, Graph}
 use Rattle.graph_paths.specs.Reached.{AreLed}
 use Rattle.graph_paths.proofs.Points.{point_reached}
@@ -20,13 +21,13 @@ same_before xs ys rest e =
     let count : length xs ≡ length ys = omega (arith, one, two, whole) in
     sym (take_at xs rest (length xs) refl) ∙ ap (take (length xs)) e ∙ take_at ys rest (length xs) (sym count)
 
-module _ (g : Graph) (going : (block left : ℕ) → Bool) (are : AreIdle g going) (led : ℕ → Bool) (leads : AreLed g.blocks led) (names : ℕ) (told : (n x : ℕ) → Bool) (all : AreAll g going led names told)
-    (so : (n x : ℕ) → n < length g.blocks → x < names → told n x ≡ true → IsStaleAt g x n) where
+module _ {assignments : List Assignment} (g : Graph) (going : (block left : ℕ) → Bool) (are : AreIdle assignments g going) (led : ℕ → Bool) (leads : AreLed g.blocks led) (names : ℕ) (told : (n x : ℕ) → Bool) (all : AreAll g going led names told)
+    (so : (n x : ℕ) → n < length g.blocks → x < names → told n x ≡ true → IsStaleAt assignments g x n) where
   pub told_exactly : (x n : ℕ) (b : Block) (before rest : List Instruction) → x < names → slice_get g.blocks n ≡ Some b → led n ≡ true → b.instructions ≡ before ++ rest
-      → (stale_behind (going n) x (told n x) before (length rest) ≡ true) ↔ ComesStale g x n rest b.end
+      → (stale_behind (going n) x (told n x) before (length rest) ≡ true) ↔ ComesStale assignments g x n rest b.end
   told_exactly x n b before rest named at way parts = (
     (λ e. told_so g going are x n b at [] before rest (told n x) parts (point_reached g led leads n b [] (before ++ rest) at parts way)
-        (λ is. subst (λ l. ComesStale g x n l b.end) parts (so n x (slice_get_within g.blocks n b at) named is b at)) e),
+        (λ is. subst (λ l. ComesStale assignments g x n l b.end) parts (so n x (slice_get_within g.blocks n b at) named is b at)) e),
     (λ s.
         (let there = path_told g going are led leads names told all x named s.path in
         let same : there.block ≡ b = same_Some there.block b (sym there.is ∙ at) in

@@ -3,6 +3,7 @@ use Rattle.std.proofs.Common.{◌≡◌, ◌≢◌, ℕ, zero, suc, ◌+◌, ◌
 use Rattle.std.specs.Prelude.{◌↔◌, max}
 use Rattle.word_base.specs.declared.operation.Operation.{Operation}
 use Rattle.word_base.specs.declared.operation.Truncation.{Truncation}
+use Rattle.places.specs.declared.flow.Assignment.{Assignment}
 use Rattle.graph_core.specs.declared.name.Name as declared-name
 use Rattle.graph_core.specs.declared.name.Operand as declared-operand
 use Rattle.graph_core.specs.declared.name.Operand.TheVariants as declared
@@ -38,83 +39,83 @@ operate_no_truncate e = cc
 truncate_no_operate : {x y : ℕ} {o : Operation} {u : Truncation} {a b c : Operand} {xs ys : List Instruction} → Truncate y u c ∷ ys ≡ Operate x o a b ∷ xs → ⊥
 truncate_no_operate e = cc
 
-module _ (g : Graph) (note : NotePoint) where
+module _ {assignments : List Assignment} (g : Graph) (note : NotePoint) where
   -- a name that is no local temporary
-  pub read_name : (at : Spot) (y depth : ℕ) → (IsLocal g y → ⊥) → StillHolds g note at y → IsFound (suc depth) (IsRead g note at (Name y)) (Some (Of (Name y)))
+  pub read_name : (at : Spot) (y depth : ℕ) → (IsLocal g y → ⊥) → StillHolds assignments g note at y → IsFound (suc depth) (IsRead assignments g note at (Name y)) (Some (Of (Name y)))
   read_name at y depth other holds = (name other holds.fresh holds.unwritten, omega arith)
 
-  pub read_none : (at : Spot) (y depth : ℕ) → (IsLocal g y → ⊥) → (StillHolds g note at y → ⊥) → IsFound depth (IsRead g note at (Name y)) None
+  pub read_none : (at : Spot) (y depth : ℕ) → (IsLocal g y → ⊥) → (StillHolds assignments g note at y → ⊥) → IsFound depth (IsRead assignments g note at (Name y)) None
   read_none at y depth other lost r given le = by given
     where
-      by : {q : Recipe} → IsRead g note at (Name y) q → ⊥
+      by : {q : Recipe} → IsRead assignments g note at (Name y) q → ⊥
       by (name not_local fresh unwritten) = lost (record { fresh = fresh; unwritten = unwritten })
       by (moved def q) = other def.local
       by (truncated def q) = other def.local
       by (operated def q w) = other def.local
 
-  pub read_constant : (at : Spot) (w depth : ℕ) → IsFound (suc depth) (IsRead g note at (Constant w)) (Some (Of (Constant w)))
+  pub read_constant : (at : Spot) (w depth : ℕ) → IsFound (suc depth) (IsRead assignments g note at (Constant w)) (Some (Of (Constant w)))
   read_constant at w depth = (constant, omega arith)
 
-  pub read_address : (at : Spot) (object offset depth : ℕ) → IsFound (suc depth) (IsRead g note at (StaticAddress object offset)) (Some (Of (StaticAddress object offset)))
+  pub read_address : (at : Spot) (object offset depth : ℕ) → IsFound (suc depth) (IsRead assignments g note at (StaticAddress object offset)) (Some (Of (StaticAddress object offset)))
   read_address at object offset depth = (address, omega arith)
 
   -- an operand that is no name
-  pub read_other : (at : Spot) (o : declared-operand.Operand) (depth : ℕ) → ((x : declared-name.Name) → o ≡ declared.Name x → ⊥) → IsFound (suc depth) (IsRead g note at (operand_view o)) (Some (Of (operand_view o)))
+  pub read_other : (at : Spot) (o : declared-operand.Operand) (depth : ℕ) → ((x : declared-name.Name) → o ≡ declared.Name x → ⊥) → IsFound (suc depth) (IsRead assignments g note at (operand_view o)) (Some (Of (operand_view o)))
   read_other at (declared.Name x) depth other = absurd (other x refl)
   read_other at (declared.Constant w) depth other = read_constant at w depth
   read_other at (declared.StaticAddress object offset) depth other = read_address at object offset depth
 
   module _ (d : Spot) where
     -- what is copied
-    pub made_copied : (x : ℕ) (a : Operand) → left_at g d.block (suc d.left) ≡ Move x a ∷ left_at g d.block d.left → (r : Recipe) → IsMade g note d r ↔ IsRead g note d a r
+    pub made_copied : (x : ℕ) (a : Operand) → left_at g d.block (suc d.left) ≡ Move x a ∷ left_at g d.block d.left → (r : Recipe) → IsMade assignments g note d r ↔ IsRead assignments g note d a r
     made_copied x a is r = (to, back)
       where
-        to : IsMade g note d r → IsRead g note d a r
+        to : IsMade assignments g note d r → IsRead assignments g note d a r
         to made = by made.right made.is
           where
-            by : {i : Instruction} {q : Recipe} → IsRightSide g note.place.0 note.spot.block (noted g note) (end_at g note.spot.block) d.block (left_at g d.block d.left) (end_at g d.block) i q → left_at g d.block (suc d.left) ≡ i ∷ left_at g d.block d.left → IsRead g note d a q
-            by {q = q} (right_moved s) e = subst (λ c. IsRead g note d c q) (same_move (sym e ∙ is)) s
+            by : {i : Instruction} {q : Recipe} → IsRightSide assignments g note.place.0 note.spot.block (noted g note) (end_at g note.spot.block) d.block (left_at g d.block d.left) (end_at g d.block) i q → left_at g d.block (suc d.left) ≡ i ∷ left_at g d.block d.left → IsRead assignments g note d a q
+            by {q = q} (right_moved s) e = subst (λ c. IsRead assignments g note d c q) (same_move (sym e ∙ is)) s
             by (right_truncated s) e = absurd (move_no_truncate (sym is ∙ e))
             by (right_operated s w) e = absurd (move_no_operate (sym is ∙ e))
 
-        back : IsRead g note d a r → IsMade g note d r
+        back : IsRead assignments g note d a r → IsMade assignments g note d r
         back s = record { instruction = Move x a; is = is; right = right_moved s }
 
     -- what is truncated
-    pub made_truncated : (x : ℕ) (t : Truncation) (a : Operand) (from : Source) → left_at g d.block (suc d.left) ≡ Truncate x t a ∷ left_at g d.block d.left → ((r : Recipe) → IsRead g note d a r ↔ Gives g note from r)
-        → (r : Recipe) → IsMade g note d r ↔ Computes g note (computed.Truncated t from) r
+    pub made_truncated : (x : ℕ) (t : Truncation) (a : Operand) (from : Source) → left_at g d.block (suc d.left) ≡ Truncate x t a ∷ left_at g d.block d.left → ((r : Recipe) → IsRead assignments g note d a r ↔ Gives assignments g note from r)
+        → (r : Recipe) → IsMade assignments g note d r ↔ Computes assignments g note (computed.Truncated t from) r
     made_truncated x t a from is same r = (to, back)
       where
-        to : IsMade g note d r → Computes g note (computed.Truncated t from) r
+        to : IsMade assignments g note d r → Computes assignments g note (computed.Truncated t from) r
         to made = by made.right made.is
           where
-            by : {i : Instruction} {q : Recipe} → IsRightSide g note.place.0 note.spot.block (noted g note) (end_at g note.spot.block) d.block (left_at g d.block d.left) (end_at g d.block) i q → left_at g d.block (suc d.left) ≡ i ∷ left_at g d.block d.left → Computes g note (computed.Truncated t from) q
+            by : {i : Instruction} {q : Recipe} → IsRightSide assignments g note.place.0 note.spot.block (noted g note) (end_at g note.spot.block) d.block (left_at g d.block d.left) (end_at g d.block) i q → left_at g d.block (suc d.left) ≡ i ∷ left_at g d.block d.left → Computes assignments g note (computed.Truncated t from) q
             by (right_moved s) e = absurd (move_no_truncate (sym e ∙ is))
             by (right_truncated {at = u} {r = w} s) e =
                 let q = same_truncate (sym e ∙ is) in
-                (w, ap (λ v. Truncated v w) q.0, (same w).0 (subst (λ b. IsRead g note d b w) q.1 s))
+                (w, ap (λ v. Truncated v w) q.0, (same w).0 (subst (λ b. IsRead assignments g note d b w) q.1 s))
             by (right_operated s w) e = absurd (operate_no_truncate (sym e ∙ is))
 
-        back : Computes g note (computed.Truncated t from) r → IsMade g note d r
-        back c = record { instruction = Truncate x t a; is = is; right = subst (λ q. IsRightSide g note.place.0 note.spot.block (noted g note) (end_at g note.spot.block) d.block (left_at g d.block d.left) (end_at g d.block) (Truncate x t a) q) (sym c.1) (right_truncated ((same c.0).1 c.2)) }
+        back : Computes assignments g note (computed.Truncated t from) r → IsMade assignments g note d r
+        back c = record { instruction = Truncate x t a; is = is; right = subst (λ q. IsRightSide assignments g note.place.0 note.spot.block (noted g note) (end_at g note.spot.block) d.block (left_at g d.block d.left) (end_at g d.block) (Truncate x t a) q) (sym c.1) (right_truncated ((same c.0).1 c.2)) }
 
     -- what is operated
-    pub made_operated : (x : ℕ) (o : Operation) (a b : Operand) (left right : Source) → left_at g d.block (suc d.left) ≡ Operate x o a b ∷ left_at g d.block d.left → ((r : Recipe) → IsRead g note d a r ↔ Gives g note left r) → ((r : Recipe) → IsRead g note d b r ↔ Gives g note right r)
-        → (r : Recipe) → IsMade g note d r ↔ Computes g note (computed.Operated o left right) r
+    pub made_operated : (x : ℕ) (o : Operation) (a b : Operand) (left right : Source) → left_at g d.block (suc d.left) ≡ Operate x o a b ∷ left_at g d.block d.left → ((r : Recipe) → IsRead assignments g note d a r ↔ Gives assignments g note left r) → ((r : Recipe) → IsRead assignments g note d b r ↔ Gives assignments g note right r)
+        → (r : Recipe) → IsMade assignments g note d r ↔ Computes assignments g note (computed.Operated o left right) r
     made_operated x o a b left right is one two r = (to, back)
       where
-        to : IsMade g note d r → Computes g note (computed.Operated o left right) r
+        to : IsMade assignments g note d r → Computes assignments g note (computed.Operated o left right) r
         to made = by made.right made.is
           where
-            by : {i : Instruction} {q : Recipe} → IsRightSide g note.place.0 note.spot.block (noted g note) (end_at g note.spot.block) d.block (left_at g d.block d.left) (end_at g d.block) i q → left_at g d.block (suc d.left) ≡ i ∷ left_at g d.block d.left → Computes g note (computed.Operated o left right) q
+            by : {i : Instruction} {q : Recipe} → IsRightSide assignments g note.place.0 note.spot.block (noted g note) (end_at g note.spot.block) d.block (left_at g d.block d.left) (end_at g d.block) i q → left_at g d.block (suc d.left) ≡ i ∷ left_at g d.block d.left → Computes assignments g note (computed.Operated o left right) q
             by (right_moved s) e = absurd (move_no_operate (sym e ∙ is))
             by (right_truncated s) e = absurd (truncate_no_operate (sym e ∙ is))
             by (right_operated {o = u} {r = v} {s = w} s z) e =
                 let q = same_operate (sym e ∙ is) in
-                (v, w, ap (λ p. Operated p v w) q.0, (one v).0 (subst (λ c. IsRead g note d c v) q.1 s), (two w).0 (subst (λ c. IsRead g note d c w) q.2 z))
+                (v, w, ap (λ p. Operated p v w) q.0, (one v).0 (subst (λ c. IsRead assignments g note d c v) q.1 s), (two w).0 (subst (λ c. IsRead assignments g note d c w) q.2 z))
 
-        back : Computes g note (computed.Operated o left right) r → IsMade g note d r
-        back c = record { instruction = Operate x o a b; is = is; right = subst (λ q. IsRightSide g note.place.0 note.spot.block (noted g note) (end_at g note.spot.block) d.block (left_at g d.block d.left) (end_at g d.block) (Operate x o a b) q) (sym c.2) (right_operated ((one c.0).1 c.3) ((two c.1).1 c.4)) }
+        back : Computes assignments g note (computed.Operated o left right) r → IsMade assignments g note d r
+        back c = record { instruction = Operate x o a b; is = is; right = subst (λ q. IsRightSide assignments g note.place.0 note.spot.block (noted g note) (end_at g note.spot.block) d.block (left_at g d.block d.left) (end_at g d.block) (Operate x o a b) q) (sym c.2) (right_operated ((one c.0).1 c.3) ((two c.1).1 c.4)) }
 
 -- a recipe is at least 1 deep
 deep : (r : Recipe) → 1 ≤ depth_of r

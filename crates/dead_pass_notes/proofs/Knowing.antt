@@ -6,6 +6,7 @@ use Rattle.std.proofs.lemmas.Bool.{cases_lt, eqb-true}
 use Rattle.std.proofs.lemmas.List.{get_or_past, length-append}
 use Rattle.std.proofs.lemmas.Option.{slice_get_within}
 use Rattle.bit_rows.specs.Grid.{row_at}
+use Rattle.places.specs.declared.flow.Assignment.{Assignment}
 use Rattle.graph_core.specs.Graphs.{Instruction, End, Block, Graph}
 use Rattle.graph_core.specs.Paths.{Passed, History, writes}
 use Rattle.graph_core.specs.Uses.{target_of}
@@ -21,7 +22,7 @@ use Rattle.dead_pass_notes.proofs.Exact.{told_exactly}
 use Rattle.dead_pass_notes.specs.declared.idle_graph.IdleGraph.{IdleGraph}
 use Rattle.dead_pass_notes.specs.declared.notes.Notes.{Notes}
 use Rattle.dead_pass_notes.specs.declared.recipes.NotePoint.{NotePoint}
-use Rattle.dead_pass_notes.specs.Idle.{IsBorneOut, graph_of}
+use Rattle.dead_pass_notes.specs.Idle.{IsBorneOut, assignments_of, graph_of}
 use Rattle.dead_pass_notes.specs.Sources.{AreNamed, IsKnown, noted}
 use Rattle.dead_pass_notes.specs.RemovalNotesStale.{AreKnown, HasComeBehind}
 
@@ -37,7 +38,7 @@ written_target y None e = absurd (true≢false (sym e))
 written_target y (Some x) e = ap Some (eqb-true x y e)
 
 -- a name that is stale is a name of the graph
-stale_named : (g : Graph) → AreNamed g → (y : ℕ) {h : History} → IsStale g y h → y < g.name_count
+stale_named : {assignments : List Assignment} → (g : Graph) → AreNamed g → (y : ℕ) {h : History} → IsStale assignments g y h → y < g.name_count
 stale_named g named y (went {i} it w) = named i.block w.behind.block w.behind.before w.rest i.instruction y w.behind.is w.behind.instructions (written_target y (target_of i.instruction) it)
 stale_named g named y (stale_before other s) = stale_named g named y s
 
@@ -62,8 +63,8 @@ known_at idle notes note b before rest borne known named count width at way part
             let going = is_going (turn_of idle.turns.items) n in
             let here : bits_of notes.stale (length g.blocks) y ≡ stale_behind going y (bits_of notes.stale n y) before (length rest) =
             ap (λ k. bits_of notes.stale k y) (sym blocks) ∙ come y lt ∙ ap (stale_behind going y (bits_of notes.stale n y) before) (sym behind) in (
-              (λ e. subst (λ l. ComesStale g y n l (end_at g n)) (sym left) (subst (λ f. ComesStale g y n rest f) (sym end) (exact.0 (sym here ∙ e)))),
-              (λ s. here ∙ exact.1 (subst (λ f. ComesStale g y n rest f) end (subst (λ l. ComesStale g y n l (end_at g n)) left s))),
+              (λ e. subst (λ l. ComesStale (assignments_of idle) g y n l (end_at g n)) (sym left) (subst (λ f. ComesStale (assignments_of idle) g y n rest f) (sym end) (exact.0 (sym here ∙ e)))),
+              (λ s. here ∙ exact.1 (subst (λ f. ComesStale (assignments_of idle) g y n rest f) end (subst (λ l. ComesStale (assignments_of idle) g y n l (end_at g n)) left s))),
             ))
         | inr le ↦ (
           (λ e. absurd (true≢false (sym e ∙ outside_row notes.stale (length g.blocks) y (omega (arith, count, blocks)) (omega (arith, width, names, le))))),

@@ -3,6 +3,7 @@ use Rattle.std.proofs.Common.{◌≡◌, ℕ, suc, ◌+◌, ◌-◌, ◌≤◌, 
 use Rattle.std.specs.Prelude.{slice_get}
 use Rattle.std.proofs.lemmas.List.{drop_more, length-append, length-drop, length-take-le, take-append-drop, take_at}
 use Rattle.std.proofs.lemmas.Option.{get_or_from_slice_get, same_Some, slice_get_within}
+use Rattle.places.specs.declared.flow.Assignment.{Assignment}
 use Rattle.graph_core.specs.Graphs.{Instruction, Block, Graph}
 use Rattle.graph_core.specs.Validity.{place_behind}
 use Rattle.pass_law.specs.declared.cases.Case.{Case}
@@ -26,9 +27,9 @@ parted : (all : List Instruction) (k : ℕ) (i : Instruction) → slice_get all 
 parted all k i is =
     sym (take-append-drop k all) ∙ ap (λ l. take k all ++ l) (drop_more all k i (slice_get_within all k i is)) ∙ ap (λ j. take k all ++ j ∷ drop (k + 1) all) (get_or_from_slice_get all k i i is)
 
-module _ (g : Graph) (goes : (block left : ℕ) → Bool) (are : AreIdle g goes) where
+module _ {assignments : List Assignment} (g : Graph) (goes : (block left : ℕ) → Bool) (are : AreIdle assignments g goes) where
   module _ (k : ℕ) (b : Block) (here : slice_get g.blocks k ≡ Some b) where
-    in_block : (c : Case) → Numbered (IsRemovedWrite g) block_of k c → IsRemovedIn g.scalars (goes k) k b c
+    in_block : (c : Case) → Numbered (IsRemovedWrite assignments g) block_of k c → IsRemovedIn g.scalars (goes k) k b c
     in_block c q =
         let w = q.0 in
         let at = w.stood in
@@ -39,7 +40,7 @@ module _ (g : Graph) (goes : (block left : ℕ) → Bool) (are : AreIdle g goes)
         let index = w.index in
         let left : length w.rest ≡ length b.instructions - 1 - c.index = omega (arith, count, index) in
         let ends = at.ends ∙ ap (λ (z : Block). z.end) same in
-        let gone : goes c.block (length w.rest) ≡ true = (are.goes c.block b at.before w.rest w.instruction there parts).1 (subst (λ e. Goes g c.block (w.instruction ∷ w.rest) e) ends w.goes) in
+        let gone : goes c.block (length w.rest) ≡ true = (are.goes c.block b at.before w.rest w.instruction there parts).1 (subst (λ e. Goes assignments g c.block (w.instruction ∷ w.rest) e) ends w.goes) in
         record {
           instruction = w.instruction;
           is = ap (λ l. slice_get l c.index) parts ∙ ap (slice_get (at.before ++ w.instruction ∷ w.rest)) (sym index) ∙ behind_others at.before w.rest w.instruction;
@@ -52,7 +53,7 @@ module _ (g : Graph) (goes : (block left : ℕ) → Bool) (are : AreIdle g goes)
           no_read = w.no_read;
         }
 
-    of_block : (c : Case) → IsRemovedIn g.scalars (goes k) k b c → Numbered (IsRemovedWrite g) block_of k c
+    of_block : (c : Case) → IsRemovedIn g.scalars (goes k) k b c → Numbered (IsRemovedWrite assignments g) block_of k c
     of_block c r =
         let there : slice_get g.blocks c.block ≡ Some b = ap (slice_get g.blocks) r.in_block ∙ here in
         let parts = parted b.instructions c.index r.instruction r.is in
@@ -75,10 +76,10 @@ module _ (g : Graph) (goes : (block left : ℕ) → Bool) (are : AreIdle g goes)
           r.in_block,
         )
 
-    pub block_step : (old mid new : List Case) → Adds (Below (IsRemovedWrite g) block_of k) old mid → Adds (IsRemovedIn g.scalars (goes k) k b) mid new → Adds (Below (IsRemovedWrite g) block_of (k + 1)) old new
+    pub block_step : (old mid new : List Case) → Adds (Below (IsRemovedWrite assignments g) block_of k) old mid → Adds (IsRemovedIn g.scalars (goes k) k b) mid new → Adds (Below (IsRemovedWrite assignments g) block_of (k + 1)) old new
     block_step old mid new so_far adds =
-        adds_next (IsRemovedWrite g) block_of k old mid new so_far (adds_same (IsRemovedIn g.scalars (goes k) k b) (Numbered (IsRemovedWrite g) block_of k) mid new of_block in_block adds)
+        adds_next (IsRemovedWrite assignments g) block_of k old mid new so_far (adds_same (IsRemovedIn g.scalars (goes k) k b) (Numbered (IsRemovedWrite assignments g) block_of k) mid new of_block in_block adds)
 
-  pub blocks_done : (k : ℕ) (old new : List Case) → length g.blocks ≤ k → Adds (Below (IsRemovedWrite g) block_of k) old new → Adds (IsRemovedWrite g) old new
+  pub blocks_done : (k : ℕ) (old new : List Case) → length g.blocks ≤ k → Adds (Below (IsRemovedWrite assignments g) block_of k) old new → Adds (IsRemovedWrite assignments g) old new
   blocks_done k old new whole adds =
-      adds_last (IsRemovedWrite g) block_of k old new (λ c q. (let within = slice_get_within g.blocks c.block q.stood.block q.stood.is in omega (arith, whole, within))) adds
+      adds_last (IsRemovedWrite assignments g) block_of k old new (λ c q. (let within = slice_get_within g.blocks c.block q.stood.block q.stood.is in omega (arith, whole, within))) adds

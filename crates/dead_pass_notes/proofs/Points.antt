@@ -4,6 +4,7 @@ use Rattle.std.specs.Prelude.{if◌then◌else◌, slice_get}
 use Rattle.std.proofs.lemmas.Bool.{cases_Bool}
 use Rattle.std.proofs.lemmas.List.{length-append}
 use Rattle.std.proofs.lemmas.Option.{slice_get_within}
+use Rattle.places.specs.declared.flow.Assignment.{Assignment}
 use Rattle.graph_core.specs.declared.value.Value.{Value}
 use Rattle.graph_core.specs.declared.value.Value.TheVariants.{Odd}
 use Rattle.graph_core.specs.Graphs.{Instruction, End, Block, Graph}
@@ -25,27 +26,27 @@ stale_more going x was (j ∷ before) i left =
     let count : length (before ++ i ∷ []) + left ≡ length before + suc left = omega (arith, long) in
     ap (λ k. stale_behind going x (if writes x j then going k else was) (before ++ i ∷ []) left) count ∙ stale_more going x (if writes x j then going (length before + suc left) else was) before i left
 
-module _ (g : Graph) (going : (block left : ℕ) → Bool) (are : AreIdle g going) where
+module _ {assignments : List Assignment} (g : Graph) (going : (block left : ℕ) → Bool) (are : AreIdle assignments g going) where
   -- a name that is stale, or comes to a write of it that goes
-  pub stale_next : (x n : ℕ) (i : Instruction) (rest : List Instruction) (e : End) → writes x i ≡ false → ComesStale g x n (i ∷ rest) e → ComesStale g x n rest e
+  pub stale_next : (x n : ℕ) (i : Instruction) (rest : List Instruction) (e : End) → writes x i ≡ false → ComesStale assignments g x n (i ∷ rest) e → ComesStale assignments g x n rest e
   stale_next x n i rest e other s = step s.path
     where
-      step : Path g s.history n (i ∷ rest) e → ComesStale g x n rest e
+      step : Path g s.history n (i ∷ rest) e → ComesStale assignments g x n rest e
       step (path b at way) = record { history = record { block = n; left = length rest; instruction = i; wrote = Odd } ∷ s.history; path = path b at (passes way Odd); stale = stale_before other s.stale }
 
   pub stale_by : (x n : ℕ) (b : Block) (before : List Instruction) (i : Instruction) (rest : List Instruction) → slice_get g.blocks n ≡ Some b → b.instructions ≡ before ++ i ∷ rest → writes x i ≡ true → going n (length rest) ≡ true
-      → IsReached g n (i ∷ rest) b.end → ComesStale g x n rest b.end
+      → IsReached g n (i ∷ rest) b.end → ComesStale assignments g x n rest b.end
   stale_by x n b before i rest at parts it gone r = step r.path
     where
-      is : Went g (record { block = n; left = length rest; instruction = i; wrote = Odd })
+      is : Went assignments g (record { block = n; left = length rest; instruction = i; wrote = Odd })
       is = record { rest = rest; end = b.end; behind = record { block = b; before = before; is = at; instructions = parts; ends = refl }; left = refl; goes = (are.goes n b before rest i at parts).0 gone }
 
-      step : Path g r.history n (i ∷ rest) b.end → ComesStale g x n rest b.end
+      step : Path g r.history n (i ∷ rest) b.end → ComesStale assignments g x n rest b.end
       step (path c there way) = record { history = record { block = n; left = length rest; instruction = i; wrote = Odd } ∷ r.history; path = path c there (passes way Odd); stale = went it is }
 
   -- What is told at a point of a block that a path reaches is so, if what is told at its start is.
   pub told_so : (x n : ℕ) (b : Block) → slice_get g.blocks n ≡ Some b → (past before rest : List Instruction) (was : Bool) → b.instructions ≡ past ++ (before ++ rest) → IsReached g n (before ++ rest) b.end
-      → (was ≡ true → ComesStale g x n (before ++ rest) b.end) → stale_behind (going n) x was before (length rest) ≡ true → ComesStale g x n rest b.end
+      → (was ≡ true → ComesStale assignments g x n (before ++ rest) b.end) → stale_behind (going n) x was before (length rest) ≡ true → ComesStale assignments g x n rest b.end
   told_so x n b at past [] rest was parts r so e = so e
   told_so x n b at past (i ∷ before) rest was parts r so e =
       let long = length-append before rest in
@@ -57,15 +58,15 @@ module _ (g : Graph) (going : (block left : ℕ) → Bool) (are : AreIdle g goin
       ])
       e
 
-  went_told : (n : ℕ) (b : Block) (before : List Instruction) (i : Instruction) (rest : List Instruction) (p : Passed) → slice_get g.blocks n ≡ Some b → b.instructions ≡ before ++ i ∷ rest → p.block ≡ n → p.instruction ≡ i → p.left ≡ length rest → Went g p
+  went_told : (n : ℕ) (b : Block) (before : List Instruction) (i : Instruction) (rest : List Instruction) (p : Passed) → slice_get g.blocks n ≡ Some b → b.instructions ≡ before ++ i ∷ rest → p.block ≡ n → p.instruction ≡ i → p.left ≡ length rest → Went assignments g p
       → going n (length rest) ≡ true
   went_told n b before i rest p at parts in_block is left w =
       let there : slice_get g.blocks p.block ≡ Some w.behind.block = w.behind.is in
-      let goes_there : going p.block (length w.rest) ≡ true = (are.goes p.block w.behind.block w.behind.before w.rest p.instruction there w.behind.instructions).1 (subst (λ e. Goes g p.block (p.instruction ∷ w.rest) e) w.behind.ends w.goes) in
+      let goes_there : going p.block (length w.rest) ≡ true = (are.goes p.block w.behind.block w.behind.before w.rest p.instruction there w.behind.instructions).1 (subst (λ e. Goes assignments g p.block (p.instruction ∷ w.rest) e) w.behind.ends w.goes) in
       sym (ap (λ m. going m (length rest)) in_block) ∙ sym (ap (going p.block) (w.left ∙ left)) ∙ goes_there
 
-  passed_told : (x : ℕ) (h : History) (n : ℕ) (b : Block) (before : List Instruction) (i : Instruction) (left : List Instruction) (v : Value) → slice_get g.blocks n ≡ Some b → b.instructions ≡ before ++ i ∷ left → (was : Bool) → (IsStale g x h → was ≡ true)
-      → IsStale g x (record { block = n; left = length left; instruction = i; wrote = v } ∷ h) → (if writes x i then going n (length left) else was) ≡ true
+  passed_told : (x : ℕ) (h : History) (n : ℕ) (b : Block) (before : List Instruction) (i : Instruction) (left : List Instruction) (v : Value) → slice_get g.blocks n ≡ Some b → b.instructions ≡ before ++ i ∷ left → (was : Bool) → (IsStale assignments g x h → was ≡ true)
+      → IsStale assignments g x (record { block = n; left = length left; instruction = i; wrote = v } ∷ h) → (if writes x i then going n (length left) else was) ≡ true
   passed_told x h n b before i left v at parts was below (went it w) =
       if_true (writes x i) (going n (length left)) was it ∙ went_told n b before i left (record { block = n; left = length left; instruction = i; wrote = v }) at parts refl refl refl w
   passed_told x h n b before i left v at parts was below (stale_before other s) = if_false (writes x i) (going n (length left)) was other ∙ below s
@@ -79,9 +80,9 @@ module _ (g : Graph) (going : (block left : ℕ) → Bool) (are : AreIdle g goin
       pub instructions : block.instructions ≡ before ++ rest
       pub ends : e ≡ block.end
       pub led_there : led n ≡ true
-      pub tells : IsStale g x h → stale_behind (going n) x (told n x) before (length rest) ≡ true
+      pub tells : IsStale assignments g x h → stale_behind (going n) x (told n x) before (length rest) ≡ true
 
-    none_stale : IsStale g x [] → ⊥
+    none_stale : IsStale assignments g x [] → ⊥
     none_stale s = elim s [ ]
 
     module _ (first : Block) (at_first : slice_get g.blocks 0 ≡ Some first) where

@@ -3,6 +3,7 @@ use Rattle.std.proofs.Common.{◌≡◌, ◌≤◌, ℕ, Some, List, [], ◌∷�
 use Rattle.std.specs.Prelude.{slice_get}
 use Rattle.std.specs.List.{AllByRecursion}
 use Rattle.event_runs.specs.Agreement.{Pairs}
+use Rattle.places.specs.declared.flow.Assignment.{Assignment}
 use Rattle.graph_core.specs.Graphs.{NoteValue, Instruction, Marker, Note, Move, Operate, Truncate, Same, Address, Load, Store, Zero, CopyWords, Call, End, Block, Graph, UnitForm, Logged}
 use Rattle.graph_core.specs.Uses.{target_of}
 use Rattle.graph_core.specs.Validity.{IsInstruction, IsBlock, IsGraph}
@@ -20,7 +21,7 @@ abbrev WritesSome : Instruction → Type 0
 WritesSome i = (x : ℕ) × (target_of i ≡ Some x)
 
 -- What goes writes a name.
-idle_writes : (g : Graph) (n : ℕ) (i : Instruction) (rest : List Instruction) (e : End) → IsIdle g n (i ∷ rest) e → WritesSome i
+idle_writes : {assignments : List Assignment} → (g : Graph) (n : ℕ) (i : Instruction) (rest : List Instruction) (e : End) → IsIdle assignments g n (i ∷ rest) e → WritesSome i
 idle_writes g n i rest e (idle {x} stands target may computed later) = (x, target)
 
 module _ (MaySay : NoteValue → Type 0) where
@@ -39,16 +40,16 @@ module _ (MaySay : NoteValue → Type 0) where
   write_thinned (CopyWords object bytes words) before after writes later = cc
   write_thinned (Call x f all) before after writes later = forgets later
 
-module _ (u : UnitForm) (log : List Logged) (grown : length u.log ≤ length log) (g : Graph) (valid : IsGraph u g) where
+module _ {assignments : List Assignment} (u : UnitForm) (log : List Logged) (grown : length u.log ≤ length log) (g : Graph) (valid : IsGraph u g) where
   -- What is left of an instruction that stays is that instruction, or a note that names what there is.
-  stay_thinned : (n : ℕ) (rest : List Instruction) (e : End) (i j : Instruction) (before after : List Instruction) → SaysAs log g n rest e i j → IsInstruction u g i → AreThinned (MayBeSaid u log g) before after
+  stay_thinned : (n : ℕ) (rest : List Instruction) (e : End) (i j : Instruction) (before after : List Instruction) → SaysAs assignments log g n rest e i j → IsInstruction u g i → AreThinned (MayBeSaid u log g) before after
       → AreThinned (MayBeSaid u log g) (i ∷ before) (j ∷ after)
   stay_thinned n rest e i j before after (noted {p} {x} {v} {w} reached stands said) h later = says (said_names u g valid p n (Note x v ∷ rest) e log x v w said (still_said u log grown g v h.1)) later
   stay_thinned n rest e i j before after (unreached none) h later = thinned_stays later
   stay_thinned n rest e i j before after (other plain) h later = thinned_stays later
 
   -- What is left of instructions are those before without some of their writes.
-  instructions_thinned : (n : ℕ) (e : End) (is js : List Instruction) → AreSaid log g n e is js → AllByRecursion (IsInstruction u g) is → AreThinned (MayBeSaid u log g) is js
+  instructions_thinned : (n : ℕ) (e : End) (is js : List Instruction) → AreSaid assignments log g n e is js → AllByRecursion (IsInstruction u g) is → AreThinned (MayBeSaid u log g) is js
   instructions_thinned n e is js ends h = thinned_ends
   instructions_thinned n e is js (gone {i} {rest} {after} go later) h =
       write_thinned (MayBeSaid u log g) i rest after (idle_writes g n i rest e go.idle) (instructions_thinned n e rest after later h.1)
@@ -56,7 +57,7 @@ module _ (u : UnitForm) (log : List Logged) (grown : length u.log ≤ length log
       stay_thinned n rest e i j rest after said h.0 (instructions_thinned n e rest after later h.1)
 
   -- So it is with the graph.
-  graph_thinned : (h : Graph) → IsReduced g h → SaysWhatItShall log g h → IsThinned (MayBeSaid u log) g h
+  graph_thinned : (h : Graph) → IsReduced assignments g h → SaysWhatItShall assignments log g h → IsThinned (MayBeSaid u log) g h
   graph_thinned h reduced said = record { rest = reduced.rest; blocks = numbered_pairs (IsThinnedBlock (MayBeSaid u log g)) g.blocks h.blocks reduced.count block_thinned }
     where
       block_thinned : (n : ℕ) (b c : Block) → slice_get g.blocks n ≡ Some b → slice_get h.blocks n ≡ Some c → IsThinnedBlock (MayBeSaid u log g) b c
@@ -66,7 +67,7 @@ module _ (u : UnitForm) (log : List Logged) (grown : length u.log ≤ length log
           record { place = s.place; end = s.end; instructions = instructions_thinned n b.end b.instructions c.instructions (said.notes n b c at there) block.instructions }
 
 -- So it is with all graphs of a valid unit.
-pub graphs_thinned : (u : UnitForm) (log : List Logged) → length u.log ≤ length log → (gs hs : List Graph) → AllByRecursion (IsGraph u) gs → EachFunction IsReduced gs hs → EachFunction (SaysWhatItShall log) gs hs → Pairs (IsThinned (MayBeSaid u log)) gs hs
+pub graphs_thinned : {assignments : List Assignment} → (u : UnitForm) (log : List Logged) → length u.log ≤ length log → (gs hs : List Graph) → AllByRecursion (IsGraph u) gs → EachFunction (IsReduced assignments) gs hs → EachFunction (SaysWhatItShall assignments log) gs hs → Pairs (IsThinned (MayBeSaid u log)) gs hs
 graphs_thinned u log grown [] [] valid reduced said = tt
 graphs_thinned u log grown [] (h ∷ hs) valid reduced said = absurd reduced
 graphs_thinned u log grown (g ∷ gs) [] valid reduced said = absurd reduced

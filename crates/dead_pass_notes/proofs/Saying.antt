@@ -3,6 +3,7 @@ use Rattle.std.proofs.Common.{◌≡◌, ◌≢◌, ℕ, suc, ◌≤◌, ◌⊎�
 use Rattle.std.specs.Prelude.{◌↔◌, IfSome, option_map, slice_get}
 use Rattle.std.proofs.lemmas.Bool.{cases_Bool}
 use Rattle.std.proofs.lemmas.Option.{same_Some, none-some}
+use Rattle.places.specs.declared.flow.Assignment.{Assignment}
 use Rattle.graph_core.specs.Bounds.{most_depth}
 use Rattle.graph_core.specs.Graphs.{Name, Recipe, Of, Truncated, Operated, NoteValue, Is, Gone, Instruction, End, Scalar, Block, Graph, Logged}
 use Rattle.graph_core.specs.Points.{StandsWith}
@@ -22,7 +23,7 @@ use Rattle.dead_pass_notes.proofs.PlaceWaysPoints.{left_there, end_there, stands
 use Rattle.dead_pass_notes.specs.Stale.{ComesStale}
 use Rattle.dead_pass_notes.specs.declared.idle_graph.IdleGraph.{IdleGraph}
 use Rattle.dead_pass_notes.specs.declared.recipes.NotePoint.{NotePoint}
-use Rattle.dead_pass_notes.specs.Idle.{IsBorneOut, graph_of}
+use Rattle.dead_pass_notes.specs.Idle.{IsBorneOut, assignments_of, graph_of}
 use Rattle.dead_pass_notes.specs.Lost.{HasStale, IsToldLost, said_by}
 use Rattle.dead_pass_writes.specs.Removals.{IsRemoval, IsFirstRemoval, IsLastRemoval}
 use Rattle.dead_pass_notes.specs.Said.{IsDropped, IsRightSide, IsRecipeOf, IsLost, WasNeverRemoved, IsSaid, recipe, gone, unlogged, lost, unlost, stays}
@@ -37,17 +38,17 @@ module _ (idle : IdleGraph) (borne : IsBorneOut idle) (note : NotePoint) (x : �
   going = is_going (turn_of idle.turns.items)
 
   -- a write that is told to go goes
-  goes_at : (d : Spot) → (at : IsAtSpot g note x d) → going d.block d.left ≡ true → Goes g d.block (at.instruction ∷ left_at g d.block d.left) (end_at g d.block)
+  goes_at : (d : Spot) → (at : IsAtSpot g note x d) → going d.block d.left ≡ true → Goes (assignments_of idle) g d.block (at.instruction ∷ left_at g d.block d.left) (end_at g d.block)
   goes_at d at told =
       let st = at.stands in
       let point = stands g d.block (suc d.left) at.point in
       let long = point.behind in
       let whole = ap (λ l. length l) at.is in
       let count : length (left_at g d.block d.left) ≡ d.left = omega (arith, long, whole) in
-      subst (λ e. Goes g d.block (at.instruction ∷ left_at g d.block d.left) e) (sym st.ends)
+      subst (λ e. Goes (assignments_of idle) g d.block (at.instruction ∷ left_at g d.block d.left) e) (sym st.ends)
       ((borne.goes.goes d.block st.block st.before (left_at g d.block d.left) at.instruction st.is st.instructions).0 (ap (going d.block) count ∙ told))
 
-  pub dropped_at : (d : Spot) → IsOnce g note.place.0 x d.block d.left → going d.block d.left ≡ true → IsDropped g note.place.0 x
+  pub dropped_at : (d : Spot) → IsOnce g note.place.0 x d.block d.left → going d.block d.left ≡ true → IsDropped (assignments_of idle) g note.place.0 x
   dropped_at d once told =
       let at = at_spot g note x d once in
       record {
@@ -62,27 +63,27 @@ module _ (idle : IdleGraph) (borne : IsBorneOut idle) (note : NotePoint) (x : �
       }
 
   -- the spot of an assignment that goes
-  abbrev spot_of : IsDropped g note.place.0 x → Spot
+  abbrev spot_of : IsDropped (assignments_of idle) g note.place.0 x → Spot
   spot_of dropped = record { block = dropped.n; left = length dropped.rest }
 
-  once_of : (dropped : IsDropped g note.place.0 x) → IsOnce g note.place.0 x dropped.n (length dropped.rest)
+  once_of : (dropped : IsDropped (assignments_of idle) g note.place.0 x) → IsOnce g note.place.0 x dropped.n (length dropped.rest)
   once_of dropped = record { instruction = dropped.instruction; rest = dropped.rest; end = dropped.end; stands = dropped.stands; target = dropped.target; behind = refl; once = dropped.once }
 
-  goes_told : (dropped : IsDropped g note.place.0 x) → going dropped.n (length dropped.rest) ≡ true
+  goes_told : (dropped : IsDropped (assignments_of idle) g note.place.0 x) → going dropped.n (length dropped.rest) ≡ true
   goes_told dropped =
       let st = dropped.stands in
       (borne.goes.goes dropped.n st.block st.before dropped.rest dropped.instruction st.is st.instructions).1
-      (subst (λ e. Goes g dropped.n (dropped.instruction ∷ dropped.rest) e) st.ends dropped.goes)
+      (subst (λ e. Goes (assignments_of idle) g dropped.n (dropped.instruction ∷ dropped.rest) e) st.ends dropped.goes)
 
   module _ (only : Option Spot) (tells : (s : Spot) → (only ≡ Some s) ↔ IsOnce g note.place.0 x s.block s.left) where
-    pub none_dropped : only ≡ None → IsDropped g note.place.0 x → ⊥
+    pub none_dropped : only ≡ None → IsDropped (assignments_of idle) g note.place.0 x → ⊥
     none_dropped none dropped = none-some (spot_of dropped) (sym none ∙ (tells (spot_of dropped)).1 (once_of dropped))
 
     module _ (d : Spot) (is : only ≡ Some d) where
-      same_place : (dropped : IsDropped g note.place.0 x) → spot_of dropped ≡ d
+      same_place : (dropped : IsDropped (assignments_of idle) g note.place.0 x) → spot_of dropped ≡ d
       same_place dropped = same_Some (spot_of dropped) d (sym ((tells (spot_of dropped)).1 (once_of dropped)) ∙ is)
 
-      pub stays_dropped : going d.block d.left ≡ false → IsDropped g note.place.0 x → ⊥
+      pub stays_dropped : going d.block d.left ≡ false → IsDropped (assignments_of idle) g note.place.0 x → ⊥
       stays_dropped staying dropped =
           true≢false (sym (goes_told dropped) ∙ ap (λ (z : Spot). going z.block z.left) (same_place dropped) ∙ staying)
 
@@ -92,20 +93,20 @@ module _ (idle : IdleGraph) (borne : IsBorneOut idle) (note : NotePoint) (x : �
   graph = graph_of idle
 
   abbrev RecipeHere : Recipe → Type 0
-  RecipeHere r = IsRecipeOf graph note.place.0 note.spot.block (noted graph note) (end_at graph note.spot.block) x r
+  RecipeHere r = IsRecipeOf (assignments_of idle) graph note.place.0 note.spot.block (noted graph note) (end_at graph note.spot.block) x r
 
-  pub recipe_found : (r : Recipe) → IsFound most_depth (IsMade graph note d) (Some r) → RecipeHere r
+  pub recipe_found : (r : Recipe) → IsFound most_depth (IsMade (assignments_of idle) graph note d) (Some r) → RecipeHere r
   unfolding dropped_at
   recipe_found r found =
       let made = found.0 in
       let at = at_spot graph note x d once in
       record {
         dropped = dropped_at idle borne note x d once going;
-        right = subst (λ i. IsRightSide graph note.place.0 note.spot.block (noted graph note) (end_at graph note.spot.block) d.block (left_at graph d.block d.left) (end_at graph d.block) i r) (front_same (sym made.is ∙ at.is)) made.right;
+        right = subst (λ i. IsRightSide (assignments_of idle) graph note.place.0 note.spot.block (noted graph note) (end_at graph note.spot.block) d.block (left_at graph d.block d.left) (end_at graph d.block) i r) (front_same (sym made.is ∙ at.is)) made.right;
         shallow = found.1;
       }
 
-  pub recipe_none : ((s : Spot) → IsOnce graph note.place.0 x s.block s.left → s ≡ d) → IsFound most_depth (IsMade graph note d) None → (r : Recipe) → RecipeHere r → ⊥
+  pub recipe_none : ((s : Spot) → IsOnce graph note.place.0 x s.block s.left → s ≡ d) → IsFound most_depth (IsMade (assignments_of idle) graph note d) None → (r : Recipe) → RecipeHere r → ⊥
   recipe_none unique none r of =
       let dropped = of.dropped in
       let st = dropped.stands in
@@ -114,9 +115,9 @@ module _ (idle : IdleGraph) (borne : IsBorneOut idle) (note : NotePoint) (x : �
       none r (record {
         instruction = dropped.instruction;
         is = s.whole;
-        right = subst (λ z. IsRightSide graph note.place.0 note.spot.block (noted graph note) (end_at graph note.spot.block) d.block (left_at graph d.block d.left) z dropped.instruction r) s.ends
-            (subst (λ z. IsRightSide graph note.place.0 note.spot.block (noted graph note) (end_at graph note.spot.block) d.block z dropped.end dropped.instruction r) s.rest
-            (subst (λ z. IsRightSide graph note.place.0 note.spot.block (noted graph note) (end_at graph note.spot.block) z dropped.rest dropped.end dropped.instruction r) s.number of.right));
+        right = subst (λ z. IsRightSide (assignments_of idle) graph note.place.0 note.spot.block (noted graph note) (end_at graph note.spot.block) d.block (left_at graph d.block d.left) z dropped.instruction r) s.ends
+            (subst (λ z. IsRightSide (assignments_of idle) graph note.place.0 note.spot.block (noted graph note) (end_at graph note.spot.block) d.block z dropped.end dropped.instruction r) s.rest
+            (subst (λ z. IsRightSide (assignments_of idle) graph note.place.0 note.spot.block (noted graph note) (end_at graph note.spot.block) z dropped.rest dropped.end dropped.instruction r) s.number of.right));
       }) of.shallow
 
 same_spots : {s d : Spot} → ◌≡◌ {A = Option Written} (Some (Once s)) (Some (Once d)) → s ≡ d
@@ -135,27 +136,27 @@ pub never_of : (log : List Logged) (g : Graph) (p x v : ℕ) → IsVariable g x 
 never_of log g p x v is none variable number other removal = none number (subst (λ w. IsRemoval log p w number) (same_variable g x variable v other is) removal)
 
 -- What is told of a note that is lost is so.
-module _ (idle : IdleGraph) (told : ℕ → Bool) (note : NotePoint) (tells : (y : ℕ) → (told y ≡ true) ↔ ComesStale (graph_of idle) y note.spot.block (noted (graph_of idle) note) (end_at (graph_of idle) note.spot.block)) where
-  pub lost_told : (log : List Logged) (x : ℕ) (v : NoteValue) → IsToldLost told x v → IsLost log (graph_of idle) note.spot.block (noted (graph_of idle) note) (end_at (graph_of idle) note.spot.block) x v
+module _ (idle : IdleGraph) (told : ℕ → Bool) (note : NotePoint) (tells : (y : ℕ) → (told y ≡ true) ↔ ComesStale (assignments_of idle) (graph_of idle) y note.spot.block (noted (graph_of idle) note) (end_at (graph_of idle) note.spot.block)) where
+  pub lost_told : (log : List Logged) (x : ℕ) (v : NoteValue) → IsToldLost told x v → IsLost (assignments_of idle) log (graph_of idle) note.spot.block (noted (graph_of idle) note) (end_at (graph_of idle) note.spot.block) x v
   lost_told log x v l = record { r = l.r; is = l.is; other = l.other; y = l.stale.y; named = l.stale.named; stale = (tells l.stale.y).0 l.stale.is_told }
 
-  pub told_lost : (log : List Logged) (x : ℕ) (v : NoteValue) → IsLost log (graph_of idle) note.spot.block (noted (graph_of idle) note) (end_at (graph_of idle) note.spot.block) x v → IsToldLost told x v
+  pub told_lost : (log : List Logged) (x : ℕ) (v : NoteValue) → IsLost (assignments_of idle) log (graph_of idle) note.spot.block (noted (graph_of idle) note) (end_at (graph_of idle) note.spot.block) x v → IsToldLost told x v
   told_lost log x v l = record { r = l.r; is = l.is; other = l.other; stale = record { y = l.y; named = l.named; is_told = (tells l.y).1 l.stale } }
 
 -- What is said by a change, or by none.
-module _ (log : List Logged) (g : Graph) (note : NotePoint) (x : ℕ) (before : NoteValue) where
-  pub said_gone : (change : Option ℕ) → IsDropped g note.place.0 x → ((r : Recipe) → IsRecipeOf g note.place.0 note.spot.block (noted g note) (end_at g note.spot.block) x r → ⊥)
-      → IfSome change (λ number. (variable : ℕ) × IsVariable g x variable × IsLastRemoval log note.place.0 variable number) → (change ≡ None → WasNeverRemoved log g note.place.0 x) → IsSaidAt log g note x before (said_by change before)
+module _ {assignments : List Assignment} (log : List Logged) (g : Graph) (note : NotePoint) (x : ℕ) (before : NoteValue) where
+  pub said_gone : (change : Option ℕ) → IsDropped assignments g note.place.0 x → ((r : Recipe) → IsRecipeOf assignments g note.place.0 note.spot.block (noted g note) (end_at g note.spot.block) x r → ⊥)
+      → IfSome change (λ number. (variable : ℕ) × IsVariable g x variable × IsLastRemoval log note.place.0 variable number) → (change ≡ None → WasNeverRemoved log g note.place.0 x) → IsSaidAt assignments log g note x before (said_by change before)
   said_gone None dropped none some never = unlogged dropped none (never refl)
   said_gone (Some number) dropped none some never = gone dropped none some.1 some.2
 
-  pub said_lost : (change : Option ℕ) → (IsDropped g note.place.0 x → ⊥) → IsLost log g note.spot.block (noted g note) (end_at g note.spot.block) x before
-      → IfSome change (λ number. (variable : ℕ) × IsVariable g x variable × IsFirstRemoval log note.place.0 variable number) → (change ≡ None → WasNeverRemoved log g note.place.0 x) → IsSaidAt log g note x before (said_by change before)
+  pub said_lost : (change : Option ℕ) → (IsDropped assignments g note.place.0 x → ⊥) → IsLost assignments log g note.spot.block (noted g note) (end_at g note.spot.block) x before
+      → IfSome change (λ number. (variable : ℕ) × IsVariable g x variable × IsFirstRemoval log note.place.0 variable number) → (change ≡ None → WasNeverRemoved log g note.place.0 x) → IsSaidAt assignments log g note x before (said_by change before)
   said_lost None other is some never = unlost other is (never refl)
   said_lost (Some number) other is some never = lost other is some.1 some.2
 
-  pub said_same : (IsDropped g note.place.0 x → ⊥) → (IsLost log g note.spot.block (noted g note) (end_at g note.spot.block) x before → ⊥) → IsSaidAt log g note x before before
+  pub said_same : (IsDropped assignments g note.place.0 x → ⊥) → (IsLost assignments log g note.spot.block (noted g note) (end_at g note.spot.block) x before → ⊥) → IsSaidAt assignments log g note x before before
   said_same other found = stays other found
 
-  pub said_recipe : (r : Recipe) → IsRecipeOf g note.place.0 note.spot.block (noted g note) (end_at g note.spot.block) x r → IsSaidAt log g note x before (Is r)
+  pub said_recipe : (r : Recipe) → IsRecipeOf assignments g note.place.0 note.spot.block (noted g note) (end_at g note.spot.block) x r → IsSaidAt assignments log g note x before (Is r)
   said_recipe r of = recipe of

@@ -4,6 +4,7 @@ use Rattle.std.specs.Prelude.{slice_get}
 use Rattle.std.proofs.lemmas.Bool.{cases_eq}
 use Rattle.std.proofs.lemmas.List.{length-append}
 use Rattle.std.proofs.lemmas.Option.{same_Some, none-some, slice_get_within}
+use Rattle.places.specs.declared.flow.Assignment.{Assignment}
 use Rattle.graph_core.specs.Graphs.{Instruction, End, Block, Graph}
 use Rattle.graph_core.specs.Uses.{targets_of}
 use Rattle.graph_core.specs.Paths.{Among, front, behind}
@@ -63,14 +64,14 @@ grown_keeps {old = old} grown l w here = (let P : List Way → Type 0 = λ ways.
 goes_more : {e : End} {s : Scanned} {old new : List Way} → HasGrown e s old new → (count : ℕ) (f : End) (t : Scanned) → GoesOn count old f t → GoesOn count new f t
 goes_more grown count f t go = record { unwritten = go.unwritten; leaves = λ was l is among lt. grown_keeps grown l was (go.leaves was l is among lt) }
 
-module _ (g : Graph) (goes : (block left : ℕ) → Bool) (are : AreIdle g goes) (to : Spot) (y : ℕ) (point : IsPoint g to.block (suc to.left)) where
-  leads_comes : (was : Bool) (n l : ℕ) (e : End) (c : Block) → Among l (targets_of e) → slice_get g.blocks l ≡ Some c → Comes g to y was l c.instructions c.end → Comes g to y was n [] e
+module _ {assignments : List Assignment} (g : Graph) (goes : (block left : ℕ) → Bool) (are : AreIdle assignments g goes) (to : Spot) (y : ℕ) (point : IsPoint g to.block (suc to.left)) where
+  leads_comes : (was : Bool) (n l : ℕ) (e : End) (c : Block) → Among l (targets_of e) → slice_get g.blocks l ≡ Some c → Comes assignments g to y was l c.instructions c.end → Comes assignments g to y was n [] e
   leads_comes true n l e c among at way = leads c among at way
   leads_comes false n l e c among at way = on c among at way
 
   -- What a scan leads to comes from where it began.
-  pub comes_back : (n : ℕ) (b : Block) (before rest : List Instruction) → slice_get g.blocks n ≡ Some b → b.instructions ≡ before ++ rest → (was : Bool) (old new : List Way) → HasGrown b.end (scan_of goes to y n was rest) old new → SomeComes g to y new
-      → SomeComes g to y old ⊎ Comes g to y was n rest b.end
+  pub comes_back : (n : ℕ) (b : Block) (before rest : List Instruction) → slice_get g.blocks n ≡ Some b → b.instructions ≡ before ++ rest → (was : Bool) (old new : List Way) → HasGrown b.end (scan_of goes to y n was rest) old new → SomeComes assignments g to y new
+      → SomeComes assignments g to y old ⊎ Comes assignments g to y was n rest b.end
   comes_back n b before rest at parts was old new grown some =
       let here : HasCome (old ++ grown.more) some.number some.was_written = (let P : List Way → Type 0 = λ ways. HasCome ways some.number some.was_written in subst P grown.is some.has_come) in
       elim (among_parts old grown.more here) [
@@ -90,7 +91,7 @@ module _ (g : Graph) (goes : (block left : ℕ) → Bool) (are : AreIdle g goes)
   -- What is so of a search at one of the blocks to which it came.
   pub record IsSearched (first now : List Way) (at : ℕ) : Type 0 where
     pub keeps : (l : ℕ) (was : Bool) → HasCome first l was → HasCome now l was
-    pub back : SomeComes g to y now → SomeComes g to y first
+    pub back : SomeComes assignments g to y now → SomeComes assignments g to y first
     pub closed : AreClosed now at
     pub within : at ≤ length now
 
@@ -135,7 +136,7 @@ module _ (g : Graph) (goes : (block left : ℕ) → Bool) (are : AreIdle g goes)
       }
 
   -- A search that came to the end did not come to the point with a write.
-  pub searched_all : (first now : List Way) (at : ℕ) → length now ≤ at → IsSearched first now at → SomeComes g to y first → ⊥
+  pub searched_all : (first now : List Way) (at : ℕ) → length now ≤ at → IsSearched first now at → SomeComes assignments g to y first → ⊥
   searched_all first now at all s some =
       let closed : (l : ℕ) (was : Bool) (b : Block) → HasCome now l was → slice_get g.blocks l ≡ Some b → GoesOn (length g.blocks) now b.end (scan_of goes to y l was b.instructions) =
       λ l was b here there. (let j = among_index here in
@@ -144,6 +145,6 @@ module _ (g : Graph) (goes : (block left : ℕ) → Bool) (are : AreIdle g goes)
       none_comes g goes are to y point now closed some.was_written some.number some.block.instructions some.block.end some.comes some.block [] some.is refl refl (closed some.number some.was_written some.block (s.keeps some.number some.was_written some.has_come) some.is)
 
   -- And one that came there with a write has a way.
-  pub searched_found : (first now : List Way) (at : ℕ) (w : Way) (b : Block) → slice_get now at ≡ Some w → slice_get g.blocks w.block ≡ Some b → scan_of goes to y w.block w.is_written b.instructions ≡ Stops true → IsSearched first now at → SomeComes g to y first
+  pub searched_found : (first now : List Way) (at : ℕ) (w : Way) (b : Block) → slice_get now at ≡ Some w → slice_get g.blocks w.block ≡ Some b → scan_of goes to y w.block w.is_written b.instructions ≡ Stops true → IsSearched first now at → SomeComes assignments g to y first
   searched_found first now at w b is there stops s =
       s.back (record { number = w.block; was_written = w.is_written; has_come = among_of w now at is; block = b; is = there; comes = scan_stops g goes are to y point w.block b [] b.instructions there refl w.is_written stops })

@@ -5,6 +5,7 @@ use Rattle.std.proofs.lemmas.Option.{same_Some, none-some, slice_get_within}
 use Rattle.std.proofs.lemmas.List.{length-append}
 use Rattle.word_base.specs.declared.operation.Operation.{Operation}
 use Rattle.word_base.specs.declared.operation.Truncation.{Truncation}
+use Rattle.places.specs.declared.flow.Assignment.{Assignment}
 use Rattle.graph_core.specs.Graphs.{Operand, Name, Constant, StaticAddress, Recipe, Of, Truncated, Operated, Instruction, Move, Operate, Truncate, End, Block, Graph}
 use Rattle.graph_core.specs.Points.{StandsWith, assignments_in}
 use Rattle.graph_core.specs.Uses.{target_of}
@@ -49,12 +50,12 @@ same_spot g note d m more f i stood same =
 
 module _ (g : Graph) (note : NotePoint) where
   -- the recipe of what is read at the same point
-  moved_to : {n m : ℕ} {rest more : List Instruction} {e f : End} {a : Operand} {r : Recipe} → n ≡ m → rest ≡ more → e ≡ f → IsRecipe g note.place.0 note.spot.block (noted g note) (end_at g note.spot.block) n rest e a r
-      → IsRecipe g note.place.0 note.spot.block (noted g note) (end_at g note.spot.block) m more f a r
-  moved_to {n} {m} {rest} {more} {e} {f} {a} {r} number same ends q =
-      subst (λ z. IsRecipe g note.place.0 note.spot.block (noted g note) (end_at g note.spot.block) m more z a r) ends
-      (subst (λ z. IsRecipe g note.place.0 note.spot.block (noted g note) (end_at g note.spot.block) m z e a r) same
-      (subst (λ z. IsRecipe g note.place.0 note.spot.block (noted g note) (end_at g note.spot.block) z rest e a r) number q))
+  moved_to : {assignments : List Assignment} → {n m : ℕ} {rest more : List Instruction} {e f : End} {a : Operand} {r : Recipe} → n ≡ m → rest ≡ more → e ≡ f → IsRecipe assignments g note.place.0 note.spot.block (noted g note) (end_at g note.spot.block) n rest e a r
+      → IsRecipe assignments g note.place.0 note.spot.block (noted g note) (end_at g note.spot.block) m more f a r
+  moved_to {assignments} {n} {m} {rest} {more} {e} {f} {a} {r} number same ends q =
+      subst (λ z. IsRecipe assignments g note.place.0 note.spot.block (noted g note) (end_at g note.spot.block) m more z a r) ends
+      (subst (λ z. IsRecipe assignments g note.place.0 note.spot.block (noted g note) (end_at g note.spot.block) m z e a r) same
+      (subst (λ z. IsRecipe assignments g note.place.0 note.spot.block (noted g note) (end_at g note.spot.block) z rest e a r) number q))
 
   -- an instruction that writes a name once in the place of the note, at a spot
   pub record IsAtSpot (t : ℕ) (d : Spot) : Type 0 where
@@ -94,7 +95,7 @@ module _ (g : Graph) (note : NotePoint) where
 
   -- What the one write is of a local temporary, where it is looked for.
   module _ (t : ℕ) (local : IsLocal g t) (only : Option Spot) (tells : (s : Spot) → (only ≡ Some s) ↔ IsOnce g note.place.0 t s.block s.left) where
-    pub none_read : only ≡ None → (at : Spot) (r : Recipe) → IsRead g note at (Name t) r → ⊥
+    pub none_read : {assignments : List Assignment} → only ≡ None → (at : Spot) (r : Recipe) → IsRead assignments g note at (Name t) r → ⊥
     none_read none at _ (name not_local fresh unwritten) = not_local local
     none_read none at _ (moved {m = m} {more = more} def q) = none-some (record { block = m; left = length more }) (sym none ∙ (tells (record { block = m; left = length more })).1 (once_of def))
     none_read none at _ (truncated {m = m} {more = more} def q) = none-some (record { block = m; left = length more }) (sym none ∙ (tells (record { block = m; left = length more })).1 (once_of def))
@@ -110,10 +111,10 @@ module _ (g : Graph) (note : NotePoint) where
           same_spot g note d m more f i def.stands (same_Some s d (sym ((tells s).1 (once_of def)) ∙ is))
 
       -- An operand that is made by another instruction than a copy.
-      pub made_read : ((x : ℕ) (a : Operand) (rest : List Instruction) → left_at g d.block (suc d.left) ≢ Move x a ∷ rest) → (at : Spot) (r : Recipe) → IsRead g note at (Name t) r ↔ IsMade g note d r
-      made_read none at r = (to, from)
+      pub made_read : {assignments : List Assignment} → ((x : ℕ) (a : Operand) (rest : List Instruction) → left_at g d.block (suc d.left) ≢ Move x a ∷ rest) → (at : Spot) (r : Recipe) → IsRead assignments g note at (Name t) r ↔ IsMade assignments g note d r
+      made_read {assignments} none at r = (to, from)
         where
-          to : {q : Recipe} → IsRead g note at (Name t) q → IsMade g note d q
+          to : {q : Recipe} → IsRead assignments g note at (Name t) q → IsMade assignments g note d q
           to (name not_local fresh unwritten) = absurd (not_local local)
           to (moved {x = x} {a = a} def q) = absurd (none x a (left_at g d.block d.left) (same_definition def).whole)
           to (truncated {x = x} {at = truncation} {a = a} def q) =
@@ -123,11 +124,11 @@ module _ (g : Graph) (note : NotePoint) where
               let s = same_definition def in
               record { instruction = Operate x o a b; is = s.whole; right = right_operated (moved_to s.number s.rest s.ends q) (moved_to s.number s.rest s.ends w) }
 
-          from : IsMade g note d r → IsRead g note at (Name t) r
+          from : IsMade assignments g note d r → IsRead assignments g note at (Name t) r
           from made = by made.right (subst (λ i. Definition t d.block (left_at g d.block d.left) (end_at g d.block) i) (front_same (sym here.is ∙ made.is)) (definition_at t d local here)) made.is
             where
-              by : {i : Instruction} {q : Recipe} → IsRightSide g note.place.0 note.spot.block (noted g note) (end_at g note.spot.block) d.block (left_at g d.block d.left) (end_at g d.block) i q → Definition t d.block (left_at g d.block d.left) (end_at g d.block) i
-                  → left_at g d.block (suc d.left) ≡ i ∷ left_at g d.block d.left → IsRead g note at (Name t) q
+              by : {i : Instruction} {q : Recipe} → IsRightSide assignments g note.place.0 note.spot.block (noted g note) (end_at g note.spot.block) d.block (left_at g d.block d.left) (end_at g d.block) i q → Definition t d.block (left_at g d.block d.left) (end_at g d.block) i
+                  → left_at g d.block (suc d.left) ≡ i ∷ left_at g d.block d.left → IsRead assignments g note at (Name t) q
               by (right_moved {x = x} {a = a} s) def is = absurd (none x a (left_at g d.block d.left) is)
               by (right_truncated s) def is = truncated def s
               by (right_operated s w) def is = operated def s w
@@ -135,16 +136,16 @@ module _ (g : Graph) (note : NotePoint) where
       -- An operand that is copied from another.
       module _ (x : ℕ) (a : Operand) (copies : left_at g d.block (suc d.left) ≡ Move x a ∷ left_at g d.block d.left) where
         -- how many copies a recipe goes through first
-        pub copied_read : (at : Spot) (r : Recipe) → IsRead g note at (Name t) r ↔ IsRead g note d a r
-        copied_read at r = (to, from)
+        pub copied_read : {assignments : List Assignment} → (at : Spot) (r : Recipe) → IsRead assignments g note at (Name t) r ↔ IsRead assignments g note d a r
+        copied_read {assignments} at r = (to, from)
           where
-            to : {q : Recipe} → IsRead g note at (Name t) q → IsRead g note d a q
+            to : {q : Recipe} → IsRead assignments g note at (Name t) q → IsRead assignments g note d a q
             to (name not_local fresh unwritten) = absurd (not_local local)
             to {q} (moved def s) =
                 let same = same_definition def in
-                subst (λ b. IsRead g note d b q) (same_move (sym same.whole ∙ copies)) (moved_to same.number same.rest same.ends s)
+                subst (λ b. IsRead assignments g note d b q) (same_move (sym same.whole ∙ copies)) (moved_to same.number same.rest same.ends s)
             to (truncated def s) = absurd (truncate_no_move (sym (same_definition def).whole ∙ copies))
             to (operated def s w) = absurd (operate_no_move (sym (same_definition def).whole ∙ copies))
 
-            from : IsRead g note d a r → IsRead g note at (Name t) r
+            from : IsRead assignments g note d a r → IsRead assignments g note at (Name t) r
             from s = moved (subst (λ i. Definition t d.block (left_at g d.block d.left) (end_at g d.block) i) (front_same (sym here.is ∙ copies)) (definition_at t d local here)) s

@@ -2,6 +2,7 @@
 use Rattle.std.proofs.Common.{◌≡◌, ◌≢◌, ℕ, suc, List, [], ◌∷◌, refl, sym, ◌∙◌}
 use Rattle.word_base.specs.declared.operation.Operation.{Operation}
 use Rattle.word_base.specs.declared.operation.Truncation.{Truncation}
+use Rattle.places.specs.declared.flow.Assignment.{Assignment}
 use Rattle.graph_core.specs.declared.instruction.Instr as declared-instr
 use Rattle.graph_core.specs.declared.instruction.Instr.TheVariants as instr
 use Rattle.graph_core.specs.declared.name.Name as declared-name
@@ -52,10 +53,10 @@ module _ (item : declared-instr.Instr) (no_truncate : (x : declared-name.Name) (
       by (instr.Call y f all) same e = cc
 
   pub none_made : (g : Graph) (note : NotePoint) (d : Spot) → left_at g d.block (suc d.left) ≡ instruction_view item ∷ left_at g d.block d.left
-      → ((x : ℕ) (a : Operand) (rest : List Instruction) → left_at g d.block (suc d.left) ≢ Move x a ∷ rest) → (r : Recipe) → IsMade g note d r → ⊥
+      → ((x : ℕ) (a : Operand) (rest : List Instruction) → left_at g d.block (suc d.left) ≢ Move x a ∷ rest) → (r : Recipe) → IsMade assignments g note d r → ⊥
   none_made g note d is no_copy r made = by made.right made.is
     where
-      by : {i : Instruction} {q : Recipe} → IsRightSide g note.place.0 note.spot.block (noted g note) (end_at g note.spot.block) d.block (left_at g d.block d.left) (end_at g d.block) i q → left_at g d.block (suc d.left) ≡ i ∷ left_at g d.block d.left → ⊥
+      by : {i : Instruction} {q : Recipe} → IsRightSide assignments g note.place.0 note.spot.block (noted g note) (end_at g note.spot.block) d.block (left_at g d.block d.left) (end_at g d.block) i q → left_at g d.block (suc d.left) ≡ i ∷ left_at g d.block d.left → ⊥
       by (moved {x = x} {a = a} s) e = no_copy x a (left_at g d.block d.left) e
       by (truncated {x = x} {at = t} {a = a} s) e = not_truncate x t a (front_same (sym is ∙ e))
       by (operated {x = x} {o = o} {a = a} {b = b} s w) e = not_operate x o a b (front_same (sym is ∙ e))

@@ -24,7 +24,7 @@ pub thinned_valid : (u v : UnitForm) → IsValid u → ShareTheSame u v → Pair
 thinned_valid u v valid share thinned grown = subst IsValid (sym (shared u v share)) (graphs_replaced u v.graphs v.log thinned grown valid)
 
 -- THE UNIT THAT THE REMOVAL OF DEAD ASSIGNMENTS MAKES OF A VALID UNIT IS VALID.
-pub removed_valid : (u v : UnitForm) → IsValid u → ShareTheSame u v → (pass : PassName) → AddsChangesOf pass Removed (λ before after. IsRemovedWrite before) u v → EachFunction IsReduced u.graphs v.graphs → EachFunction (SaysWhatItShall v.log) u.graphs v.graphs → IsValid v
+pub removed_valid : (u v : UnitForm) → IsValid u → ShareTheSame u v → (pass : PassName) → AddsChangesOf pass Removed (λ before after. IsRemovedWrite u.assignments before) u v → EachFunction (IsReduced u.assignments) u.graphs v.graphs → EachFunction (SaysWhatItShall u.assignments v.log) u.graphs v.graphs → IsValid v
 removed_valid u v valid share pass adds reduced said = thinned_valid u v valid share (graphs_thinned u v.log grown u.graphs v.graphs valid.graphs reduced said) grown
   where
     grown : length u.log ≤ length v.log

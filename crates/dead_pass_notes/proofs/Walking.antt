@@ -1,6 +1,7 @@
 -- What is known of stale names stays known while a walk goes on, and is told where it is.
 use Rattle.std.proofs.Common.{◌≡◌, ℕ, suc, ◌+◌, ◌<◌, Bool, Option, List, [], ◌∷◌, ◌++◌, length, sym, ap, ◌∙◌, arith}
 use Rattle.std.specs.Prelude.{if◌then◌else◌}
+use Rattle.places.specs.declared.flow.Assignment.{Assignment}
 use Rattle.graph_core.specs.Graphs.{Instruction, Graph}
 use Rattle.graph_core.specs.Paths.{writes}
 use Rattle.graph_core.specs.Uses.{target_of}
@@ -15,7 +16,7 @@ use Rattle.dead_pass_notes.specs.declared.notes.Notes.{Notes}
 use Rattle.dead_pass_notes.specs.Idle.{graph_of}
 use Rattle.dead_pass_notes.specs.RemovalNotesStale.{AreKnown, HasComeBehind}
 
-stale_same : (g : Graph) (names : ℕ) (old new : Marks) → ((n x : ℕ) → n < length g.blocks → bits_of new n x ≡ bits_of old n x) → AreStale g names old → AreStale g names new
+stale_same : {assignments : List Assignment} → (g : Graph) (names : ℕ) (old new : Marks) → ((n x : ℕ) → n < length g.blocks → bits_of new n x ≡ bits_of old n x) → AreStale assignments g names old → AreStale assignments g names new
 stale_same g names old new same stale n x inside named is = stale n x inside named (sym (same n x inside) ∙ is)
 
 all_same : (g : Graph) (goes : (block left : ℕ) → Bool) (led : ℕ → Bool) (names : ℕ) (old new : ℕ → ℕ → Bool) → ((n x : ℕ) → n < length g.blocks → new n x ≡ old n x) → AreAll g goes led names old → AreAll g goes led names new

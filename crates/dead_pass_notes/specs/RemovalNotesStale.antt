@@ -7,13 +7,13 @@ use Rattle.graph_paths.specs.PathMarksTable.{bits_of}
 use Rattle.dead_pass_notes.specs.Rows.{AreStale, AreAll, stale_behind}
 use Rattle.dead_pass_notes.specs.declared.idle_graph.IdleGraph.{IdleGraph}
 use Rattle.dead_pass_notes.specs.declared.notes.Notes.{Notes}
-use Rattle.dead_pass_notes.specs.Idle.{graph_of}
+use Rattle.dead_pass_notes.specs.Idle.{assignments_of, graph_of}
 
 -- What is told of names at the starts of the blocks that paths reach: just those are told that some path brings there stale.
 pub record AreKnown (idle : IdleGraph) (notes : Notes) : Type 0 where
   pub blocks : notes.blocks ≡ length (graph_of idle).blocks
   pub names : notes.names ≡ (graph_of idle).name_count
-  pub stale : AreStale (graph_of idle) (graph_of idle).name_count notes.stale
+  pub stale : AreStale (assignments_of idle) (graph_of idle) (graph_of idle).name_count notes.stale
   pub all : AreAll (graph_of idle) (is_going (turn_of idle.turns.items)) (bits_of idle.reached 0) (graph_of idle).name_count (bits_of notes.stale)
 
 -- The walk has come behind these instructions of a block, and so many are left.

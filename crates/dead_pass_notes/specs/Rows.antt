@@ -1,5 +1,6 @@
 -- Rows that tell which names are stale: one for each of so many blocks, that tells of its start, one for the point to which a walk has come, and one without bits.
 use Rattle.std.specs.Prelude.{◌≡◌, ℕ, ◌+◌, ◌<◌, Bool, true, if◌then◌else◌, Option, Some, None, List, [], ◌∷◌, length, slice_get}
+use Rattle.places.specs.declared.flow.Assignment.{Assignment}
 use Rattle.graph_core.specs.Graphs.{Instruction, Block, Graph}
 use Rattle.graph_core.specs.Uses.{targets_of}
 use Rattle.graph_core.specs.Paths.{Among, writes}
@@ -14,11 +15,11 @@ stale_behind goes x was [] left = was
 stale_behind goes x was (i ∷ before) left = stale_behind goes x (if writes x i then goes (length before + left) else was) before left
 
 -- a name that is told of at the start of a block is stale there on some path
-abbrev pub IsStaleAt : Graph → (x n : ℕ) → Type 0
-IsStaleAt g x n = (b : Block) → slice_get g.blocks n ≡ Some b → ComesStale g x n b.instructions b.end
+abbrev pub IsStaleAt : List Assignment → Graph → (x n : ℕ) → Type 0
+IsStaleAt assignments g x n = (b : Block) → slice_get g.blocks n ≡ Some b → ComesStale assignments g x n b.instructions b.end
 
-abbrev pub AreStale : Graph → (names : ℕ) → Marks → Type 0
-AreStale g names marks = (n x : ℕ) → n < length g.blocks → x < names → bits_of marks n x ≡ true → IsStaleAt g x n
+abbrev pub AreStale : List Assignment → Graph → (names : ℕ) → Marks → Type 0
+AreStale assignments g names marks = (n x : ℕ) → n < length g.blocks → x < names → bits_of marks n x ≡ true → IsStaleAt assignments g x n
 
 -- What is stale at the end of a block to which a way leads is told at the start of each block to which it leads.
 abbrev pub TellsOn : Graph → (goes : (block left : ℕ) → Bool) → (led : ℕ → Bool) → (names : ℕ) → (told : (n x : ℕ) → Bool) → (n : ℕ) → Type 0

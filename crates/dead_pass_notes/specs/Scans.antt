@@ -1,5 +1,6 @@
 -- Searches along the ways of a place, block by block.
 use Rattle.std.specs.Prelude.{◌≡◌, ◌≢◌, ℕ, suc, ◌+◌, ◌*◌, ◌<◌, ◌==◌, ◌&&◌, ◌||◌, Bool, true, false, not, if◌then◌else◌, Some, List, [], ◌∷◌, ◌++◌, length, slice_get, slice_index_or}
+use Rattle.places.specs.declared.flow.Assignment.{Assignment}
 use Rattle.graph_core.specs.Graphs.{Instruction, End, Block, Graph}
 use Rattle.graph_core.specs.Uses.{targets_of}
 use Rattle.graph_core.specs.Paths.{Among, writes, is_marker}
@@ -51,16 +52,16 @@ pub record GoesOn (count : ℕ) (ahead : List Way) (end : End) (scanned : Scanne
   pub leaves : (was : Bool) (l : ℕ) → scanned ≡ Leaves was → Among l (targets_of end) → l < count → HasCome ahead l was
 
 -- What goes is told by the rule, the point that is sought is an instruction of the graph, and there is room for its blocks.
-pub record IsReady (g : Graph) (goes : (block left : ℕ) → Bool) (to : Spot) (ways : Ways) : Type 0 where
-  pub idle : AreIdle g goes
+pub record IsReady (assignments : List Assignment) (g : Graph) (goes : (block left : ℕ) → Bool) (to : Spot) (ways : Ways) : Type 0 where
+  pub idle : AreIdle assignments g goes
   pub point : IsPoint g to.block (suc to.left)
   pub count : length ways.seen.items ≡ length g.blocks * 2
 
-module _ (g : Graph) (to : Spot) (y : ℕ) where
+module _ (assignments : List Assignment) (g : Graph) (to : Spot) (y : ℕ) where
   -- Some way leads from a point to the one that is sought, with a write on it, if there was none before.
   abbrev pub Comes : (was_written : Bool) → (n : ℕ) → List Instruction → End → Type 0
   Comes true n rest e = ComesTo g to.block (left_at g to.block (suc to.left)) n rest e
-  Comes false n rest e = IsWrittenBetween g to.block (left_at g to.block (suc to.left)) y n rest e
+  Comes false n rest e = IsWrittenBetween assignments g to.block (left_at g to.block (suc to.left)) y n rest e
 
   -- One does from where a search has come.
   pub record SomeComes (ahead : List Way) : Type 0 where

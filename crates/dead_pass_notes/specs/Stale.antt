@@ -1,18 +1,19 @@
 -- Which names are stale: those that have not the value any more which the program gave them, since the write of it goes.
 use Rattle.std.specs.Prelude.{◌≡◌, ℕ, true, false, List, ◌∷◌, length}
+use Rattle.places.specs.declared.flow.Assignment.{Assignment}
 use Rattle.graph_core.specs.Graphs.{Instruction, End, Graph}
 use Rattle.graph_core.specs.Paths.{Passed, History, Path, writes}
 use Rattle.graph_core.specs.Points.{Behind}
 use Rattle.dead_pass_rule.specs.Idle.{Goes}
 
-module _ (g : Graph) where
+module _ (assignments : List Assignment) (g : Graph) where
   -- What was passed on a way goes.
   pub record Went (i : Passed) : Type 0 where
     pub rest : List Instruction
     pub end : End
     pub behind : Behind g i.instruction i.block rest end
     pub left : length rest ≡ i.left
-    pub goes : Goes g i.block (i.instruction ∷ rest) end
+    pub goes : Goes assignments g i.block (i.instruction ∷ rest) end
 
   -- The last write of a name on a way goes.
   pub data IsStale (y : ℕ) : History → Type 0 where

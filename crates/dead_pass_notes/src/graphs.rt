@@ -1,6 +1,7 @@
 //! What goes of a graph.
 
-ghost use Rattle.std.specs.Prelude.{◌≡◌, IfOk, true};
+ghost use Rattle.std.specs.Prelude.{◌≡◌, IfOk, List, true};
+ghost use Rattle.places.specs.declared.flow.Assignment.{Assignment};
 ghost use Rattle.graph_core.specs.Graphs.{graph_view};
 ghost use Rattle.pass_law.specs.Changes.{Adds};
 ghost use Rattle.dead_pass_rule.specs.Asking.{is_going};
@@ -13,7 +14,7 @@ use graph_core::Graph;
 use pass_law::Case;
 use std::alloc::AllocError;
 
-/// Appends the cases of a function: the assignments of scalars that go, as their turns say. They come block by block.
+/// Appends the cases of a function: the assignments of scalars that go, where the turns tell what goes. They come block by block.
 ///
 /// False where a block has a number of 2^32 or more. `AllocError` where memory was refused.
 pub fn removed_writes(
@@ -21,8 +22,7 @@ pub fn removed_writes(
     turns: &[Vec<u32>],
     cases: &mut Vec<Case>,
 ) -> Result<bool, AllocError>
-    requires { AreIdle (graph_view graph.now) (is_going (turn_of turns.now)) }
-    ensures { IfOk result (λ whole. whole ≡ true → Adds (IsRemovedWrite (graph_view graph.now)) cases.old.items cases.new.items) }
+    ensures { IfOk result (λ whole. whole ≡ true → (assignments : List Assignment) → AreIdle assignments (graph_view graph.now) (is_going (turn_of turns.now)) → Adds (IsRemovedWrite assignments (graph_view graph.now)) cases.old.items cases.new.items) }
 {
     if graph.blocks.len() > 0xffff_ffff {
         return Ok(false);

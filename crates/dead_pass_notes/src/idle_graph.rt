@@ -12,12 +12,15 @@ use dead_pass_search::{Points, idle_writes};
 use dead_pass_writes::PlaceWrites;
 use graph_core::{Graph, Name, Operand};
 use graph_paths::Marks;
+use places::FlowTable;
 use std::alloc::{AllocError, Global};
 
 /// A graph and what goes of it.
 #[derive(Drop)]
 pub struct IdleGraph<'a> {
     pub graph: &'a Graph,
+    /// The assignments of its unit.
+    pub flow: &'a FlowTable,
     /// Which names places write once, and where.
     pub writes: PlaceWrites,
     /// For each block by how many instructions stand behind a write the turn in which it goes; 0 where it stays.
@@ -40,11 +43,16 @@ fn all_stay(turns: &[u32]) -> bool
 }
 
 impl<'a> IdleGraph<'a> {
-    ghost use Rattle.dead_pass_notes.specs.Idle.{IsBorneOut, graph_of};
+    ghost use Rattle.dead_pass_notes.specs.Idle.{IsBorneOut, assignments_of, graph_of};
 
     /// A graph and what goes of it. None where that is not borne out, which no graph is known to meet.
-    pub fn new(alloc: Global, graph: &'a Graph) -> Result<Option<IdleGraph<'a>>, AllocError>
+    pub fn new(
+        alloc: Global,
+        graph: &'a Graph,
+        flow: &'a FlowTable,
+    ) -> Result<Option<IdleGraph<'a>>, AllocError>
         ensures graph { IfOk result (λ o. IfSome o (λ idle. graph_of idle ≡ graph_view graph.now)) }
+        ensures assignments { IfOk result (λ o. IfSome o (λ idle. assignments_of idle ≡ flow.now.assignments.items)) }
         ensures borne_out { IfOk result (λ o. IfSome o (λ idle. IsBorneOut idle)) }
     {
         if graph.blocks.len() > 0xffff_ffff {
@@ -52,17 +60,18 @@ impl<'a> IdleGraph<'a> {
         }
         let points = Points::new(alloc, graph)?;
         let writes = PlaceWrites::new(alloc, graph)?;
-        let found = idle_writes(alloc, graph, &points, &writes)?;
+        let found = idle_writes(alloc, graph, flow, &points, &writes)?;
         let heights = Heights {
             columns: &found.columns,
             names: &found.names,
             rows: &found.rows,
         };
-        let Some(reached) = are_idle(alloc, graph, &found.turns, heights)? else {
+        let Some(reached) = are_idle(alloc, graph, flow, &found.turns, heights)? else {
             return Ok(None);
         };
         Ok(Some(IdleGraph {
             graph,
+            flow,
             writes,
             turns: found.turns,
             reached,

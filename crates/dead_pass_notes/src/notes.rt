@@ -10,7 +10,7 @@ ghost use Rattle.dead_pass_rule.specs.Asking.{is_going};
 ghost use Rattle.dead_pass_rule.specs.Walks.{IsTable, turn_of};
 ghost use Rattle.graph_paths.specs.PathMarksTable.{bits_of};
 ghost use Rattle.dead_pass_writes.specs.Once.{IsOnce};
-ghost use Rattle.dead_pass_notes.specs.Idle.{IsBorneOut, graph_of};
+ghost use Rattle.dead_pass_notes.specs.Idle.{IsBorneOut, assignments_of, graph_of};
 ghost use Rattle.dead_pass_notes.specs.Lost.{HasStale, IsToldLost, said_by};
 ghost use Rattle.dead_pass_writes.specs.Removals.{IsFirstRemoval, IsLastRemoval};
 ghost use Rattle.dead_pass_notes.specs.Said.{IsDropped, WasNeverRemoved};
@@ -117,7 +117,7 @@ fn first_removed(graph: &Graph, removed: &RemovedChanges, place: Place, name: Na
 /// The one assignment of a scalar in a place, where it goes.
 fn dropped(idle: &IdleGraph<'_>, place: Place, name: Name) -> Option<Spot>
     ensures some { IsBorneOut idle.now → IfSome result (λ s. IsOnce (graph_of idle.now) place.0 name.0 s.block s.left × (is_going (turn_of idle.now.turns.items) s.block s.left ≡ true)) }
-    ensures none { IsBorneOut idle.now → result ≡ None → IsDropped (graph_of idle.now) place.0 name.0 → ⊥ }
+    ensures none { IsBorneOut idle.now → result ≡ None → IsDropped (assignments_of idle.now) (graph_of idle.now) place.0 name.0 → ⊥ }
 {
     let write = idle.writes.only(place.0, name.0)?;
     if idle.goes_at(write.block, write.left) {
@@ -169,7 +169,7 @@ impl<'a> Notes<'a> {
     ) -> Result<NoteValue, AllocError>
         ensures same { OnOk result (HasOtherWays self.old self.new) }
         ensures room { OnOk result (HasRoom idle.now self.old.ways → HasRoom idle.now self.new.ways) }
-        ensures said { IfOk result (λ v. (log : List Logged) → AreToldOf log self.old.removed.now → IsKnown idle.now self.old.stale note → HasRoom idle.now self.old.ways → IsOnce (graph_of idle.now) note.place.0 of.0 assignment.block assignment.left → is_going (turn_of idle.now.turns.items) assignment.block assignment.left ≡ true → IsSaidAt log (graph_of idle.now) note of.0 (note_view before.now) (note_view v)) }
+        ensures said { IfOk result (λ v. (log : List Logged) → AreToldOf log self.old.removed.now → IsKnown idle.now self.old.stale note → HasRoom idle.now self.old.ways → IsOnce (graph_of idle.now) note.place.0 of.0 assignment.block assignment.left → is_going (turn_of idle.now.turns.items) assignment.block assignment.left ≡ true → IsSaidAt (assignments_of idle.now) log (graph_of idle.now) note of.0 (note_view before.now) (note_view v)) }
     {
         let recipe = recipe_of(
             alloc,
@@ -220,7 +220,7 @@ impl<'a> Notes<'a> {
     ) -> Result<NoteValue, AllocError>
         ensures same { OnOk result (HasOtherWays self.old self.new) }
         ensures room { OnOk result (HasRoom idle.now self.old.ways → HasRoom idle.now self.new.ways) }
-        ensures said { IfOk result (λ v. (log : List Logged) → AreToldOf log self.old.removed.now → AreKnown idle.now self.old → IsKnown idle.now self.old.stale note → HasRoom idle.now self.old.ways → IsSaidAt log (graph_of idle.now) note of.0 (note_view before.now) (note_view v)) }
+        ensures said { IfOk result (λ v. (log : List Logged) → AreToldOf log self.old.removed.now → AreKnown idle.now self.old → IsKnown idle.now self.old.stale note → HasRoom idle.now self.old.ways → IsSaidAt (assignments_of idle.now) log (graph_of idle.now) note of.0 (note_view before.now) (note_view v)) }
     {
         if let Some(assignment) = dropped(idle, note.place, of) {
             return self.said_of_dropped(alloc, idle, note, of, before, assignment);

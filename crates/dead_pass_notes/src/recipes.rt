@@ -3,7 +3,7 @@
 ghost use Rattle.std.specs.Prelude.{◌≡◌, ◌≢◌, ◌↔◌, ◌∷◌, ℕ, suc, IfOk, IfSome, List, None, OnOk, Some, option_map, true};
 ghost use Rattle.graph_core.specs.Graphs.{Instruction as InstructionForm, Move as MoveForm, Operand as OperandForm, Recipe as RecipeForm, graph_view, operand_view, recipe_view};
 ghost use Rattle.dead_pass_notes.specs.Spots.{IsPoint, left_at};
-ghost use Rattle.dead_pass_notes.specs.Idle.{IsBorneOut, graph_of};
+ghost use Rattle.dead_pass_notes.specs.Idle.{IsBorneOut, assignments_of, graph_of};
 ghost use Rattle.dead_pass_notes.specs.declared.recipes.Source.TheVariants.{Made as MadeAt, Read as ReadOf};
 ghost use Rattle.dead_pass_notes.specs.Sources.{AreSources, Computes, Gives, HasRoom, IsFound, IsKnown, IsMade, IsRead, IsSource, StillHolds};
 
@@ -75,7 +75,7 @@ fn source_of(
     operand: Operand,
 ) -> Result<Source, AllocError>
     ensures source { IfOk result (λ source. IsBorneOut idle.now → IsPoint (graph_of idle.now) at.block at.left → IsSource (graph_of idle.now) note source) }
-    ensures same { IfOk result (λ source. IsBorneOut idle.now → (r : RecipeForm) → IsRead (graph_of idle.now) note at (operand_view operand) r ↔ Gives (graph_of idle.now) note source r) }
+    ensures same { IfOk result (λ source. IsBorneOut idle.now → (r : RecipeForm) → IsRead (assignments_of idle.now) (graph_of idle.now) note at (operand_view operand) r ↔ Gives (assignments_of idle.now) (graph_of idle.now) note source r) }
 {
     let mut at = at;
     let mut operand = operand;
@@ -114,7 +114,7 @@ fn still_holds(
     name: u32,
 ) -> Result<bool, AllocError>
     ensures room { OnOk result (HasRoom idle.now ways.old → HasRoom idle.now ways.new) }
-    ensures exact { IfOk result (λ is. IsKnown idle.now stale.now note → HasRoom idle.now ways.old → IsPoint (graph_of idle.now) at.block at.left → (is ≡ true) ↔ StillHolds (graph_of idle.now) note at name) }
+    ensures exact { IfOk result (λ is. IsKnown idle.now stale.now note → HasRoom idle.now ways.old → IsPoint (graph_of idle.now) at.block at.left → (is ≡ true) ↔ StillHolds (assignments_of idle.now) (graph_of idle.now) note at name) }
 {
     if stale.get(idle.graph.blocks.len() as u32, name) {
         return Ok(false);
@@ -133,7 +133,7 @@ fn read_recipe(
     operand: Operand,
 ) -> Result<Option<Recipe>, AllocError>
     ensures room { OnOk result (HasRoom idle.now ways.old → HasRoom idle.now ways.new) }
-    ensures found { IfOk result (λ o. IsKnown idle.now stale.now note → HasRoom idle.now ways.old → IsSource (graph_of idle.now) note (ReadOf at operand) → (depth : ℕ) → IsFound (suc depth) (Gives (graph_of idle.now) note (ReadOf at operand)) (option_map recipe_view o)) }
+    ensures found { IfOk result (λ o. IsKnown idle.now stale.now note → HasRoom idle.now ways.old → IsSource (graph_of idle.now) note (ReadOf at operand) → (depth : ℕ) → IsFound (suc depth) (Gives (assignments_of idle.now) (graph_of idle.now) note (ReadOf at operand)) (option_map recipe_view o)) }
 {
     if let Operand::Name(name) = operand {
         if !still_holds(idle, ways, stale, note, at, name.0)? {
@@ -146,7 +146,7 @@ fn read_recipe(
 /// Of what sources an instruction computes its value.
 fn computed_at(idle: &IdleGraph<'_>, note: NotePoint, made: Spot) -> Result<Computed, AllocError>
     ensures sources { IfOk result (λ computed. IsBorneOut idle.now → IsSource (graph_of idle.now) note (MadeAt made) → AreSources (graph_of idle.now) note computed) }
-    ensures same { IfOk result (λ computed. IsBorneOut idle.now → IsSource (graph_of idle.now) note (MadeAt made) → (r : RecipeForm) → IsMade (graph_of idle.now) note made r ↔ Computes (graph_of idle.now) note computed r) }
+    ensures same { IfOk result (λ computed. IsBorneOut idle.now → IsSource (graph_of idle.now) note (MadeAt made) → (r : RecipeForm) → IsMade (assignments_of idle.now) (graph_of idle.now) note made r ↔ Computes (assignments_of idle.now) (graph_of idle.now) note computed r) }
 {
     let [instruction, ..] = instructions_from(idle.graph, made.block, made.left) else {
         return Ok(Computed::Unknown);
@@ -185,7 +185,7 @@ fn recipe_at(
     depth: u32,
 ) -> Result<Option<Recipe>, AllocError>
     ensures room { OnOk result (HasRoom idle.now ways.old → HasRoom idle.now ways.new) }
-    ensures found { IfOk result (λ o. IsKnown idle.now stale.now note → HasRoom idle.now ways.old → IsSource (graph_of idle.now) note source → IsFound depth (Gives (graph_of idle.now) note source) (option_map recipe_view o)) }
+    ensures found { IfOk result (λ o. IsKnown idle.now stale.now note → HasRoom idle.now ways.old → IsSource (graph_of idle.now) note source → IsFound depth (Gives (assignments_of idle.now) (graph_of idle.now) note source) (option_map recipe_view o)) }
 {
     if depth == 0 {
         return Ok(None);
@@ -229,7 +229,7 @@ pub fn recipe_of(
     depth: u32,
 ) -> Result<Option<Recipe>, AllocError>
     ensures room { OnOk result (HasRoom idle.now ways.old → HasRoom idle.now ways.new) }
-    ensures found { IfOk result (λ o. IsKnown idle.now stale.now note → HasRoom idle.now ways.old → IsPoint (graph_of idle.now) assignment.block (suc assignment.left) → IsFound depth (IsMade (graph_of idle.now) note assignment) (option_map recipe_view o)) }
+    ensures found { IfOk result (λ o. IsKnown idle.now stale.now note → HasRoom idle.now ways.old → IsPoint (graph_of idle.now) assignment.block (suc assignment.left) → IsFound depth (IsMade (assignments_of idle.now) (graph_of idle.now) note assignment) (option_map recipe_view o)) }
 {
     let source = match copied(idle.graph, assignment) {
         Some(from) => source_of(idle, note, assignment, from)?,

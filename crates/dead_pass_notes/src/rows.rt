@@ -1,6 +1,7 @@
 //! What is stale at the starts of blocks.
 
-ghost use Rattle.std.specs.Prelude.{◌≡◌, ℕ, ◌+◌, ◌<◌, ◌^◌, IfOk, OnOk, length};
+ghost use Rattle.std.specs.Prelude.{◌≡◌, ℕ, ◌+◌, ◌<◌, ◌^◌, IfOk, List, OnOk, length};
+ghost use Rattle.places.specs.declared.flow.Assignment.{Assignment};
 ghost use Rattle.graph_core.specs.Graphs.{graph_view};
 ghost use Rattle.dead_pass_rule.specs.Asking.{is_going};
 ghost use Rattle.dead_pass_rule.specs.Certified.{AreIdle};
@@ -44,7 +45,7 @@ impl Transfer for Staleness<'_> {
     }
 }
 
-/// The names that are stale at the starts of blocks: for each block that paths reach those that some path brings there stale, and no others. They are visited in this order first.
+/// The names that are stale at the starts of blocks: for each block that paths reach those that some path brings there stale, and, where the turns tell what goes, no others. The blocks are visited in this order first.
 pub fn stale_names(
     alloc: Global,
     graph: &Graph,
@@ -53,10 +54,9 @@ pub fn stale_names(
     order: &[u32],
 ) -> Result<Marks, AllocError>
     requires few { length graph.now.blocks.items + 2 < 2 ^ 32 }
-    requires idle { AreIdle (graph_view graph.now) (is_going (turn_of turns.now)) }
     requires led { AreLed (graph_view graph.now).blocks (bits_of reached.now 0) }
     ensures table { IfOk result (λ marks. IsTable (length graph.now.blocks.items) graph.now.name_count marks) }
-    ensures stale { IfOk result (λ marks. AreStale (graph_view graph.now) graph.now.name_count marks) }
+    ensures stale { IfOk result (λ marks. (assignments : List Assignment) → AreIdle assignments (graph_view graph.now) (is_going (turn_of turns.now)) → AreStale assignments (graph_view graph.now) graph.now.name_count marks) }
     ensures all { IfOk result (λ marks. AreAll (graph_view graph.now) (is_going (turn_of turns.now)) (bits_of reached.now 0)
         graph.now.name_count (bits_of marks)) }
 {

@@ -1,6 +1,7 @@
 //! What is written between points of a place.
 
-ghost use Rattle.std.specs.Prelude.{◌≡◌, ◌↔◌, ◌⊎◌, ℕ, suc, ◌*◌, ◌++◌, ◌<◌, ◌≤◌, ◌^◌, IfOk, OnOk, [], ◌∷◌, false, length, map, slice_index_or, true};
+ghost use Rattle.std.specs.Prelude.{◌≡◌, ◌↔◌, ◌⊎◌, ℕ, suc, ◌*◌, ◌++◌, ◌<◌, ◌≤◌, ◌^◌, IfOk, List, OnOk, [], ◌∷◌, false, length, map, slice_index_or, true};
+ghost use Rattle.places.specs.declared.flow.Assignment.{Assignment};
 ghost use Rattle.graph_core.specs.Graphs.{end_view, graph_view, instruction_view};
 ghost use Rattle.graph_core.specs.Paths.{Among};
 ghost use Rattle.graph_core.specs.Uses.{targets_of};
@@ -133,7 +134,7 @@ impl Ways {
         sought: Sought,
     ) -> Result<bool, AllocError>
         ensures count { OnOk result (length self.new.seen.items ≡ length self.old.seen.items) }
-        ensures exact { IfOk result (λ is. IsReady (graph_view graph.now) (is_going (turn_of turns.now)) sought.to self.old → AreSeen self.old → (is ≡ true) ↔ SomeComes (graph_view graph.now) sought.to sought.name self.old.ahead.items) }
+        ensures exact { IfOk result (λ is. (assignments : List Assignment) → IsReady assignments (graph_view graph.now) (is_going (turn_of turns.now)) sought.to self.old → AreSeen self.old → (is ≡ true) ↔ SomeComes assignments (graph_view graph.now) sought.to sought.name self.old.ahead.items) }
     {
         for at in 0..usize::MAX {
             let Some(found) = self.ahead.get(at) else {
@@ -166,7 +167,7 @@ impl Ways {
         name: u32,
     ) -> Result<bool, AllocError>
         ensures count { OnOk result (length self.new.seen.items ≡ length self.old.seen.items) }
-        ensures exact { IfOk result (λ is. IsReady (graph_view graph.now) (is_going (turn_of turns.now)) to self.old → IsPoint (graph_view graph.now) from.block from.left → (is ≡ true) ↔ IsWrittenBetween (graph_view graph.now) to.block (left_at (graph_view graph.now) to.block (suc to.left)) name from.block (left_at (graph_view graph.now) from.block from.left) (end_at (graph_view graph.now) from.block)) }
+        ensures exact { IfOk result (λ is. (assignments : List Assignment) → IsReady assignments (graph_view graph.now) (is_going (turn_of turns.now)) to self.old → IsPoint (graph_view graph.now) from.block from.left → (is ≡ true) ↔ IsWrittenBetween assignments (graph_view graph.now) to.block (left_at (graph_view graph.now) to.block (suc to.left)) name from.block (left_at (graph_view graph.now) from.block from.left) (end_at (graph_view graph.now) from.block)) }
     {
         self.begin();
         let Some(block) = graph.blocks.get(from.block as usize) else {

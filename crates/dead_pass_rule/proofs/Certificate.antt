@@ -4,6 +4,7 @@ use Rattle.std.specs.Prelude.{◌↔◌, ◌==◌, ◌&&◌, ◌||◌, not, slic
 use Rattle.std.proofs.lemmas.Bool.{and_parts, or_parts, eq-eqb, eqb-true}
 use Rattle.std.proofs.lemmas.Option.{same_Some, slice_get_within}
 use Rattle.graph_core.specs.declared.value.Value.TheVariants.{Odd}
+use Rattle.places.specs.declared.flow.Assignment.{Assignment}
 use Rattle.graph_core.specs.Graphs.{Instruction, End, Block, Graph}
 use Rattle.graph_core.specs.Uses.{target_of, targets_of, reads_of, reads_of_end, is_computation}
 use Rattle.graph_core.specs.Validity.{place_behind}
@@ -27,7 +28,7 @@ module _ (turns : Turns) (blocks : List Block) where
   above_more greatest count x n here more [] e le above = λ l lt to. (let h = above l lt to in omega (arith, h, le))
   above_more greatest count x n here more (i ∷ rest) e le above = ((λ g r. (let h = above.0 g r in omega (arith, h, le))), (λ w. above_more greatest count x n here more rest e le (above.1 w)))
 
-module _ (g : Graph) (turns : Turns) (names : ℕ) (led : ℕ → Bool) (are : AreLed g.blocks led) (told : (x n : ℕ) → Bool) (greatest : (x n : ℕ) → ℕ) (all : AreCertified g turns names led told greatest) where
+module _ (assignments : List Assignment) (g : Graph) (turns : Turns) (names : ℕ) (led : ℕ → Bool) (are : AreLed g.blocks led) (told : (x n : ℕ) → Bool) (greatest : (x n : ℕ) → ℕ) (all : AreCertified assignments g turns names led told greatest) where
   abbrev Tells : (x n : ℕ) → Bool → List Instruction → End → Type 0
   Tells x n here rest e = TellsAsked turns (told x) (length g.blocks) x n here rest e
 
@@ -72,12 +73,12 @@ module _ (g : Graph) (turns : Turns) (names : ℕ) (led : ℕ → Bool) (are : A
   stands n b before i rest p at parts place = record { block = b; before = before; is = at; instructions = parts; ends = refl; place = place }
 
   -- what goes, of turns below a bound, is idle
-  idle_below : (bound n : ℕ) (b : Block) (before rest : List Instruction) (i : Instruction) → slice_get g.blocks n ≡ Some b → b.instructions ≡ before ++ i ∷ rest → is_going turns n (length rest) ≡ true → turns n (length rest) < bound → IsIdle g n (i ∷ rest) b.end
+  idle_below : (bound n : ℕ) (b : Block) (before rest : List Instruction) (i : Instruction) → slice_get g.blocks n ≡ Some b → b.instructions ≡ before ++ i ∷ rest → is_going turns n (length rest) ≡ true → turns n (length rest) < bound → IsIdle assignments g n (i ∷ rest) b.end
   idle_below zero n b before rest i at parts going lt = absurd (omega (arith, lt))
   idle_below (suc bound) n b before rest i at parts going lt = made (λ m c front left j there cut on small. idle_below bound m c front left j there cut on small) (all.going n b before rest i at parts going)
     where
-      made : ((m : ℕ) (c : Block) (front left : List Instruction) (j : Instruction) → slice_get g.blocks m ≡ Some c → c.instructions ≡ front ++ j ∷ left → is_going turns m (length left) ≡ true → turns m (length left) < bound → IsIdle g m (j ∷ left) c.end)
-          → IsGoing g turns names led told greatest n b before i rest → IsIdle g n (i ∷ rest) b.end
+      made : ((m : ℕ) (c : Block) (front left : List Instruction) (j : Instruction) → slice_get g.blocks m ≡ Some c → c.instructions ≡ front ++ j ∷ left → is_going turns m (length left) ≡ true → turns m (length left) < bound → IsIdle assignments g m (j ∷ left) c.end)
+          → IsGoing assignments g turns names led told greatest n b before i rest → IsIdle assignments g n (i ∷ rest) b.end
       made again s = idle (stands n b before i rest s.free.p at parts s.free.in_place) s.free.target s.free.may_go (λ h m left f way none read. computed h m left f way none read) (λ h m left f way none read. read_by h m left f way none read)
         where
           reached_here : IsReached g n rest b.end
@@ -87,7 +88,7 @@ module _ (g : Graph) (turns : Turns) (names : ℕ) (led : ℕ → Bool) (are : A
           computed h m [] f way none read = absurd (true≢false (sym ((tells_on s.free.x s.named false s.unasked way none).0 read)))
           computed h m (j ∷ left) f way none read = (and_parts (is_going turns m (length left)) (is_computation j) (gone_next m j left f s.free.x (tells_on s.free.x s.named false s.unasked way none) read)).1
 
-          read_by : (h : History) (m : ℕ) (left : List Instruction) (f : End) → Way g n rest b.end h m left f → some_passed (writes s.free.x) h ≡ false → ReadsNext s.free.x left f → IsIdle g m left f
+          read_by : (h : History) (m : ℕ) (left : List Instruction) (f : End) → Way g n rest b.end h m left f → some_passed (writes s.free.x) h ≡ false → ReadsNext s.free.x left f → IsIdle assignments g m left f
           read_by h m [] f way none read = absurd (true≢false (sym ((tells_on s.free.x s.named false s.unasked way none).0 read)))
           read_by h m (j ∷ left) f way none read =
               let gone : is_gone turns m (length left) j ≡ true = gone_next m j left f s.free.x (tells_on s.free.x s.named false s.unasked way none) read in
@@ -95,8 +96,8 @@ module _ (g : Graph) (turns : Turns) (names : ℕ) (led : ℕ → Bool) (are : A
               let le : turns m (length left) ≤ s.here = (above_on s.free.x s.here s.above way none).0 gone (among_reads s.free.x j read) in
               let small : s.here < turns n (length rest) = s.earlier in
               let there = path_at g led are (reached_on reached_here way).path in
-              let is : IsIdle g m (j ∷ left) there.block.end = again m there.block there.before left j there.is there.instructions goes_on (omega (arith, le, small, lt)) in
-              subst (λ k. IsIdle g m (j ∷ left) k) (sym there.ends) is
+              let is : IsIdle assignments g m (j ∷ left) there.block.end = again m there.block there.before left j there.is there.instructions goes_on (omega (arith, le, small, lt)) in
+              subst (λ k. IsIdle assignments g m (j ∷ left) k) (sym there.ends) is
 
   -- A way on to what asks for a name.
   pub record Asks (n : ℕ) (rest : List Instruction) (e : End) (x : ℕ) : Type 0 where
@@ -133,7 +134,7 @@ module _ (g : Graph) (turns : Turns) (names : ℕ) (led : ℕ → Bool) (are : A
   way_to x way none (leads b to at asked) = way_to x (goes way to b at) none asked
 
   -- what stays is not idle where a path comes to it
-  never : {n : ℕ} {rest : List Instruction} {e : End} → IsIdle g n rest e → IsReached g n rest e → (i : Instruction) (after : List Instruction) → rest ≡ i ∷ after → is_going turns n (length after) ≡ false → ⊥
+  never : {n : ℕ} {rest : List Instruction} {e : End} → IsIdle assignments g n rest e → IsReached g n rest e → (i : Instruction) (after : List Instruction) → rest ≡ i ∷ after → is_going turns n (length after) ≡ false → ⊥
   never (idle {n} {i} {rest} {e} {p} {x} stood target may computed read_by) r j after same staying =
       made (λ h m left f way none read reached k more cut stay. never (read_by h m left f way none read) reached k more cut stay) (path_at g led are r.path)
     where
@@ -144,7 +145,7 @@ module _ (g : Graph) (turns : Turns) (names : ℕ) (led : ℕ → Bool) (are : A
           → IsAt g led are n (i ∷ rest) e → ⊥
       made again s =
           let one_block : s.block ≡ stood.block = same_Some s.block stood.block (sym s.is ∙ stood.is) in
-          let free : IsFree g (place_behind stood.before stood.block.place) i = record { p = p; x = x; in_place = stood.place; target = target; may_go = may } in
+          let free : IsFree assignments g (place_behind stood.before stood.block.place) i = record { p = p; x = x; in_place = stood.place; target = target; may_go = may } in
           let asked : IsAsked turns g.blocks x n rest stood.block.end = all.staying n stood.block stood.before rest i stood.is stood.instructions stays_here s.told free in
           let asked_here : IsAsked turns g.blocks x n rest e = subst (λ f. IsAsked turns g.blocks x n rest f) (sym stood.ends) asked in
           found (way_to x stays refl asked_here)
@@ -159,7 +160,7 @@ module _ (g : Graph) (turns : Turns) (names : ℕ) (led : ℕ → Bool) (are : A
           found a = by_left a a.left refl
 
   -- THE CERTIFICATE HOLDS.
-  pub are_idle : AreIdle g (is_going turns)
+  pub are_idle : AreIdle assignments g (is_going turns)
   are_idle = record {
     goes = λ n b before rest i at parts. (
       (λ going. (let s = all.going n b before rest i at parts going in record {
@@ -170,6 +171,6 @@ module _ (g : Graph) (turns : Turns) (names : ℕ) (led : ℕ → Bool) (are : A
     );
   }
     where
-      by_test : (n : ℕ) (b : Block) (before rest : List Instruction) (i : Instruction) → Goes g n (i ∷ rest) b.end → (z : Bool) → is_going turns n (length rest) ≡ z → is_going turns n (length rest) ≡ true
+      by_test : (n : ℕ) (b : Block) (before rest : List Instruction) (i : Instruction) → Goes assignments g n (i ∷ rest) b.end → (z : Bool) → is_going turns n (length rest) ≡ z → is_going turns n (length rest) ≡ true
       by_test n b before rest i is true q = q
       by_test n b before rest i is false q = absurd (never is.idle is.reached i rest refl q)

@@ -9,12 +9,12 @@ use Rattle.graph_core.specs.Validity.{place_behind}
 use Rattle.graph_paths.specs.declared.marks.Marks.{Marks}
 use Rattle.graph_paths.specs.Reached.{AreLed}
 use Rattle.graph_paths.specs.PathMarksTable.{bits_of}
-use Rattle.dead_pass_rule.specs.declared.counts.Counts.{Counts}
+use Rattle.dead_pass_rule.specs.declared.counts.FreeWrites.{FreeWrites}
 use Rattle.dead_pass_rule.specs.declared.heights.Heights.{Heights}
 use Rattle.dead_pass_rule.specs.Asking.{Turns, is_going, IsAsked, TellsAsked, IsAbove}
 use Rattle.dead_pass_rule.specs.Certified.{IsFree, IsGoing, AreCertified, AreIdle}
 use Rattle.dead_pass_rule.specs.Checked.{is_named, is_right, AreRight, IsRightBlock}
-use Rattle.dead_pass_rule.specs.Counting.{IsCountOf, AreFree}
+use Rattle.dead_pass_rule.specs.Counting.{AreFree, TellsOf, assignments_of}
 use Rattle.dead_pass_rule.specs.Heights.{height_at, IsLater, AreLater}
 use Rattle.dead_pass_rule.specs.Walks.{AreAsked, EachBehind, IsAskedWhere, IsToldWhere}
 use Rattle.dead_pass_rule.proofs.Certificate.{are_idle}
@@ -91,15 +91,15 @@ behind_at So told (j ∷ before) i rest each x target = behind_at So told before
 named_below : (names x : ℕ) (target : Option ℕ) → target ≡ Some x → is_named names target ≡ true → x < names
 named_below names x target e q = ltb-true x names (sym (ap (is_named names) e) ∙ q)
 
-module _ (g : Graph) (turns : Turns) (names : ℕ) (led : ℕ → Bool) (are : AreLed g.blocks led) (counts : Counts) (counted : IsCountOf g counts) (marks : Marks) (asked : AreAsked turns g.blocks (length g.blocks) names marks) (heights : Heights)
-    (right : (n : ℕ) (b : Block) → slice_get g.blocks n ≡ Some b → IsRightBlock turns counts g.blocks names led marks n b)
+module _ (g : Graph) (turns : Turns) (names : ℕ) (led : ℕ → Bool) (are : AreLed g.blocks led) (frees : FreeWrites) (tells_of : TellsOf g frees) (marks : Marks) (asked : AreAsked turns g.blocks (length g.blocks) names marks) (heights : Heights)
+    (right : (n : ℕ) (b : Block) → slice_get g.blocks n ≡ Some b → IsRightBlock turns frees g.blocks names led marks n b)
     (above : (x n count : ℕ) (b : Block) → slice_get g.blocks n ≡ Some b → IsAbove turns (height_at heights x) count x n (height_at heights x n) b.instructions b.end)
     (later : (n count : ℕ) (b : Block) → slice_get g.blocks n ≡ Some b → AreLater turns heights count n b.instructions b.end) where
   abbrev told : (x n : ℕ) → Bool
   told x n = bits_of marks n x
 
   module _ (n : ℕ) (b : Block) (before rest : List Instruction) (i : Instruction) (at : slice_get g.blocks n ≡ Some b) (parts : b.instructions ≡ before ++ i ∷ rest) where
-    r : IsRightBlock turns counts g.blocks names led marks n b
+    r : IsRightBlock turns frees g.blocks names led marks n b
     r = right n b at
 
     abbrev is_free : Bool
@@ -111,13 +111,13 @@ module _ (g : Graph) (turns : Turns) (names : ℕ) (led : ℕ → Bool) (are : A
     it_is : is_right (is_going turns n (length rest)) (led n) is_free (is_named names (target_of i)) is_asked ≡ true
     it_is = r.right before rest i parts
 
-    free_if : (is_free ≡ true) ↔ IsFree g (place_behind before b.place) i
-    free_if = free_at g b.place before i rest r.free (subst (λ l. AreFree g b.place l r.free) parts (r.are_free g counted))
+    free_if : (is_free ≡ true) ↔ IsFree (assignments_of frees) g (place_behind before b.place) i
+    free_if = free_at (assignments_of frees) g b.place before i rest r.free (subst (λ l. AreFree (assignments_of frees) g b.place l r.free) parts (r.are_free g tells_of))
 
-    going_so : is_going turns n (length rest) ≡ true → IsGoing g turns names led told (λ x m. height_at heights x m) n b before i rest
+    going_so : is_going turns n (length rest) ≡ true → IsGoing (assignments_of frees) g turns names led told (λ x m. height_at heights x m) n b before i rest
     going_so going =
         let all = right_going (is_going turns n (length rest)) (led n) is_free (is_named names (target_of i)) is_asked it_is going in
-        let free : IsFree g (place_behind before b.place) i = free_if.0 all.1 in
+        let free : IsFree (assignments_of frees) g (place_behind before b.place) i = free_if.0 all.1 in
         let lt = named_below names free.x (target_of i) free.target all.2 in
         let behind : IsToldWhere turns marks (length g.blocks) names n b.end free.x is_asked rest =
         behind_at (IsToldWhere turns marks (length g.blocks) names n b.end) r.asked before i rest (subst (λ l. EachBehind (IsToldWhere turns marks (length g.blocks) names n b.end) r.asked l) parts r.are_told) free.x free.target in
@@ -133,13 +133,13 @@ module _ (g : Graph) (turns : Turns) (names : ℕ) (led : ℕ → Bool) (are : A
           earlier = l.later;
         }
 
-    staying_so : is_going turns n (length rest) ≡ false → led n ≡ true → (free : IsFree g (place_behind before b.place) i) → IsAsked turns g.blocks free.x n rest b.end
+    staying_so : is_going turns n (length rest) ≡ false → led n ≡ true → (free : IsFree (assignments_of frees) g (place_behind before b.place) i) → IsAsked turns g.blocks free.x n rest b.end
     staying_so staying reached free =
         let both = right_staying (is_going turns n (length rest)) (led n) is_free (is_named names (target_of i)) is_asked it_is staying reached (free_if.1 free) in
         let lt = named_below names free.x (target_of i) free.target both.0 in
         behind_at (IsAskedWhere turns g.blocks names n b.end) r.asked before i rest (subst (λ l. EachBehind (IsAskedWhere turns g.blocks names n b.end) r.asked l) parts (r.are_asked asked)) free.x free.target lt both.1
 
-  certified : AreCertified g turns names led told (λ x m. height_at heights x m)
+  certified : AreCertified (assignments_of frees) g turns names led told (λ x m. height_at heights x m)
   certified = record {
     asked = λ x n b lt at. (right n b at).tells x lt;
     above = λ x n b at. above x n (length g.blocks) b at;
@@ -148,15 +148,15 @@ module _ (g : Graph) (turns : Turns) (names : ℕ) (led : ℕ → Bool) (are : A
   }
 
   -- What is checked to be right goes by the rule.
-  pub checked_idle : AreIdle g (is_going turns)
-  checked_idle = are_idle g turns names led are told (λ x m. height_at heights x m) certified
+  pub checked_idle : AreIdle (assignments_of frees) g (is_going turns)
+  checked_idle = are_idle (assignments_of frees) g turns names led are told (λ x m. height_at heights x m) certified
 
-pub idle_by : (g : Graph) (blocks : List Block) (count : ℕ) → blocks ≡ g.blocks → count ≡ length blocks → (turns : Turns) (names : ℕ) (led : ℕ → Bool) (counts : Counts) → IsCountOf g counts → (marks : Marks) (heights : Heights) → AreLed blocks led → AreAsked turns blocks count names marks
-    → ((n : ℕ) (b : Block) → n < count → slice_get blocks n ≡ Some b → IsRightBlock turns counts blocks names led marks n b)
+pub idle_by : (g : Graph) (blocks : List Block) (count : ℕ) → blocks ≡ g.blocks → count ≡ length blocks → (turns : Turns) (names : ℕ) (led : ℕ → Bool) (frees : FreeWrites) → TellsOf g frees → (marks : Marks) (heights : Heights) → AreLed blocks led → AreAsked turns blocks count names marks
+    → ((n : ℕ) (b : Block) → n < count → slice_get blocks n ≡ Some b → IsRightBlock turns frees blocks names led marks n b)
     → ((x n many : ℕ) (b : Block) → slice_get blocks n ≡ Some b → IsAbove turns (height_at heights x) many x n (height_at heights x n) b.instructions b.end)
-    → ((n many : ℕ) (b : Block) → slice_get blocks n ≡ Some b → AreLater turns heights many n b.instructions b.end) → AreIdle g (is_going turns)
-idle_by g blocks count e counts_to turns names led counts counted marks heights are asked right above later =
-    let P : List Block → Type 0 = λ l. AreLed l led → AreAsked turns l (length l) names marks → ((n : ℕ) (b : Block) → slice_get l n ≡ Some b → IsRightBlock turns counts l names led marks n b)
-    → ((x n many : ℕ) (b : Block) → slice_get l n ≡ Some b → IsAbove turns (height_at heights x) many x n (height_at heights x n) b.instructions b.end) → ((n many : ℕ) (b : Block) → slice_get l n ≡ Some b → AreLater turns heights many n b.instructions b.end) → AreIdle g (is_going turns) in
-    subst P (sym e) (λ a b c d f. checked_idle g turns names led a counts counted marks b heights c d f) are (subst (λ k. AreAsked turns blocks k names marks) counts_to asked)
+    → ((n many : ℕ) (b : Block) → slice_get blocks n ≡ Some b → AreLater turns heights many n b.instructions b.end) → AreIdle (assignments_of frees) g (is_going turns)
+idle_by g blocks count e counts_to turns names led frees tells_of marks heights are asked right above later =
+    let P : List Block → Type 0 = λ l. AreLed l led → AreAsked turns l (length l) names marks → ((n : ℕ) (b : Block) → slice_get l n ≡ Some b → IsRightBlock turns frees l names led marks n b)
+    → ((x n many : ℕ) (b : Block) → slice_get l n ≡ Some b → IsAbove turns (height_at heights x) many x n (height_at heights x n) b.instructions b.end) → ((n many : ℕ) (b : Block) → slice_get l n ≡ Some b → AreLater turns heights many n b.instructions b.end) → AreIdle (assignments_of frees) g (is_going turns) in
+    subst P (sym e) (λ a b c d f. checked_idle g turns names led a frees tells_of marks b heights c d f) are (subst (λ k. AreAsked turns blocks k names marks) counts_to asked)
     (λ n b at. right n b (let lt = slice_get_within blocks n b at in omega (arith, lt, counts_to)) at) above later

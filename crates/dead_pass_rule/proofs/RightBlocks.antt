@@ -8,10 +8,10 @@ use Rattle.graph_core.specs.Graphs.{Instruction, End, Block, Graph}
 use Rattle.graph_paths.specs.declared.marks.Marks.{Marks}
 use Rattle.graph_paths.specs.PathMarksTable.{bits_of}
 use Rattle.graph_paths.proofs.Leading.{block_there}
-use Rattle.dead_pass_rule.specs.declared.counts.Counts.{Counts}
+use Rattle.dead_pass_rule.specs.declared.counts.FreeWrites.{FreeWrites}
 use Rattle.dead_pass_rule.specs.Asking.{Turns, TellsAsked}
 use Rattle.dead_pass_rule.specs.Checked.{AreRight, IsRightBlock}
-use Rattle.dead_pass_rule.specs.Counting.{IsCountOf, AreFree}
+use Rattle.dead_pass_rule.specs.Counting.{AreFree, TellsOf, assignments_of}
 use Rattle.dead_pass_rule.specs.Walks.{AreSameBelow, AreAsked, AreTold, EachBehind, IsAskedWhere, IsToldWhere}
 
 -- what is told of blocks in the same way
@@ -24,8 +24,8 @@ each_same One Two told [] f each = tt
 each_same One Two told (i ∷ rest) f each = ((λ x target. f x _ rest (each.0 x target)), each_same One Two told rest f each.1)
 
 -- where the rows of blocks are the same a block is right as it was
-pub right_same : (turns : Turns) (counts : Counts) (all : List Block) (names : ℕ) (led : ℕ → Bool) (first now : Marks) (n : ℕ) (b : Block) → n < length all → AreSameBelow (length all) first now → IsRightBlock turns counts all names led now n b → IsRightBlock turns counts all names led first n b
-right_same turns counts all names led first now n b lt same r = record {
+pub right_same : (turns : Turns) (frees : FreeWrites) (all : List Block) (names : ℕ) (led : ℕ → Bool) (first now : Marks) (n : ℕ) (b : Block) → n < length all → AreSameBelow (length all) first now → IsRightBlock turns frees all names led now n b → IsRightBlock turns frees all names led first n b
+right_same turns frees all names led first now n b lt same r = record {
   tells = λ x named. subst (λ v. TellsAsked turns (λ l. bits_of first l x) (length all) x n v b.instructions b.end) (same n x lt)
       (tells_same turns (λ l. bits_of now l x) (λ l. bits_of first l x) (length all) x n (bits_of now n x) b.instructions b.end (λ l small. sym (same l x small)) (r.tells x named));
   free = r.free;
@@ -38,15 +38,15 @@ right_same turns counts all names led first now n b lt same r = record {
 }
 
 -- A block that was walked over.
-pub right_block : {A : Type 0} (view : A → Block) (turns : Turns) (counts : Counts) (all : List A) (names n : ℕ) (led : ℕ → Bool) (old : Marks) (b : A) (reached : Bool) (free asked : List Bool) → n < length all → b ≡ get_or all n b → reached ≡ led n
+pub right_block : {A : Type 0} (view : A → Block) (turns : Turns) (frees : FreeWrites) (all : List A) (names n : ℕ) (led : ℕ → Bool) (old : Marks) (b : A) (reached : Bool) (free asked : List Bool) → n < length all → b ≡ get_or all n b → reached ≡ led n
     → AreTold turns (map view all) names old
     → ((blocks : List Block) → AreAsked turns blocks (length all) names old → EachBehind (IsAskedWhere turns blocks names n (view b).end) asked (view b).instructions)
     → EachBehind (IsToldWhere turns old (length all) names n (view b).end) asked (view b).instructions
-    → ((g : Graph) → IsCountOf g counts → AreFree g (view b).place (view b).instructions free)
+    → ((g : Graph) → TellsOf g frees → AreFree (assignments_of frees) g (view b).place (view b).instructions free)
     → AreRight turns names n reached free asked (view b).instructions
-    → (c : Block) → slice_get (map view all) n ≡ Some c → IsRightBlock turns counts (map view all) names led old n c
-right_block view turns counts all names n led old b reached free asked lt is_b is_reached told asked_behind told_behind are_free right c at =
-    subst (λ (d : Block). IsRightBlock turns counts (map view all) names led old n d) (same_Some (view b) c (sym (block_there view all n b lt is_b) ∙ at)) (record {
+    → (c : Block) → slice_get (map view all) n ≡ Some c → IsRightBlock turns frees (map view all) names led old n c
+right_block view turns frees all names n led old b reached free asked lt is_b is_reached told asked_behind told_behind are_free right c at =
+    subst (λ (d : Block). IsRightBlock turns frees (map view all) names led old n d) (same_Some (view b) c (sym (block_there view all n b lt is_b) ∙ at)) (record {
       tells = λ x named. told n x (view b) (block_there view all n b lt is_b) named;
       free = free;
       asked = asked;

@@ -5,9 +5,9 @@ use Rattle.graph_core.specs.Graphs.{Instruction, Block, Graph}
 use Rattle.graph_core.specs.Uses.{target_of}
 use Rattle.graph_paths.specs.declared.marks.Marks.{Marks}
 use Rattle.graph_paths.specs.PathMarksTable.{bits_of}
-use Rattle.dead_pass_rule.specs.declared.counts.Counts.{Counts}
+use Rattle.dead_pass_rule.specs.declared.counts.FreeWrites.{FreeWrites}
 use Rattle.dead_pass_rule.specs.Asking.{Turns, is_going, TellsAsked}
-use Rattle.dead_pass_rule.specs.Counting.{IsCountOf, AreFree}
+use Rattle.dead_pass_rule.specs.Counting.{AreFree, TellsOf, assignments_of}
 use Rattle.dead_pass_rule.specs.Walks.{AreAsked, EachBehind, IsAskedWhere, IsToldWhere}
 
 -- a write is of one of so many names
@@ -26,11 +26,11 @@ AreRight turns names n is_reached free asked all =
     → is_right (is_going turns n (length rest)) is_reached (slice_index_or free (length before) false) (is_named names (target_of i)) (slice_index_or asked (length rest) false) ≡ true
 
 -- What a block writes is right by what is told of names, and that is told at its start which is asked for there.
-pub record IsRightBlock (turns : Turns) (counts : Counts) (all : List Block) (names : ℕ) (led : ℕ → Bool) (marks : Marks) (n : ℕ) (b : Block) : Type 0 where
+pub record IsRightBlock (turns : Turns) (frees : FreeWrites) (all : List Block) (names : ℕ) (led : ℕ → Bool) (marks : Marks) (n : ℕ) (b : Block) : Type 0 where
   pub tells : (x : ℕ) → x < names → TellsAsked turns (λ l. bits_of marks l x) (length all) x n (bits_of marks n x) b.instructions b.end
   pub free : List Bool
   pub asked : List Bool
-  pub are_free : (g : Graph) → IsCountOf g counts → AreFree g b.place b.instructions free
+  pub are_free : (g : Graph) → TellsOf g frees → AreFree (assignments_of frees) g b.place b.instructions free
   pub are_asked : AreAsked turns all (length all) names marks → EachBehind (IsAskedWhere turns all names n b.end) asked b.instructions
   pub are_told : EachBehind (IsToldWhere turns marks (length all) names n b.end) asked b.instructions
   pub right : AreRight turns names n (led n) free asked b.instructions

@@ -1,10 +1,12 @@
 -- How often places assign scalars, by two bits for each.
-use Rattle.std.specs.Prelude.{◌≡◌, ◌↔◌, ℕ, zero, suc, ◌+◌, ◌-◌, ◌<◌, ◌≤◌, ◌==◌, Bool, true, false, if◌then◌else◌, Option, List, [], ◌∷◌, length, ⊤}
-use Rattle.graph_core.specs.Graphs.{Instruction, Binding, ToScalar, ToObject, Graph}
+use Rattle.std.specs.Prelude.{◌≡◌, ◌↔◌, ℕ, zero, suc, ◌+◌, ◌-◌, ◌<◌, ◌≤◌, ◌==◌, Bool, true, false, if◌then◌else◌, Option, List, [], ◌∷◌, length, map, ⊤}
+use Rattle.places.specs.declared.flow.Assignment.{Assignment}
+use Rattle.graph_core.specs.Graphs.{Instruction, Binding, ToScalar, ToObject, Graph, scalar_view}
 use Rattle.graph_core.specs.Points.{assignments_in}
 use Rattle.graph_core.specs.Validity.{place_behind}
 use Rattle.graph_paths.specs.PathMarksTable.{bits_of}
 use Rattle.dead_pass_rule.specs.declared.counts.Counts.{Counts}
+use Rattle.dead_pass_rule.specs.declared.counts.FreeWrites.{FreeWrites}
 use Rattle.dead_pass_rule.specs.Certified.{IsFree}
 
 -- at least one
@@ -36,9 +38,18 @@ pub record IsCountOf (g : Graph) (counts : Counts) : Type 0 where
   pub scalars : counts.scalars ≡ length g.scalars
   pub counted : (p x : ℕ) → IsCountedAt counts p x (assignments_in g p x)
 
+-- What may go is told by how often places assign scalars, by the scalars, and by the assignments of a unit.
+abbrev pub assignments_of : FreeWrites → List Assignment
+assignments_of frees = frees.flow.now.assignments.items
+
+-- it is told of a graph by its counts and its scalars
+pub record TellsOf (g : Graph) (frees : FreeWrites) : Type 0 where
+  pub counts : IsCountOf g frees.counts
+  pub scalars : g.scalars ≡ map scalar_view frees.scalars.now
+
 -- it is told of each instruction whether what it writes may go; the first stands where this place is in force
-abbrev pub AreFree : Graph → (place : Option ℕ) → List Instruction → List Bool → Type 0
-AreFree g place [] [] = ⊤
-AreFree g place [] (v ∷ told) = ⊥
-AreFree g place (i ∷ rest) [] = ⊥
-AreFree g place (i ∷ rest) (v ∷ told) = ((v ≡ true) ↔ IsFree g place i) × AreFree g (place_behind (i ∷ []) place) rest told
+abbrev pub AreFree : List Assignment → Graph → (place : Option ℕ) → List Instruction → List Bool → Type 0
+AreFree assignments g place [] [] = ⊤
+AreFree assignments g place [] (v ∷ told) = ⊥
+AreFree assignments g place (i ∷ rest) [] = ⊥
+AreFree assignments g place (i ∷ rest) (v ∷ told) = ((v ≡ true) ↔ IsFree assignments g place i) × AreFree assignments g (place_behind (i ∷ []) place) rest told

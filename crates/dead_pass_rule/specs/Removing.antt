@@ -1,5 +1,6 @@
 -- What the removal of dead assignments makes of a graph.
 use Rattle.std.specs.Prelude.{◌≡◌, ℕ, Option, Some, None, List, [], ◌∷◌, ◌++◌, length, slice_get}
+use Rattle.places.specs.declared.flow.Assignment.{Assignment}
 use Rattle.graph_core.specs.Graphs.{NoteValue, Instruction, Note, Call, End, Block, Graph}
 use Rattle.graph_paths.specs.Reached.{IsReached}
 use Rattle.dead_pass_rule.specs.Idle.{Goes}
@@ -15,20 +16,20 @@ pub data StaysAs (g : Graph) (n : ℕ) (rest : List Instruction) (e : End) : Ins
   noted : {x : ℕ} {v w : NoteValue} → IsReached g n (Note x v ∷ rest) e → StaysAs g n rest e (Note x v) (Note x w)
 
 -- What is left of the instructions of a block, in their order.
-pub data AreReduced (g : Graph) (n : ℕ) (e : End) : (before after : List Instruction) → Type 0 where
-  ends : AreReduced g n e [] []
-  gone : {i : Instruction} {rest after : List Instruction} → Goes g n (i ∷ rest) e → AreReduced g n e rest after → AreReduced g n e (i ∷ rest) (without i ++ after)
-  stays : {i j : Instruction} {rest after : List Instruction} → (Goes g n (i ∷ rest) e → ⊥) → StaysAs g n rest e i j → AreReduced g n e rest after → AreReduced g n e (i ∷ rest) (j ∷ after)
+pub data AreReduced (assignments : List Assignment) (g : Graph) (n : ℕ) (e : End) : (before after : List Instruction) → Type 0 where
+  ends : AreReduced assignments g n e [] []
+  gone : {i : Instruction} {rest after : List Instruction} → Goes assignments g n (i ∷ rest) e → AreReduced assignments g n e rest after → AreReduced assignments g n e (i ∷ rest) (without i ++ after)
+  stays : {i j : Instruction} {rest after : List Instruction} → (Goes assignments g n (i ∷ rest) e → ⊥) → StaysAs g n rest e i j → AreReduced assignments g n e rest after → AreReduced assignments g n e (i ∷ rest) (j ∷ after)
 
 -- A block keeps its place and its end.
-pub record IsReducedBlock (g : Graph) (n : ℕ) (b c : Block) : Type 0 where
+pub record IsReducedBlock (assignments : List Assignment) (g : Graph) (n : ℕ) (b c : Block) : Type 0 where
   pub place : c.place ≡ b.place
   pub end : c.end ≡ b.end
-  pub instructions : AreReduced g n b.end b.instructions c.instructions
+  pub instructions : AreReduced assignments g n b.end b.instructions c.instructions
 
--- THE REMOVAL OF DEAD ASSIGNMENTS. The graph after is the one before without the writes that go: which these are, the graph before says. All else stays, but that notes may say
+-- THE REMOVAL OF DEAD ASSIGNMENTS, of a unit with these assignments. The graph after is the one before without the writes that go: which these are, the graph before says. All else stays, but that notes may say
 -- another value.
-pub record IsReduced (g h : Graph) : Type 0 where
+pub record IsReduced (assignments : List Assignment) (g h : Graph) : Type 0 where
   pub rest : h ≡ record g { blocks = h.blocks }
   pub count : length h.blocks ≡ length g.blocks
-  pub blocks : (n : ℕ) (b c : Block) → slice_get g.blocks n ≡ Some b → slice_get h.blocks n ≡ Some c → IsReducedBlock g n b c
+  pub blocks : (n : ℕ) (b c : Block) → slice_get g.blocks n ≡ Some b → slice_get h.blocks n ≡ Some c → IsReducedBlock assignments g n b c

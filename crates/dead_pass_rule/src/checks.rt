@@ -10,15 +10,15 @@ ghost use Rattle.dead_pass_rule.specs.Certified.{AreIdle};
 ghost use Rattle.dead_pass_rule.specs.Checked as checked;
 ghost use Rattle.dead_pass_rule.specs.Checked.{AreRight, IsRightBlock};
 ghost use Rattle.graph_paths.specs.Reached.{AreLed};
-ghost use Rattle.dead_pass_rule.specs.Counting.{IsCountOf};
 ghost use Rattle.dead_pass_rule.specs.Walks.{AreSameBelow, AreTold, IsTable, turn_of};
 
 use crate::asked::{asked_names, walk_back};
-use crate::counts::Counts;
+use crate::counts::FreeWrites;
 use crate::heights::Heights;
 use crate::turns::turn_at;
 use graph_core::{Block, Graph, Instr, Name};
 use graph_paths::{Marks, reached_blocks};
+use places::FlowTable;
 use std::alloc::{AllocError, Global};
 
 /// Whether a write is of one of so many names.
@@ -84,7 +84,7 @@ fn are_right(
 fn is_right_block(
     alloc: Global,
     turns: &[Vec<u32>],
-    counts: &Counts,
+    frees: &FreeWrites<'_>,
     reached: &Marks,
     names: u32,
     marks: &mut Marks,
@@ -97,12 +97,12 @@ fn is_right_block(
     requires told { AreTold (turn_of turns.now) (map block_view all.now) names marks.old }
     ensures table { OnOk result (IsTable (length all.now) names marks.new) }
     ensures same { IfOk result (λ ok. ok ≡ true → AreSameBelow (length all.now) marks.old marks.new) }
-    ensures right { IfOk result (λ ok. ok ≡ true → (b : BlockForm) → slice_get (map block_view all.now) number ≡ Some b → IsRightBlock (turn_of turns.now) counts.now (map block_view all.now) names (bits_of reached.now 0) marks.old number b) }
+    ensures right { IfOk result (λ ok. ok ≡ true → (b : BlockForm) → slice_get (map block_view all.now) number ≡ Some b → IsRightBlock (turn_of turns.now) frees.now (map block_view all.now) names (bits_of reached.now 0) marks.old number b) }
 {
     let blocks = all.len() as u32;
     let block = &all[number as usize];
     let asked = walk_back(alloc, turns, blocks, names, marks, number, block)?;
-    let Some(free) = counts.free_writes(alloc, block)? else {
+    let Some(free) = frees.free_writes(alloc, block)? else {
         return Ok(false);
     };
     let is_reached = reached.get(0, number);
@@ -121,7 +121,7 @@ fn is_right_block(
 fn are_right_blocks(
     alloc: Global,
     turns: &[Vec<u32>],
-    counts: &Counts,
+    frees: &FreeWrites<'_>,
     reached: &Marks,
     names: u32,
     marks: &mut Marks,
@@ -130,28 +130,29 @@ fn are_right_blocks(
     requires table { IsTable (length all.now) names marks.old }
     requires few { length all.now + 2 < 2 ^ 32 }
     requires told { AreTold (turn_of turns.now) (map block_view all.now) names marks.old }
-    ensures { IfOk result (λ ok. ok ≡ true → (n : ℕ) (b : BlockForm) → n < length all.now → slice_get (map block_view all.now) n ≡ Some b → IsRightBlock (turn_of turns.now) counts.now (map block_view all.now) names (bits_of reached.now 0) marks.old n b) }
+    ensures { IfOk result (λ ok. ok ≡ true → (n : ℕ) (b : BlockForm) → n < length all.now → slice_get (map block_view all.now) n ≡ Some b → IsRightBlock (turn_of turns.now) frees.now (map block_view all.now) names (bits_of reached.now 0) marks.old n b) }
 {
     for number in 0..all.len() as u32 {
-        if !is_right_block(alloc, turns, counts, reached, names, marks, number, all)? {
+        if !is_right_block(alloc, turns, frees, reached, names, marks, number, all)? {
             return Ok(false);
         }
     }
     Ok(true)
 }
 
-/// The blocks that paths reach, as bits of a row, where just the writes of a graph go which are idle and to which paths come. Which these are is told by their turns: each goes when
+/// The blocks that paths reach, as bits of a row, where just the writes of a graph go which are idle and to which paths come, in a unit of these assignments. Which these are is told by their turns: each goes when
 /// the computations that read what it writes are gone. `heights` bears out that they are gone before.
 ///
 /// None where other writes go, or the heights bear it not out.
 pub fn are_idle(
     alloc: Global,
     graph: &Graph,
+    flow: &FlowTable,
     turns: &[Vec<u32>],
     heights: Heights<'_>,
 ) -> Result<Option<Marks>, AllocError>
     ensures reached { IfOk result (λ o. IfSome o (λ reached. AreLed (graph_view graph.now).blocks (bits_of reached 0))) }
-    ensures idle { IfOk result (λ o. IfSome o (λ reached. AreIdle (graph_view graph.now) (is_going (turn_of turns.now)))) }
+    ensures idle { IfOk result (λ o. IfSome o (λ reached. AreIdle flow.now.assignments.items (graph_view graph.now) (is_going (turn_of turns.now)))) }
 {
     if graph.blocks.len() >= 0x7fff_ffff {
         return Ok(None);
@@ -161,12 +162,12 @@ pub fn are_idle(
         return Ok(None);
     }
     let reached = reached_blocks(alloc, blocks)?;
-    let Some(counts) = Counts::of(alloc, graph)? else {
+    let Some(frees) = FreeWrites::of(alloc, graph, flow)? else {
         return Ok(None);
     };
     let names = graph.name_count;
     let mut marks = asked_names(alloc, turns, names, blocks)?;
-    if are_right_blocks(alloc, turns, &counts, &reached, names, &mut marks, blocks)? {
+    if are_right_blocks(alloc, turns, &frees, &reached, names, &mut marks, blocks)? {
         Ok(Some(reached))
     } else {
         Ok(None)

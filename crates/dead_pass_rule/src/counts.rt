@@ -6,8 +6,9 @@ ghost use Rattle.graph_core.specs.Graphs.{instruction_view};
 ghost use Rattle.graph_core.specs.Validity as behind;
 
 use debug_records::Place;
-use graph_core::{Binding, Block, Graph, Instr};
+use graph_core::{Binding, Block, Graph, Instr, Name, Scalar};
 use graph_paths::Marks;
+use places::FlowTable;
 use std::alloc::{AllocError, Global};
 
 /// Which scalars the places from a first one on assign, and which more than once.
@@ -21,6 +22,14 @@ pub struct Counts {
     ghost rows: { marks.count ≡ places + places },
     ghost width: { marks.width ≡ scalars },
     ghost few: { places + places < 2 ^ 32 },
+}
+
+/// What tells which writes of a graph may go: how often places assign its scalars, and which variables the places of the unit assign.
+#[derive(Drop)]
+pub struct FreeWrites<'a> {
+    counts: Counts,
+    scalars: &'a [Scalar],
+    flow: &'a FlowTable,
 }
 
 /// Places from a first one on.
@@ -86,10 +95,9 @@ impl Counts {
     ghost use Rattle.std.specs.Prelude.{◌↔◌, ℕ, IfOk, IfSome, Some, false, if◌then◌else◌, length, map, true, ◌==◌, ◌&&◌, ◌||◌, Bool};
     ghost use Rattle.graph_core.specs.Graphs.{Block as BlockForm, Graph as GraphForm, binding_view, block_view, graph_view};
     ghost use Rattle.graph_core.specs.Paths.{is_bound, writes};
-    ghost use Rattle.graph_core.specs.Points.{is_place, writes_among};
+    ghost use Rattle.graph_core.specs.Points.{assignments_in, is_place, writes_among};
     ghost use Rattle.graph_core.specs.Validity.{total};
-    ghost use Rattle.dead_pass_rule.specs.Certified.{IsFree};
-    ghost use Rattle.dead_pass_rule.specs.Counting.{AreFree, IsCountOf, IsCountedAt, is_bound_by, one_if};
+    ghost use Rattle.dead_pass_rule.specs.Counting.{IsCountOf, IsCountedAt, is_bound_by, one_if};
 
     /// No scalar is assigned in these places.
     fn new(alloc: Global, first: u32, places: u32, scalars: u32) -> Result<Counts, AllocError>
@@ -236,21 +244,70 @@ impl Counts {
         }
     }
 
+    /// Whether a place assigns a scalar once. None where the place is none of these.
+    fn is_once(&self, place: u32, name: u32) -> Option<bool>
+        ensures { (g : GraphForm) → IsCountOf g self.now → name < length g.scalars → IfSome result (λ once. (once ≡ true) ↔ (assignments_in g place name ≡ 1)) }
+    {
+        if name >= self.scalars || place < self.first || place - self.first >= self.places {
+            return None;
+        }
+        let row = place - self.first;
+        Some(self.marks.get(row, name) && !self.marks.get(self.places + row, name))
+    }
+}
+
+impl<'a> FreeWrites<'a> {
+    ghost use Rattle.std.specs.Prelude.{◌≡◌, ◌↔◌, IfOk, IfSome, map, true};
+    ghost use Rattle.graph_core.specs.Graphs.{Graph as GraphForm, block_view, graph_view};
+    ghost use Rattle.dead_pass_rule.specs.Certified.{IsFree};
+    ghost use Rattle.dead_pass_rule.specs.Counting.{AreFree, TellsOf, assignments_of};
+    ghost use Rattle.dead_pass_rule.specs.Idle.{assigns_scalar};
+
+    /// What tells which writes of a graph may go, by the assignments of its unit.
+    ///
+    /// None where its places are more than rows have numbers.
+    pub fn of(
+        alloc: Global,
+        graph: &'a Graph,
+        flow: &'a FlowTable,
+    ) -> Result<Option<FreeWrites<'a>>, AllocError>
+        ensures tells { IfOk result (λ o. IfSome o (TellsOf (graph_view graph.now))) }
+        ensures same { IfOk result (λ o. IfSome o (λ frees. assignments_of frees ≡ flow.now.assignments.items)) }
+    {
+        let Some(counts) = Counts::of(alloc, graph)? else {
+            return Ok(None);
+        };
+        Ok(Some(FreeWrites {
+            counts,
+            scalars: &graph.scalars,
+            flow,
+        }))
+    }
+
+    /// Whether a place assigns the variable of a scalar.
+    fn assigns(&self, place: Place, name: Name) -> bool
+        ensures { (g : GraphForm) → TellsOf g self.now → result ≡ assigns_scalar (assignments_of self.now) g place.0 name.0 }
+    {
+        match self.scalars.get(name.0 as usize) {
+            Some(scalar) => self.flow.assigns(place, scalar.var),
+            None => false,
+        }
+    }
+
     /// Whether what an instruction writes where a place is in force may go. None where the place is none of these.
     fn is_free(&self, place: Option<Place>, instruction: &Instr) -> Option<bool>
-        ensures { (g : GraphForm) → IsCountOf g self.now → IfSome result (λ free. (free ≡ true) ↔ IsFree g (option_map (λ (q : declared-place.Place). q.0) place) (instruction_view instruction.now)) }
+        ensures { (g : GraphForm) → TellsOf g self.now → IfSome result (λ free. (free ≡ true) ↔ IsFree (assignments_of self.now) g (option_map (λ (q : declared-place.Place). q.0) place) (instruction_view instruction.now)) }
     {
         let (Some(place), Some(name)) = (place, instruction.target()) else {
             return Some(false);
         };
-        if name.0 >= self.scalars {
+        if (name.0 as usize) >= self.scalars.len() {
             return Some(true);
         }
-        if place.0 < self.first || place.0 - self.first >= self.places {
-            return None;
+        match self.counts.is_once(place.0, name.0) {
+            Some(once) => Some(once && self.assigns(place, name)),
+            None => None,
         }
-        let row = place.0 - self.first;
-        Some(self.marks.get(row, name.0) && !self.marks.get(self.places + row, name.0))
     }
 
     /// Tells of each instruction whether what it writes may go. The first stands where this place is in force.
@@ -260,7 +317,7 @@ impl Counts {
         place: Option<Place>,
         instructions: &[Instr],
     ) -> Result<Option<Vec<bool>>, AllocError>
-        ensures { IfOk result (λ o. IfSome o (λ told. (g : GraphForm) → IsCountOf g self.now → AreFree g (option_map (λ (q : declared-place.Place). q.0) place) (map instruction_view instructions.now) told.items)) }
+        ensures { IfOk result (λ o. IfSome o (λ told. (g : GraphForm) → TellsOf g self.now → AreFree (assignments_of self.now) g (option_map (λ (q : declared-place.Place). q.0) place) (map instruction_view instructions.now) told.items)) }
     {
         let mut told = Vec::new(alloc);
         let mut place = place;
@@ -276,7 +333,7 @@ impl Counts {
 
     /// Tells of each instruction of a block whether what it writes may go.
     pub fn free_writes(&self, alloc: Global, block: &Block) -> Result<Option<Vec<bool>>, AllocError>
-        ensures { IfOk result (λ o. IfSome o (λ told. (g : GraphForm) → IsCountOf g self.now → AreFree g (block_view block.now).place (block_view block.now).instructions told.items)) }
+        ensures { IfOk result (λ o. IfSome o (λ told. (g : GraphForm) → TellsOf g self.now → AreFree (assignments_of self.now) g (block_view block.now).place (block_view block.now).instructions told.items)) }
     {
         self.free_all(alloc, block.place, &block.instructions)
     }

@@ -8,18 +8,23 @@ use crate::readers::Readers;
 use dead_pass_writes::PlaceWrites;
 use graph_core::Graph;
 use graph_paths::{flag, put_entry, reached_in_order};
+use places::FlowTable;
 use std::alloc::{AllocError, Global};
 
-/// Whether a write may go, if nothing reads it: it is of a temporary, or the only one of its scalar in its place.
-fn may_go(graph: &Graph, writes: &PlaceWrites, point: &Point) -> bool {
+/// Whether a write may go, if nothing reads it: it is of a temporary, or the only one of its scalar in its place, which assigns its variable.
+fn may_go(graph: &Graph, flow: &FlowTable, writes: &PlaceWrites, point: &Point) -> bool {
     let Some(name) = point.target else {
         return false;
     };
-    if (name.0 as usize) >= graph.scalars.len() {
+    let Some(scalar) = graph.scalars.get(name.0 as usize) else {
         return true;
-    }
+    };
     match writes.only(point.place.0, name.0) {
-        Some(spot) => spot.block == point.block && spot.left == point.left,
+        Some(spot) => {
+            spot.block == point.block
+                && spot.left == point.left
+                && flow.assigns(point.place, scalar.var)
+        }
         None => false,
     }
 }
@@ -28,12 +33,13 @@ fn may_go(graph: &Graph, writes: &PlaceWrites, point: &Point) -> bool {
 fn all_that_may_go(
     alloc: Global,
     graph: &Graph,
+    flow: &FlowTable,
     points: &Points,
     writes: &PlaceWrites,
 ) -> Result<Vec<bool>, AllocError> {
     let mut flags = Vec::new(alloc);
     for point in points.all() {
-        flags.push(may_go(graph, writes, point))?;
+        flags.push(may_go(graph, flow, writes, point))?;
     }
     Ok(flags)
 }
@@ -133,17 +139,18 @@ fn least(
     Ok(turns)
 }
 
-/// The writes of a graph that go, in turn: some path comes to each, it writes a temporary, or is the only write of its scalar in its place, and each read that it
+/// The writes of a graph that go, in turn: some path comes to each, it writes a temporary, or is the only write of its scalar in its place, which assigns its variable, and each read that it
 /// reaches is by a computation that goes before (Kennedy 1981, removed one by one: what keeps itself alive, as `i = i + 1` in a loop, stays).
 pub fn idle_writes(
     alloc: Global,
     graph: &Graph,
+    flow: &FlowTable,
     points: &Points,
     writes: &PlaceWrites,
 ) -> Result<Found, AllocError> {
     let mut backward = reached_in_order(alloc, &graph.blocks)?;
     backward.reverse();
-    let may_go = all_that_may_go(alloc, graph, points, writes)?;
+    let may_go = all_that_may_go(alloc, graph, flow, points, writes)?;
     let faint = faint_writes(alloc, graph, points, &backward, &may_go)?;
     let mut readers = readers_of(alloc, graph, points, &backward, &faint)?;
     let turns = least(alloc, points, &mut readers, &faint)?;

@@ -5,7 +5,7 @@ use Rattle.graph_paths.specs.PathMarksTable.{bits_of}
 use Rattle.dead_pass_rule.specs.Asking.{is_going}
 use Rattle.dead_pass_rule.specs.Removing.{IsReduced}
 use Rattle.dead_pass_rule.specs.Walks.{turn_of}
-use Rattle.dead_pass_notes.specs.Idle.{graph_of}
+use Rattle.dead_pass_notes.specs.Idle.{assignments_of, graph_of}
 use Rattle.dead_pass_notes.specs.Said.{SaysWhatItShall}
 use Rattle.dead_pass_notes.specs.Sources.{HasRoom}
 use Rattle.dead_pass_notes.specs.RemovalNotesStale.{AreKnown}
@@ -19,12 +19,12 @@ use Rattle.dead_pass.proofs.notes.graph_left.Goals as goal
 pub returns-then-stays-clause-left : goal.returns-then-stays-clause-left
 returns-then-stays-clause-left c =
     let idle = c.args.idle.now in
-    subst (λ (g : Graph). IsReduced (graph_of idle) g) (sym c.in_ok-same.ensures) (graph_stays (graph_of idle) (is_going (turn_of idle.turns.items)) c.requires.goes (bits_of idle.reached 0) c.requires.led (c.stays.ensures c.if-stays.true))
+    subst (λ (g : Graph). IsReduced (assignments_of idle) (graph_of idle) g) (sym c.in_ok-same.ensures) (graph_stays (graph_of idle) (is_going (turn_of idle.turns.items)) c.requires.goes (bits_of idle.reached 0) c.requires.led (c.stays.ensures c.if-stays.true))
 
 pub returns-then-stays-clause-notes : goal.returns-then-stays-clause-notes
 returns-then-stays-clause-notes c = λ log u told valid.
     (let idle = c.args.idle.now in
-    subst (λ (h : Graph). SaysWhatItShall log (graph_of idle) h) (sym c.in_ok-same.ensures) (graph_same log idle c.requires (c.stays.ensures c.if-stays.true) (graph_placed u (graph_of idle) valid)))
+    subst (λ (h : Graph). SaysWhatItShall (assignments_of idle) log (graph_of idle) h) (sym c.in_ok-same.ensures) (graph_same log idle c.requires (c.stays.ensures c.if-stays.true) (graph_placed u (graph_of idle) valid)))
 
 pub returns-clause-notes : goal.returns-clause-notes
 returns-clause-notes c = λ log u told valid.
@@ -54,4 +54,4 @@ returns-clause-left c =
     let one = ap (λ x. made (map binding_view x) (map scalar_view c.in_ok-from_slice-2.field-0.items) c.in_ok-from_slice-3.field-0.items) (c.in_ok-from_slice.ensures.items ∙ c.deref-2.ensures.value) in
     let two = ap (λ x. made (map binding_view g.parameters.items) (map scalar_view x) c.in_ok-from_slice-3.field-0.items) (c.in_ok-from_slice-2.ensures.items ∙ c.deref-3.ensures.value) in
     let three = ap (λ x. made (map binding_view g.parameters.items) (map scalar_view g.scalars.items) x) (c.in_ok-from_slice-3.ensures.items ∙ c.deref-4.ensures.value) in
-    subst (λ (h : Graph). IsReduced (graph_view g) h) (sym (one ∙ two ∙ three)) (graph_reduced (graph_view g) (is_going (turn_of idle.turns.items)) c.requires.goes (bits_of idle.reached 0) c.requires.led after all)
+    subst (λ (h : Graph). IsReduced (assignments_of idle) (graph_view g) h) (sym (one ∙ two ∙ three)) (graph_reduced (graph_view g) (is_going (turn_of idle.turns.items)) c.requires.goes (bits_of idle.reached 0) c.requires.led after all)

@@ -3,7 +3,7 @@ use Rattle.graph_core.specs.Graphs.{Block, block_view, instruction_view}
 use Rattle.graph_paths.specs.PathMarksTable.{bits_of}
 use Rattle.dead_pass_rule.specs.Asking.{is_going}
 use Rattle.dead_pass_rule.specs.Walks.{turn_of}
-use Rattle.dead_pass_notes.specs.Idle.{graph_of}
+use Rattle.dead_pass_notes.specs.Idle.{assignments_of, graph_of}
 use Rattle.dead_pass_notes.specs.Said.{AreSaid}
 use Rattle.dead_pass.specs.LeftBy.{AreLeftBy, IsLeftBlockBy, reduced, unreached}
 use Rattle.dead_pass.proofs.Saying.{unreached_said}
@@ -17,7 +17,7 @@ pub returns-then-not-is_reached-clause-said : goal.returns-then-not-is_reached-c
 returns-then-not-is_reached-clause-said c = λ log ready is.
     (let idle = c.args.idle.now in
     let b = block_view c.args.block.now in
-    subst (λ (d : Block). AreSaid log (graph_of idle) c.args.number b.end b.instructions d.instructions) (sym c.in_ok-same.ensures)
+    subst (λ (d : Block). AreSaid (assignments_of idle) log (graph_of idle) c.args.number b.end b.instructions d.instructions) (sym c.in_ok-same.ensures)
     (unreached_said log idle ready.borne_out c.args.number b is (sym c.is_reached.ensures ∙ c.if-not-is_reached.true) [] b.instructions refl))
 
 pub returns-clause-left : goal.returns-clause-left

@@ -23,8 +23,8 @@ loop-number-preserved c =
     record {
       table = c.in_ok-is_right_block.ensures.table;
       same = below_on (length xs) c.args.marks.now c.loop-number.marks c.is_right_block.new.marks c.loop-number.invariant.same (c.in_ok-is_right_block.ensures.same c.if-not-branch.false);
-      right = right_blocks (λ m (d : Block). IsRightBlock T c.args.counts.now (map block_view xs) c.args.names (bits_of c.args.reached.now 0) c.args.marks.now m d) (map block_view xs) k c.loop-number.invariant.right
-          (λ d there. right_same T c.args.counts.now (map block_view xs) c.args.names (bits_of c.args.reached.now 0) c.args.marks.now c.loop-number.marks k d (omega (arith, small, count)) (λ m bit lt. c.loop-number.invariant.same m bit (omega (arith, lt, count))) (c.in_ok-is_right_block.ensures.right c.if-not-branch.false d there));
+      right = right_blocks (λ m (d : Block). IsRightBlock T c.args.frees.now (map block_view xs) c.args.names (bits_of c.args.reached.now 0) c.args.marks.now m d) (map block_view xs) k c.loop-number.invariant.right
+          (λ d there. right_same T c.args.frees.now (map block_view xs) c.args.names (bits_of c.args.reached.now 0) c.args.marks.now c.loop-number.marks k d (omega (arith, small, count)) (λ m bit lt. c.loop-number.invariant.same m bit (omega (arith, lt, count))) (c.in_ok-is_right_block.ensures.right c.if-not-branch.false d there));
     }
 
 pub returns : goal.returns

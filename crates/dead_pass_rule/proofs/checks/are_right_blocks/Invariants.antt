@@ -10,5 +10,5 @@ abbrev pub invariant-loop-number : goal.invariant-loop-number
 invariant-loop-number l = record {
   table : IsTable (length l.all) l.names l.marks;
   same : AreSameBelow (length l.all) l.fn.marks l.marks;
-  right : (n : ℕ) (b : Block) → n < l.number → slice_get (map block_view l.all) n ≡ Some b → IsRightBlock (turn_of l.turns) l.counts (map block_view l.all) l.names (bits_of l.reached 0) l.fn.marks n b;
+  right : (n : ℕ) (b : Block) → n < l.number → slice_get (map block_view l.all) n ≡ Some b → IsRightBlock (turn_of l.turns) l.frees (map block_view l.all) l.names (bits_of l.reached 0) l.fn.marks n b;
 }

@@ -3,12 +3,11 @@ use Rattle.std.specs.Prelude.{◌↔◌}
 use Rattle.std.proofs.lemmas.Result.{IfOk-weaker}
 use Rattle.graph_core.specs.Graphs.{note_view}
 use Rattle.graph_paths.specs.PathMarksTable.{bits_of}
-use Rattle.dead_pass_notes.specs.Idle.{graph_of}
+use Rattle.dead_pass_notes.specs.Idle.{assignments_of, graph_of}
 use Rattle.dead_pass_notes.specs.Lost.{IsToldLost, said_by}
 use Rattle.dead_pass_notes.specs.Sources.{IsSaidAt}
 use Rattle.dead_pass_notes.proofs.Saying.{lost_told, said_lost, said_same, told_lost}
 use Rattle.dead_pass_notes.proofs.notes.Notes.said.Goals as goal
-
 pub returns-then-not-is_lost-clause-said : goal.returns-then-not-is_lost-clause-said
 returns-then-not-is_lost-clause-said c =
     let before = note_view c.args.before.now in
@@ -20,7 +19,7 @@ returns-then-not-is_lost-clause-said c =
     let x = c.args.of.0 in
     let stale = c.args.self.now.stale in
     let lost = subst (λ (n : ℕ). (c.is_lost.result ≡ true) ↔ IsToldLost (bits_of stale n) x before) all.blocks c.is_lost.ensures in
-    subst (λ w. IsSaidAt log g note x before w) (sym is)
+    subst (λ w. IsSaidAt (assignments_of idle) log g note x before w) (sym is)
     (said_same log g note x before (c.dropped.ensures.none known.borne_out c.in_default.is)
     (λ l. true≢false (sym (lost.1 (told_lost idle (bits_of stale (length g.blocks)) note known.tells log x before l)) ∙ c.if-not-is_lost.true)))))
     c.duplicate.ensures
@@ -37,7 +36,7 @@ returns-clause-said c =
     let x = c.args.of.0 in
     let stale = c.args.self.now.stale in
     let lost = subst (λ (n : ℕ). (c.is_lost.result ≡ true) ↔ IsToldLost (bits_of stale n) x before) all.blocks c.is_lost.ensures in
-    subst (λ w. IsSaidAt log g note x before w) (sym is)
+    subst (λ w. IsSaidAt (assignments_of idle) log g note x before w) (sym is)
     (said_lost log g note x before change (c.dropped.ensures.none known.borne_out c.in_default.is) (lost_told idle (bits_of stale (length g.blocks)) note known.tells log x before (lost.0 c.if-not-is_lost.false))
     (c.first_removed-change.ensures.some log told) (c.first_removed-change.ensures.none log told))))
     c.gone_by.ensures

@@ -12,7 +12,7 @@ use Rattle.dead_pass_notes.proofs.PlaceWaysPoints.{end_there}
 use Rattle.dead_pass_notes.proofs.ways.Ways.is_written_between.Goals as goal
 
 pub returns-then-branch-clause-exact : goal.returns-then-branch-clause-exact
-returns-then-branch-clause-exact c = λ ready point.
+returns-then-branch-clause-exact c = λ assignments ready point.
     (let g = graph_view c.args.graph.now in
     let goes = is_going (turn_of c.args.turns.now) in
     let stops = ap (λ l. scan_of goes c.args.to c.args.name c.args.from.block false l) (sym c.instructions_left-rest.ensures) ∙ c.in_ok-visit.ensures.found c.if-branch.true in
@@ -31,13 +31,13 @@ returns-clause-exact c =
     let end : end_view b.end ≡ end_at g n = sym (end_there g n (block_view b) at) in
     let rest = c.instructions_left-rest.ensures in
     IfOk-weaker c.search.result (λ is. IsReady g goes to now → AreSeen now → (is ≡ true) ↔ SomeComes g to y now.ahead.items) _
-    (λ is exact ready point.
+    (λ is exact assignments ready point.
     (let begun = c.begin.ensures in
     let visited = c.in_ok-visit.ensures in
     let size = visited.count ∙ begun.count in
     let grown = subst (λ e. HasGrown e (scan_of goes to y n false (left_at g n c.args.from.left)) c.begin.new.self.ahead.items now.ahead.items) end (subst (λ l. HasGrown (end_view b.end) (scan_of goes to y n false l) c.begin.new.self.ahead.items now.ahead.items) rest visited.grown) in
     let on = subst (λ e. GoesOn (length g.blocks) now.ahead.items e (scan_of goes to y n false (left_at g n c.args.from.left))) end (subst (λ l. GoesOn (length g.blocks) now.ahead.items (end_view b.end) (scan_of goes to y n false l)) rest (visited.on c.if-branch.false (length g.blocks) (begun.count ∙ ready.count) begun.fresh)) in
-    let some = exact (record { idle = ready.idle; point = ready.point; count = size ∙ ready.count }) (visited.seen begun.fresh) in
+    let some = exact assignments (record { idle = ready.idle; point = ready.point; count = size ∙ ready.count }) (visited.seen begun.fresh) in
     let between = found_on g goes ready.idle to y ready.point n c.args.from.left point c.begin.new.self.ahead.items now.ahead.items begun.none grown on in
     ((λ e. between.0 (some.0 e)), (λ w. some.1 (between.1 w)))))
     c.search.ensures.exact

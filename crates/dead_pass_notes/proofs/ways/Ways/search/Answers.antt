@@ -19,18 +19,18 @@ loop-at-init c = record {
   count = refl;
   seen = λ s. s;
   within = omega arith;
-  searched = λ ready s. searched_first (graph_view c.args.graph.now) (is_going (turn_of c.args.turns.now)) ready.idle c.args.sought.to c.args.sought.name ready.point c.args.self.now.ahead.items;
+  searched = λ assignments ready s. searched_first (graph_view c.args.graph.now) (is_going (turn_of c.args.turns.now)) ready.idle c.args.sought.to c.args.sought.name ready.point c.args.self.now.ahead.items;
 }
 
 pub returns-in_default-clause-exact : goal.returns-in_default-clause-exact
-returns-in_default-clause-exact c = λ ready seen.
+returns-in_default-clause-exact c = λ assignments ready seen.
     (let same = ap length c.deref.ensures.value in
     let past = c.in_default.ensures.lookup.3 in
-    let all = searched_all (graph_view c.args.graph.now) (is_going (turn_of c.args.turns.now)) ready.idle c.args.sought.to c.args.sought.name ready.point c.args.self.now.ahead.items c.loop-at.self.ahead.items c.loop-at.at (omega (arith, same, past)) (c.loop-at.invariant.searched ready seen) in
+    let all = searched_all (graph_view c.args.graph.now) (is_going (turn_of c.args.turns.now)) ready.idle c.args.sought.to c.args.sought.name ready.point c.args.self.now.ahead.items c.loop-at.self.ahead.items c.loop-at.at (omega (arith, same, past)) (c.loop-at.invariant.searched assignments ready seen) in
     ((λ e. absurd (true≢false (sym e))), (λ some. absurd (all some))))
 
 pub returns-then-branch-clause-exact : goal.returns-then-branch-clause-exact
-returns-then-branch-clause-exact c = λ ready seen.
+returns-then-branch-clause-exact c = λ assignments ready seen.
     (let b = c.in-Some-get.block.now in
     let w = c.in-Some.found.now in
     let g = graph_view c.args.graph.now in
@@ -38,7 +38,7 @@ returns-then-branch-clause-exact c = λ ready seen.
     let is : slice_get c.loop-at.self.ahead.items c.loop-at.at ≡ Some w = there_self c.deref.result.now c.loop-at.self.ahead.items c.loop-at.at w c.deref.ensures.value c.in-Some.ensures.lookup.3.0 c.in-Some.ensures.lookup.1 in
     let at : slice_get g.blocks w.block ≡ Some (block_view b) = there block_view c.deref-in-loop-at.result.now c.args.graph.now.blocks.items w.block b c.deref-in-loop-at.ensures.value c.in-Some-get.ensures.lookup.3.0 c.in-Some-get.ensures.lookup.1 in
     let stops = subst (λ xs. scan_of goes c.args.sought.to c.args.sought.name w.block w.is_written (map instruction_view xs) ≡ Stops true) c.deref-in-Some-get.ensures.value (c.in_ok-visit.ensures.found c.if-branch.true) in
-    ((λ _. searched_found g goes ready.idle c.args.sought.to c.args.sought.name ready.point c.args.self.now.ahead.items c.loop-at.self.ahead.items c.loop-at.at w (block_view b) is at stops (c.loop-at.invariant.searched ready seen)), (λ _. refl)))
+    ((λ _. searched_found g goes ready.idle c.args.sought.to c.args.sought.name ready.point c.args.self.now.ahead.items c.loop-at.self.ahead.items c.loop-at.at w (block_view b) is at stops (c.loop-at.invariant.searched assignments ready seen)), (λ _. refl)))
 
 pub loop-at-preserved : goal.loop-at-preserved
 loop-at-preserved c =
