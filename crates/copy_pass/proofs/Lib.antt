@@ -2,3 +2,4 @@ mod Instructions
 mod OfBlocks
 mod Operands
 pub mod Keeping
+pub mod LogsWell

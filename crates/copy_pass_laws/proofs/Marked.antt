@@ -11,7 +11,7 @@ use Rattle.graph_core.specs.Bounds.{most_words}
 use Rattle.graph_core.specs.WellMarked.{InPlace, ComesToMarker, IsVariable, IsLocal, WasTaken, WasSunk, WrittenIn, ArePaired, MayStand, ReadsAcross, moved, sunk, IsRightNote, IsWellMarked, AreWellMarked}
 use Rattle.copy_pass_rule.specs.Alike.{IsReadFor, AreAlikeInstructions, AreAlikeBlocks, AreAlike}
 use Rattle.copy_pass_rule.proofs.Lists.{among_left}
-use Rattle.copy_pass_rule.proofs.Shapes.{same_target, same_targets, same_behind}
+use Rattle.copy_pass_rule.proofs.Shapes.{same_computation, same_target, same_targets, same_behind}
 use Rattle.copy_pass_laws.specs.Alike.{AreAlikeUnits}
 use Rattle.copy_pass_laws.proofs.CopyMarksLists.{PairsAt, pairs_after, pairs_at, pairs_before, pairs_turned}
 use Rattle.copy_pass_laws.proofs.Instructions.{alike_writes, alike_call, alike_return, alike_reads, alike_end_reads, only_marker, only_note, only_zero, only_copy, instructions_turned, read_turned, read_itself}
@@ -251,7 +251,7 @@ module _ (u v : UnitForm) (g h : Graph) (alike : AreAlike g h) (old : IsWellMark
 
   -- What may read across places may do so still.
   across_still : v.assignments ≡ u.assignments → (hist history : History) (i j : Instruction) → AreAlikeInstructions Reads i j → place_of history ≡ place_of hist → ReadsAcross u g history j → ReadsAcross v h hist i
-  across_still assignments hist history i j one place (moved t target made) = moved t (sym (same_target Reads i j one) ∙ target) (subst (λ k. k ≤ t) (sym first_moved) made)
+  across_still assignments hist history i j one place (moved t target made computes) = moved t (sym (same_target Reads i j one) ∙ target) (subst (λ k. k ≤ t) (sym first_moved) made) (sym (same_computation Reads i j one) ∙ computes)
   across_still assignments hist history i j one place (sunk x variable p target of at unassigned) =
       sunk x variable p (sym (same_target Reads i j one) ∙ target) (subst (λ ss. option_map (λ (s : Scalar). s.variable) (slice_get ss x) ≡ Some variable) (sym scalars) of)
       (sym place ∙ at) (ap (λ all. assigns all p variable) assignments ∙ unassigned)

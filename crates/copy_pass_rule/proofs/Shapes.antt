@@ -3,7 +3,7 @@ use Rattle.std.proofs.Common.{◌≡◌, ℕ, Option, Some, List, [], ◌∷◌,
 use Rattle.std.specs.Prelude.{slice_get}
 use Rattle.event_runs.specs.Agreement.{Pairs}
 use Rattle.graph_core.specs.Graphs.{Instruction, End, Block, Graph}
-use Rattle.graph_core.specs.Uses.{target_of, targets_of}
+use Rattle.graph_core.specs.Uses.{is_computation, target_of, targets_of}
 use Rattle.graph_core.specs.Validity.{total, counts, instructions_of, arguments_in, arguments_of, markers_in, markers_of_blocks, markers_of, place_behind, place_at_end, KeepsPlace, IsKept, HasPlace}
 use Rattle.copy_pass_rule.specs.Alike.{IsReadFor, AreAlikeOperands, AreAlikeInstructions, marker, call, AreAlikeEnds, jump, AreAlikeBlocks, AreAlike}
 use Rattle.copy_pass_rule.proofs.Lists.{as_many, same_total, carried_at}
@@ -25,6 +25,11 @@ module _ (Reads : (x read : ℕ) → Type 0) where
   pub same_target : (i j : Instruction) → AreAlikeInstructions Reads i j → target_of j ≡ target_of i
   same_target i j marker = refl
   same_target i j _ = refl
+
+  -- They are computations, or are none.
+  pub same_computation : (i j : Instruction) → AreAlikeInstructions Reads i j → is_computation j ≡ is_computation i
+  same_computation i j marker = refl
+  same_computation i j _ = refl
 
   -- One more instruction on each side begins the same place, or both begin none.
   markers_next : (i j : Instruction) → AreAlikeInstructions Reads i j → (is js : List Instruction) → markers_in js ≡ markers_in is → markers_in (j ∷ js) ≡ markers_in (i ∷ is)

@@ -7,7 +7,7 @@ use Rattle.debug_records.specs.declared.change.Kind.TheVariants.{Removed}
 use Rattle.dead_pass.specs.Notes.{SayWhatTheyShall}
 use Rattle.graph_core.specs.Graphs.{Graph, UnitForm}
 use Rattle.graph_core.specs.Validity.{IsValid}
-use Rattle.graph_core.specs.WellMarked.{WasTaken, IsWellMarked, AreWellMarked}
+use Rattle.graph_core.specs.WellMarked.{WasTaken, WasSunk, IsWellMarked, AreWellMarked}
 use Rattle.pass_law.specs.Changes.{AddsChangesOf, logged_as}
 use Rattle.pass_law.specs.Kept.{EachFunction, ShareTheSame}
 use Rattle.dead_pass_rule.specs.Removing.{IsReduced}
@@ -27,11 +27,16 @@ module _ (u v : UnitForm) (marked : AreWellMarked u) (shared : ShareTheSame u v)
       subst (λ l. WasTaken l p variable) (sym adds.log)
       (record { change = r.change; logged = among_left r.change u.log (map (logged_as pass Removed) adds.cases) r.logged; taken = r.taken; at = r.at; of = r.of })
 
+  -- What sank by the log before sank by the log after.
+  sunk_still : (variable : ℕ) → WasSunk u.log variable → WasSunk v.log variable
+  sunk_still variable s =
+      subst (λ l. WasSunk l variable) (sym adds.log) (record { change = s.change; logged = among_left s.change u.log (map (logged_as pass Removed) adds.cases) s.logged; sunk = s.sunk; of = s.of })
+
   -- What is made of a function is well marked.
   function_marked : (f : ℕ) (g h : Graph) → slice_get u.graphs f ≡ Some g → slice_get v.graphs f ≡ Some h → IsReduced u.assignments g h → SaysWhatItShall u.assignments v.log g h → IsWellMarked v h
   function_marked f g h stood stands reduced said =
       let made : IsMade u v.log g h = function_made u v marked pass adds f g h stood stands reduced said in
-      subst (λ k. IsWellMarked v k) (sym made.is) (graph_marked u v shared g h.blocks made.taken removed_still)
+      subst (λ k. IsWellMarked v k) (sym made.is) (graph_marked u v shared g h.blocks made.taken removed_still sunk_still)
 
   -- So is each function of the unit after.
   functions_marked : EachFunction (IsReduced u.assignments) u.graphs v.graphs → SayWhatTheyShall u v → (f : ℕ) (h : Graph) → slice_get v.graphs f ≡ Some h → IsWellMarked v h

@@ -1,14 +1,17 @@
 -- Writes that went along a path, and the entry: a parameter's scalar is not stale in the entry's place.
-use Rattle.std.proofs.Common.{◌≡◌, ℕ, suc, ◌<◌, inl, inr, true, false, true≢false, Option, Some, List, [], ◌∷◌, ◌++◌, length, refl, sym, ap, ◌∙◌, subst, arith}
-use Rattle.std.specs.Prelude.{◌==◌, ◌&&◌, slice_get}
+use Rattle.std.proofs.Common.{◌≡◌, ℕ, zero, suc, ◌<◌, inl, inr, true, false, true≢false, Option, Some, None, List, [], ◌∷◌, ◌++◌, length, refl, sym, ap, ◌∙◌, subst, arith}
+use Rattle.std.specs.Prelude.{◌==◌, ◌&&◌, option_map, slice_get}
+use Rattle.std.specs.Option.{option_map_or}
 use Rattle.std.proofs.lemmas.Bool.{cases_Bool}
-use Rattle.std.proofs.lemmas.Option.{same_Some}
+use Rattle.std.proofs.lemmas.Option.{none-some, same_Some}
+use Rattle.places.specs.Flow.{assigns}
 use Rattle.places.specs.declared.flow.Assignment.{Assignment}
 use Rattle.graph_core.specs.declared.value.Value.{Value}
-use Rattle.graph_core.specs.Graphs.{Instruction, Marker, Note, Move, Operate, Truncate, Same, Address, Load, Store, Zero, CopyWords, Call, End, Block, Graph, Logged, UnitForm}
+use Rattle.graph_core.specs.Graphs.{Instruction, Marker, Note, Move, Operate, Truncate, Same, Address, Load, Store, Zero, CopyWords, Call, Scalar, End, Block, Graph, Logged, UnitForm}
 use Rattle.graph_core.specs.Paths.{History, Way, stays, passes, goes, Path, path, place_by, place_of, is_marker, is_bound}
 use Rattle.graph_core.specs.Points.{StandsWith, assignments_in}
 use Rattle.graph_core.specs.Uses.{target_of}
+use Rattle.graph_core.specs.WellMarked.{IsVariable}
 use Rattle.graph_core_weights.proofs.Standing.{StandsSo, path_stands, marker_once}
 use Rattle.dead_pass_rule.specs.Idle.{MayGo, assigns_scalar, IsIdle, idle, Goes}
 use Rattle.dead_pass_notes.specs.Stale.{Went, IsStale, went, before as stale_before}
@@ -62,7 +65,21 @@ plain_target x (Zero o w) target = refl
 plain_target x (CopyWords o w v) target = refl
 plain_target x (Call y f all) target = refl
 
--- A write of a scalar that goes stands in a place that assigns the scalar once.
+-- A number whose scalar has a variable is that of a scalar.
+pub variable_scalar : (all : List Scalar) (x variable : ℕ) → option_map (λ (s : Scalar). s.variable) (slice_get all x) ≡ Some variable → x < length all
+variable_scalar [] x variable is = absurd (none-some variable is)
+variable_scalar (s ∷ all) zero variable is = omega arith
+variable_scalar (s ∷ all) (suc x) variable is = (let later = variable_scalar all x variable is in omega (arith, later))
+
+-- A place assigns the variable of a scalar just where it assigns the variable.
+pub scalar_assigns : (assignments : List Assignment) (g : Graph) (p x variable : ℕ) → IsVariable g x variable → assigns_scalar assignments g p x ≡ assigns assignments p variable
+scalar_assigns assignments g p x variable is = by_scalar (slice_get g.scalars x) is
+  where
+    by_scalar : (o : Option Scalar) → option_map (λ (s : Scalar). s.variable) o ≡ Some variable → option_map_or (λ (s : Scalar). assigns assignments p s.variable) o false ≡ assigns assignments p variable
+    by_scalar None none = absurd (none-some variable none)
+    by_scalar (Some s) some = ap (assigns assignments p) (same_Some s.variable variable some)
+
+-- A write of a scalar that goes stands in a place that assigns its variable, and writes it once.
 pub record IsOnceIn (assignments : List Assignment) (g : Graph) (x m : ℕ) (rest : List Instruction) (e : End) : Type 0 where
   pub place : ℕ
   pub stands : StandsWith g place m rest e
@@ -85,6 +102,14 @@ pub goes_once : {assignments : List Assignment} → (g : Graph) (x m : ℕ) (j :
 goes_once g x m j more f target less it_goes = idle_once g x m j more f target less it_goes.idle
 
 module _ (u : UnitForm) (log : List Logged) (g : Graph) (blocks : List Block) (taken : IsTaken u log g blocks) where
+  -- A write of a scalar that goes on a path stands in a place that assigns its variable.
+  pub goes_assigned : (h : History) (n : ℕ) (i : Instruction) (rest : List Instruction) (e : End) (x variable p : ℕ) → Path g h n (i ∷ rest) e → place_of h ≡ Some p → target_of i ≡ Some x → IsVariable g x variable
+      → Goes u.assignments g n (i ∷ rest) e → assigns u.assignments p variable ≡ true
+  goes_assigned h n i rest e x variable p along at target is it_goes =
+      let o = goes_once g x n i rest e target (variable_scalar g.scalars x variable is) it_goes in
+      let one : o.place ≡ p = same_Some o.place p (sym (stands_path u g taken.valid taken.marked h n i rest e o.place along (plain_target x i target) o.stands) ∙ at) in
+      sym (scalar_assigns u.assignments g p x variable is) ∙ ap (λ q. assigns_scalar u.assignments g q x) (sym one) ∙ o.assigned
+
   -- What went of a path goes at its point.
   pub went_goes : (h : History) (n : ℕ) (i : Instruction) (rest : List Instruction) (e : End) (v : Value) → Path g h n (i ∷ rest) e → Went u.assignments g (record { block = n; left = length rest; instruction = i; wrote = v }) → Goes u.assignments g n (i ∷ rest) e
   went_goes h n i rest e v along w =

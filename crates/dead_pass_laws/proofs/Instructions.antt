@@ -95,6 +95,15 @@ pub kept_writes : (x : ℕ) {i j : Instruction} → IsKeptAs i j → writes x j 
 kept_writes x same = refl
 kept_writes x kept_noted = refl
 
+-- It has the same target, and is a computation or is none.
+pub kept_target : {i j : Instruction} → IsKeptAs i j → target_of j ≡ target_of i
+kept_target same = refl
+kept_target kept_noted = refl
+
+pub kept_computes : {i j : Instruction} → IsKeptAs i j → is_computation j ≡ is_computation i
+kept_computes same = refl
+kept_computes kept_noted = refl
+
 -- So it does all the same.
 kept_like : {i j : Instruction} → IsKeptAs i j → IsLike i j
 kept_like same = record { marker = refl; place = λ o. refl; behind = λ o. refl; call = refl; note = λ x. refl; reads = refl; bound = λ g x. refl; write = λ x none. none }

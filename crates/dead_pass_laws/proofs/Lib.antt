@@ -26,6 +26,8 @@ pub mod Standing
 pub mod Written
 pub mod Notes
 pub mod Markers
+pub mod Paired
 pub mod Marked
 pub mod Program
 pub mod DeadMarksWhole
+pub mod LogsWell

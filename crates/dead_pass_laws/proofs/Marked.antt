@@ -1,27 +1,31 @@
 -- The graph that the removal of dead assignments makes of a well marked one is well marked.
-use Rattle.std.proofs.Common.{◌≡◌, ◌≢◌, ℕ, ◌≤◌, inl, inr, true, false, true≢false, Option, Some, List, [], ◌∷◌, refl, sym, ap, ◌∙◌, subst}
+use Rattle.std.proofs.Common.{◌≡◌, ◌≢◌, ℕ, ◌≤◌, ◌⊎◌, inl, inr, true, false, true≢false, Option, Some, List, [], ◌∷◌, refl, sym, ap, ◌∙◌, subst}
 use Rattle.std.specs.Prelude.{slice_get}
+use Rattle.std.proofs.lemmas.Bool.{cases_Bool}
 use Rattle.places.specs.Flow.{can_go, assigns}
 use Rattle.graph_core.specs.Bounds.{most_words}
 use Rattle.graph_core.specs.Graphs.{Operand, NoteValue, Instruction, Marker, Note, Zero, CopyWords, End, Return, Block, Graph, UnitForm}
 use Rattle.graph_core.specs.Paths.{History, Among, Path, place_of, is_call, called, written, unnoted, owed}
 use Rattle.graph_core.specs.Points.{ReadsNext}
 use Rattle.graph_core.specs.Uses.{reads_of, reads_of_end, targets_of, is_computation}
-use Rattle.graph_core.specs.WellMarked.{InPlace, IsVariable, IsLocal, WasTaken, WrittenIn, IsWellMarked}
+use Rattle.graph_core.specs.WellMarked.{InPlace, IsVariable, IsLocal, WasTaken, WasSunk, WrittenIn, MayStand, ReadsAcross, moved, sunk, IsWellMarked}
 use Rattle.pass_law.specs.Kept.{ShareTheSame}
 use Rattle.graph_core_weights.proofs.Standing.{in_place}
 use Rattle.dead_pass_rule.specs.Idle.{is_computed_next, Goes}
 use Rattle.dead_pass_laws.proofs.Came.{reduced_graph, IsTaken}
+use Rattle.dead_pass_laws.proofs.Entry.{goes_assigned}
 use Rattle.dead_pass_laws.proofs.Lags.{lags_read}
 use Rattle.dead_pass_laws.proofs.Followed.{LagsHere}
-use Rattle.dead_pass_laws.proofs.Instructions.{StaysOrCalls, left_cases, left_like, left_was, left_note}
+use Rattle.dead_pass_laws.proofs.Instructions.{StaysOrCalls, kept_computes, kept_target, said_kept, left_cases, left_like, left_was, left_note}
 use Rattle.dead_pass_laws.proofs.Markers.{begins_still, cycles_still}
 use Rattle.dead_pass_laws.proofs.Notes.{note_right, note_behind}
+use Rattle.dead_pass_laws.proofs.Paired.{paired_made}
 use Rattle.dead_pass_laws.proofs.Standing.{StoodBefore, stood_before}
 use Rattle.dead_pass_laws.proofs.Ways.{ComesNext, ComesLast, path_next, path_last, was_block}
 use Rattle.dead_pass_laws.proofs.Written.{written_before}
 
-module _ (u v : UnitForm) (shared : ShareTheSame u v) (g : Graph) (blocks : List Block) (taken : IsTaken u v.log g blocks) (longer : (p variable : ℕ) → WasTaken u.log p variable → WasTaken v.log p variable) where
+module _ (u v : UnitForm) (shared : ShareTheSame u v) (g : Graph) (blocks : List Block) (taken : IsTaken u v.log g blocks) (longer : (p variable : ℕ) → WasTaken u.log p variable → WasTaken v.log p variable)
+    (sunk_longer : (variable : ℕ) → WasSunk u.log variable → WasSunk v.log variable) where
   -- the graph after
   abbrev made : Graph
   made = reduced_graph g blocks
@@ -54,16 +58,27 @@ module _ (u v : UnitForm) (shared : ShareTheSame u v) (g : Graph) (blocks : List
       let s = stood_before u v.log g blocks taken p (CopyWords object bytes words) at in
       taken.marked.copies p object bytes words (subst (λ i. InPlace g p i) (left_was v.log g s.n s.rest s.end s.left refl) (stood_in_place p (CopyWords object bytes words) s))
 
-  -- Scalars are written where their variables are assigned.
-  written_where : (p x variable : ℕ) → IsVariable g x variable → WrittenIn made p x → assigns v.assignments p variable ≡ true
-  written_where p x variable is w = ap (λ all. assigns all p variable) shared.assignments ∙ taken.marked.written_where p x variable is (written_before u v.log g blocks taken p x w)
+  -- Where a scalar may be written and noted it may be still.
+  may_still : (p x variable : ℕ) → IsVariable g x variable → MayStand u g p x variable → MayStand v made p x variable
+  may_still p x variable is may = elim (cases_Bool (assigns u.assignments p variable)) [
+    | inl assigned ↦ inl (ap (λ all. assigns all p variable) shared.assignments ∙ assigned)
+    | inr unassigned ↦ by_may unassigned may
+  ]
+    where
+      by_may : assigns u.assignments p variable ≡ false → MayStand u g p x variable → MayStand v made p x variable
+      by_may unassigned (inl assigned) = absurd (true≢false (sym assigned ∙ unassigned))
+      by_may unassigned (inr paired) = inr (sunk_longer variable paired.0, paired_made u v.log g blocks taken p x variable is unassigned paired.1)
+
+  -- Scalars are written where they may.
+  written_where : (p x variable : ℕ) → IsVariable g x variable → WrittenIn made p x → MayStand v made p x variable
+  written_where p x variable is w = may_still p x variable is (taken.marked.written_where p x variable is (written_before u v.log g blocks taken p x w))
 
   -- They are noted there.
-  noted_where : (p x variable : ℕ) (w : NoteValue) → IsVariable g x variable → InPlace made p (Note x w) → assigns v.assignments p variable ≡ true
+  noted_where : (p x variable : ℕ) (w : NoteValue) → IsVariable g x variable → InPlace made p (Note x w) → MayStand v made p x variable
   noted_where p x variable w is at =
       let s = stood_before u v.log g blocks taken p (Note x w) at in
       let was = left_note v.log g s.n s.rest s.end x w s.left refl in
-      ap (λ all. assigns all p variable) shared.assignments ∙ taken.marked.noted_where p x variable was.0 is (subst (λ i. InPlace g p i) was.1 (stood_in_place p (Note x w) s))
+      may_still p x variable is (taken.marked.noted_where p x variable was.0 is (subst (λ i. InPlace g p i) was.1 (stood_in_place p (Note x w) s)))
 
   -- ---- Paths
 
@@ -111,11 +126,24 @@ module _ (u v : UnitForm) (shared : ShareTheSame u v) (g : Graph) (blocks : List
   local_before : (t : ℕ) → IsLocal made t → IsLocal g t
   local_before t is = record { temporary = is.temporary; not_moved = is.not_moved }
 
-  -- A local temporary is read only behind a write of it in the same place.
-  local : (after : History) (n : ℕ) (j : Instruction) (t : ℕ) (rest : List Instruction) (e : End) → IsLocal made t → Path made after n (j ∷ rest) e → Among t (reads_of j) → written made t after ≡ true
-  local after n j t rest e is way among = elim (c.followed.still_written t (taken.marked.local c.hist n c.instruction t c.rest e (local_before t is) c.along reads)) [
-    | inl lags ↦ absurd (by_cases (lagging_goes t c.hist n (c.instruction ∷ c.rest) e c.along lags reads) (left_cases v.log g n c.rest e c.left))
-    | inr still ↦ still.was_written
+  -- What may read across places may do so still.
+  across_still : (hist after : History) (n : ℕ) (i j : Instruction) (rest : List Instruction) (e : End) → Path g hist n (i ∷ rest) e → place_of after ≡ place_of hist → StaysOrCalls u.assignments v.log g n rest e i j → ReadsAcross u g hist i → ReadsAcross v made after j
+  across_still hist after n i j rest e along place (inl kept) (moved t target least computes) =
+      moved t (kept_target (said_kept v.log g n rest e kept.1) ∙ target) least (kept_computes (said_kept v.log g n rest e kept.1) ∙ computes)
+  across_still hist after n i j rest e along place (inl kept) (sunk x variable p target of at unassigned) =
+      sunk x variable p (kept_target (said_kept v.log g n rest e kept.1) ∙ target) of (place ∙ at) (ap (λ all. assigns all p variable) shared.assignments ∙ unassigned)
+  across_still hist after n i j rest e along place (inr calls) (moved t target least computes) = absurd (true≢false (sym computes ∙ calls.2))
+  across_still hist after n i j rest e along place (inr calls) (sunk x variable p target of at unassigned) =
+      absurd (true≢false (sym (goes_assigned u v.log g blocks taken hist n i rest e x variable p along at target of calls.0) ∙ unassigned))
+
+  -- A local temporary is read only behind a write of it in the same place, but by what may read across places.
+  local : (after : History) (n : ℕ) (j : Instruction) (t : ℕ) (rest : List Instruction) (e : End) → IsLocal made t → Path made after n (j ∷ rest) e → Among t (reads_of j) → (written made t after ≡ true) ⊎ ReadsAcross v made after j
+  local after n j t rest e is way among = elim (taken.marked.local c.hist n c.instruction t c.rest e (local_before t is) c.along reads) [
+    | inl it ↦ inl (elim (c.followed.still_written t it) [
+      | inl lags ↦ absurd (by_cases (lagging_goes t c.hist n (c.instruction ∷ c.rest) e c.along lags reads) (left_cases v.log g n c.rest e c.left))
+      | inr still ↦ still.was_written
+    ])
+    | inr across ↦ inr (across_still c.hist after n c.instruction j c.rest e c.along c.followed.same_place (left_cases v.log g n c.rest e c.left) across)
   ]
     where
       c : ComesNext u v.log g blocks taken after n j rest e
@@ -151,6 +179,7 @@ module _ (u v : UnitForm) (shared : ShareTheSame u v) (g : Graph) (blocks : List
     copies = copies;
     zeroes_first = zeroes_first;
     copies_first = copies_first;
+    variables = taken.marked.variables;
     written_where = written_where;
     noted_where = noted_where;
     noted = noted;

@@ -121,7 +121,7 @@ module _ (u : UnitForm) (log : List Logged) (g : Graph) (blocks : List Block) (n
       let own : v ≡ Is (Of (Name x)) = own_note d in
       let l : IsLastOf x d.n d.instruction d.rest d.end = once_last u log g blocks came.taken n note e came.first others whole came.along p whole n note e x d.n d.instruction d.rest d.end starts place (own_written own) d.once d.stands d.target in
       let reader : IsReader u log g blocks came.taken n note e came.first others whole came.along p l.history d.n d.instruction d.rest d.end l.wrote =
-      last_reader u log g blocks came.taken n note e came.first others whole came.along p whole x d.n d.instruction d.rest d.end l (λ y target. inr d.goes) in
+      last_reader u log g blocks came.taken n note e came.first others whole came.along p whole x d.n d.instruction d.rest d.end l (λ y target. inr (subst (λ z. z < length g.scalars) (same_Some x y (sym d.target ∙ target)) note_valid.0, d.goes)) in
       let value = written_value u log g blocks came.taken n note e came.first others whole came.along p d.n d.rest d.end d.instruction r is.right l.history l.wrote reader l.is in
       subst (λ w. SaysStill u.statics names others w (Is r)) (sym own) (is_same (value ∙ sym l.value ∙ sym (ap (λ (f : ℕ → Value). f x) came.holds)))
 

@@ -17,10 +17,11 @@ use Rattle.dead_pass_laws.proofs.Noted.{scalar_at, same_is}
 use Rattle.dead_pass_laws.proofs.Points.{stands_path}
 use Rattle.dead_pass_laws.proofs.Values.{writes_target}
 use Rattle.dead_pass_laws.specs.Staying.{IsLeft, stays as left_stays, untargeted}
+use Rattle.dead_pass_laws.proofs.Entry.{variable_scalar}
 use Rattle.dead_pass_laws.proofs.Instructions.{note_name, note_value}
 use Rattle.dead_pass_laws.proofs.Ways.{path_next}
 use Rattle.dead_pass_laws.proofs.Followed.{IsFollowed}
-use Rattle.dead_pass_laws.proofs.Written.{dropped_none, goes_dropped, written_stays, stays_written, written_before, written_kept, variable_scalar}
+use Rattle.dead_pass_laws.proofs.Written.{dropped_none, goes_dropped, written_stays, stays_written, written_before, written_kept}
 use Rattle.graph_core.proofs.Among.{at_among}
 
 -- ---- The log

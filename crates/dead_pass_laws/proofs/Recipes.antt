@@ -1,8 +1,9 @@
 -- A recipe at a note gives, by the names after, the value that the program before read where the recipe says.
-use Rattle.std.proofs.Common.{◌≡◌, ℕ, ◌⊎◌, inl, inr, true, false, Some, List, ◌∷◌, length, refl, sym, ap, ◌∙◌, subst}
+use Rattle.std.proofs.Common.{◌≡◌, ℕ, ◌<◌, ◌≤◌, ◌⊎◌, inl, inr, true, false, true≢false, Some, List, ◌∷◌, length, refl, sym, ap, ◌∙◌, subst, arith}
 use Rattle.std.specs.Prelude.{◌==◌, ◌&&◌}
 use Rattle.std.proofs.lemmas.Bool.{cases_Bool}
 use Rattle.std.proofs.lemmas.Option.{same_Some}
+use Rattle.places.specs.Flow.{assigns}
 use Rattle.graph_core.specs.declared.value.Value.{Value}
 use Rattle.graph_core.specs.Graphs.{Operand, Recipe, Instruction, Move, Operate, Truncate, End, Block, Graph, Logged, UnitForm}
 use Rattle.graph_core.specs.Histories.{values_behind}
@@ -11,13 +12,14 @@ use Rattle.graph_core.specs.Points.{StandsWith, assignments_in}
 use Rattle.graph_core.specs.Runs.{value, recipe_value}
 use Rattle.graph_core.specs.Uses.{target_of, names_of, reads_of}
 use Rattle.graph_core.specs.Values.{operate, truncate}
-use Rattle.graph_core.specs.WellMarked.{IsLocal}
+use Rattle.graph_core.specs.WellMarked.{IsVariable, IsLocal, ReadsAcross, moved as reads_moved, sunk as reads_sunk}
 use Rattle.dead_pass_rule.specs.Idle.{Goes}
 use Rattle.dead_pass_notes.specs.Between.{IsWrittenBetween}
 use Rattle.dead_pass_notes.specs.Said.{IsDefinition, IsRecipe, constant, address, name, moved, truncated, operated, IsRightSide, moved as made_moved, truncated as made_truncated, operated as made_operated}
 use Rattle.dead_pass_notes.specs.Stale.{went, ComesStale}
 use Rattle.dead_pass_laws.proofs.Back.{From, it_went}
 use Rattle.dead_pass_laws.proofs.Came.{IsValueOf, IsTaken}
+use Rattle.dead_pass_laws.proofs.Entry.{goes_assigned, variable_scalar}
 use Rattle.dead_pass_laws.proofs.Lists.{among_left, among_right}
 use Rattle.dead_pass_laws.proofs.Once.{AreOne, one_write, not_bound}
 use Rattle.dead_pass_laws.proofs.Points.{path_stands, first_same, rest_same}
@@ -52,20 +54,20 @@ module _ (u : UnitForm) (log : List Logged) (g : Graph) (blocks : List Block) (t
 
   -- ---- Operands
 
-  -- An instruction that reads an operand stands at a point of the path to the note, in its place. Where it writes a name, that is a temporary that code motion did not make, or its write goes.
+  -- An instruction that reads an operand stands at a point of the path to the note, in its place. Where it writes a name, that is a temporary that code motion did not make, or a scalar whose write goes.
   pub record IsReader (h : History) (n : ℕ) (j : Instruction) (rest : List Instruction) (e : End) (w : Value) : Type 0 where
     pub plain : is_marker j ≡ false
     pub from : FromHere h n (j ∷ rest) e
     pub behind : FromHere (record { block = n; left = length rest; instruction = j; wrote = w } ∷ h) n rest e
     pub place : place_of h ≡ Some p
-    pub own : (y : ℕ) → target_of j ≡ Some y → IsLocal g y ⊎ Goes u.assignments g n (j ∷ rest) e
+    pub own : (y : ℕ) → target_of j ≡ Some y → IsLocal g y ⊎ ((y < length g.scalars) × Goes u.assignments g n (j ∷ rest) e)
 
   -- what it reads of an operand
   abbrev pub Reads : Instruction → Operand → Type 0
   Reads j a = (y : ℕ) → Among y (names_of a) → Among y (reads_of j)
 
   -- The last write of a name reads in its place, too.
-  pub last_reader : (h : History) (x m : ℕ) (i : Instruction) (more : List Instruction) (f : End) → (is : IsLastOf h x m i more f) → ((y : ℕ) → target_of i ≡ Some y → IsLocal g y ⊎ Goes u.assignments g m (i ∷ more) f) → IsReader is.history m i more f is.wrote
+  pub last_reader : (h : History) (x m : ℕ) (i : Instruction) (more : List Instruction) (f : End) → (is : IsLastOf h x m i more f) → ((y : ℕ) → target_of i ≡ Some y → IsLocal g y ⊎ ((y < length g.scalars) × Goes u.assignments g m (i ∷ more) f)) → IsReader is.history m i more f is.wrote
   last_reader h x m i more f is own = record { plain = is.plain; from = is.from; behind = is.behind; place = is.place; own = own }
 
   -- a name that is no such temporary, is not stale at the note, and is not written between
@@ -76,18 +78,32 @@ module _ (u : UnitForm) (log : List Logged) (g : Graph) (blocks : List Block) (t
     | inr other ↦ sym (reader.behind.holds y fresh unwritten) ∙ name_kept (target_of j) w (values_behind first h) y (unwritten_other y j other)
   ]
     where
-      by_own : writes y j ≡ true → IsLocal g y ⊎ Goes u.assignments g n (j ∷ rest) e → ⊥
+      by_own : writes y j ≡ true → IsLocal g y ⊎ ((y < length g.scalars) × Goes u.assignments g n (j ∷ rest) e) → ⊥
       by_own it (inl local) = not_local local
       by_own it (inr goes) =
-          fresh (record { history = whole; path = arrives; stale = reader.behind.stale y (went it (it_went u log g blocks taken k note last first others whole arrives h n j rest e w reader.from.along reader.plain goes)) unwritten })
+          fresh (record { history = whole; path = arrives; stale = reader.behind.stale y (went it (it_went u log g blocks taken k note last first others whole arrives h n j rest e w reader.from.along reader.plain goes.1)) unwritten })
 
   -- the definition of a temporary that is read
   defined : (h : History) (n : ℕ) (j : Instruction) (rest : List Instruction) (e : End) (w : Value) (t m : ℕ) (i : Instruction) (more : List Instruction) (f : End) → IsReader h n j rest e w → Among t (reads_of j) → IsDefinition g p k note last t m more f i → IsLastOf h t m i more f
   defined h n j rest e w t m i more f reader among def =
-      once_last h n (j ∷ rest) e t m i more f reader.from reader.place (taken.marked.local h n j t rest e def.local reader.from.along among) def.once def.stands def.target
+      once_last h n (j ∷ rest) e t m i more f reader.from reader.place (by_local (taken.marked.local h n j t rest e def.local reader.from.along among)) def.once def.stands def.target
+    where
+      -- what it writes is neither a temporary that code motion made nor a scalar in a place that does not assign its variable
+      never_moved : (y : ℕ) → g.first_moved ≤ y → IsLocal g y ⊎ ((y < length g.scalars) × Goes u.assignments g n (j ∷ rest) e) → ⊥
+      never_moved y made (inl own) = (let least = own.not_moved in omega (arith, made, least))
+      never_moved y made (inr goes) = (let scalar = goes.0 in let least = taken.valid.scalars in omega (arith, made, scalar, least))
+
+      never_sunk : (y variable q : ℕ) → target_of j ≡ Some y → IsVariable g y variable → place_of h ≡ Some q → assigns u.assignments q variable ≡ false → IsLocal g y ⊎ ((y < length g.scalars) × Goes u.assignments g n (j ∷ rest) e) → ⊥
+      never_sunk y variable q target of at unassigned (inl own) = (let less = variable_scalar g.scalars y variable of in let least = own.temporary in omega (arith, less, least))
+      never_sunk y variable q target of at unassigned (inr goes) = true≢false (sym (goes_assigned u log g blocks taken h n j rest e y variable q reader.from.along at target of goes.1) ∙ unassigned)
+
+      by_local : (written g t h ≡ true) ⊎ ReadsAcross u g h j → written g t h ≡ true
+      by_local (inl it) = it
+      by_local (inr (reads_moved y target made computes)) = absurd (never_moved y made (reader.own y target))
+      by_local (inr (reads_sunk y variable q target of at unassigned)) = absurd (never_sunk y variable q target of at unassigned (reader.own y target))
 
   -- what it writes is such a temporary
-  own_local : (t : ℕ) (m : ℕ) (i : Instruction) (more : List Instruction) (f : End) → IsDefinition g p k note last t m more f i → (y : ℕ) → target_of i ≡ Some y → IsLocal g y ⊎ Goes u.assignments g m (i ∷ more) f
+  own_local : (t : ℕ) (m : ℕ) (i : Instruction) (more : List Instruction) (f : End) → IsDefinition g p k note last t m more f i → (y : ℕ) → target_of i ≡ Some y → IsLocal g y ⊎ ((y < length g.scalars) × Goes u.assignments g m (i ∷ more) f)
   own_local t m i more f def y target = inl (subst (λ z. IsLocal g z) (same_Some t y (sym def.target ∙ target)) def.local)
 
   -- What a recipe gives after is what was read before.

@@ -305,9 +305,9 @@ module _ (u v : UnitForm) (log : List Logged) (made : EachFunction (IsMade u log
     go_same l to came = by_blocks (at_both c.here.graph.blocks blocks l came.taken.reduced.count)
       where
         by_blocks : AtBoth (λ x y. Unit {0}) c.here.graph.blocks blocks l → DoesSame u log (go_to c l) (go_to d l)
-        by_blocks (inl none) = subst (λ o. DoesSame u log (entered c o) (go_to d l)) (sym none.0) tt
+        by_blocks (inl none) = subst (λ o. DoesSame u log (entered c l o) (go_to d l)) (sym none.0) tt
         by_blocks (inr some) =
-            subst (λ o. DoesSame u log (entered c o) (go_to d l)) (sym some.2) (subst (λ o. DoesSame u log (entered c (Some some.0)) (entered d o)) (sym some.3) (record {
+            subst (λ o. DoesSame u log (entered c l o) (go_to d l)) (sym some.2) (subst (λ o. DoesSame u log (entered c l (Some some.0)) (entered d l o)) (sym some.3) (record {
               blocks = blocks;
               others = others;
               shadows = shadows;

@@ -22,14 +22,8 @@ use Rattle.dead_pass_laws.specs.Staying.{StaysWritten, instruction as by_instruc
 use Rattle.dead_pass_laws.proofs.Instructions.{kept_writes, said_kept, StaysOrCalls, left_cases}
 use Rattle.dead_pass_laws.proofs.Standing.{IsPointOf, point_of, StoodBefore, stood_before, StandsAfter, stands_after}
 
--- A number whose scalar has a variable is that of a scalar.
-pub variable_scalar : (all : List Scalar) (x variable : ℕ) → option_map (λ (s : Scalar). s.variable) (slice_get all x) ≡ Some variable → x < length all
-variable_scalar [] x variable is = absurd (none-some variable is)
-variable_scalar (s ∷ all) zero variable is = omega arith
-variable_scalar (s ∷ all) (suc x) variable is = (let later = variable_scalar all x variable is in omega (arith, later))
-
 -- A point stands in one place.
-same_place : (g : Graph) (p q n : ℕ) (rest : List Instruction) (e : End) → StandsWith g p n rest e → StandsWith g q n rest e → p ≡ q
+pub same_place : (g : Graph) (p q n : ℕ) (rest : List Instruction) (e : End) → StandsWith g p n rest e → StandsWith g q n rest e → p ≡ q
 same_place g p q n rest e s t =
     let one : s.block ≡ t.block = same_Some s.block t.block (sym s.is ∙ t.is) in
     let parts : s.before ++ rest ≡ t.before ++ rest = sym s.instructions ∙ ap (λ (b : Block). b.instructions) one ∙ t.instructions in

@@ -1,17 +1,11 @@
 -- Counts of writes by two bits for each, and what may go by them.
-use Rattle.std.proofs.Common.{◌≡◌, ◌≢◌, ℕ, zero, suc, ◌+◌, ◌-◌, ◌<◌, ◌≤◌, inl, inr, Bool, true, false, true≢false, Option, Some, List, [], ◌∷◌, ◌++◌, length, map, refl, sym, ap, ◌∙◌, subst, arith, append_assoc}
-use Rattle.std.specs.Prelude.{◌↔◌, ◌==◌, ◌&&◌, ◌||◌, slice_get, slice_index_or}
-use Rattle.std.proofs.lemmas.Bool.{and_from, and_parts, cases_eq, eq-eqb, ne_eqb}
-use Rattle.std.proofs.lemmas.Option.{same_Some}
-use Rattle.std.specs.Option.{option_map_or}
-use Rattle.places.specs.Flow.{assigns}
+use Rattle.std.proofs.Common.{◌≡◌, ◌≢◌, ℕ, zero, suc, ◌+◌, ◌-◌, ◌<◌, ◌≤◌, inl, inr, Bool, true, false, true≢false, Option, List, [], ◌∷◌, ◌++◌, length, refl, sym, ap, ◌∙◌, subst, arith, append_assoc}
+use Rattle.std.specs.Prelude.{◌↔◌, ◌==◌, ◌&&◌, ◌||◌, slice_index_or}
+use Rattle.std.proofs.lemmas.Bool.{and_from, cases_eq, eq-eqb, ne_eqb}
 use Rattle.places.specs.declared.flow.Assignment.{Assignment}
-use Rattle.graph_core.specs.Graphs.{Instruction, Marker, Note, Move, Operate, Truncate, Same as SameOf, Address, Load, Store, Zero, CopyWords, Call, Scalar, Graph, scalar_view}
-use Rattle.graph_core.specs.declared.graph.Scalar as declared-scalar
-use Rattle.graph_core.specs.Points.{assignments_in}
-use Rattle.graph_core.specs.Uses.{marker_of, target_of}
+use Rattle.graph_core.specs.Graphs.{Instruction, Marker, Note, Move, Operate, Truncate, Same as SameOf, Address, Load, Store, Zero, CopyWords, Call, Graph}
+use Rattle.graph_core.specs.Uses.{marker_of}
 use Rattle.graph_core.specs.Validity.{place_behind}
-use Rattle.dead_pass_rule.specs.Idle.{assigns_scalar, MayGo}
 use Rattle.dead_pass_rule.specs.Certified.{IsFree}
 use Rattle.dead_pass_rule.specs.Counting.{is_some, is_many, one_if, AreFree}
 use Rattle.base_laws.proofs.Lists.{append_nil}
@@ -140,28 +134,3 @@ free_at assignments g place [] i rest (v ∷ told) are = are.0
 free_at assignments g place (j ∷ before) i rest [] are = absurd are
 free_at assignments g place (j ∷ before) i rest (v ∷ told) are =
     (let P : Option ℕ → Type 0 = λ p. (slice_index_or told (length before) false ≡ true) ↔ IsFree assignments g p i in subst P (behind_one j before place) (free_at assignments g (place_behind (j ∷ []) place) before i rest told are.1))
-
--- What writes a scalar may go where its place assigns the variable, and writes it once.
-pub free_scalar : (assignments : List Assignment) (g : Graph) (p x : ℕ) (i : Instruction) (once assigned : Bool) → target_of i ≡ Some x → x < length g.scalars → ((once ≡ true) ↔ (assignments_in g p x ≡ 1)) → assigned ≡ assigns_scalar assignments g p x
-    → ((once && assigned) ≡ true) ↔ IsFree assignments g (Some p) i
-free_scalar assignments g p x i once assigned target scalar tells is = (to, back)
-  where
-    to : (once && assigned) ≡ true → IsFree assignments g (Some p) i
-    to both = (let parts = and_parts once assigned both in record { p = p; x = x; in_place = refl; target = target; may_go = inr (tells.0 parts.0, sym is ∙ parts.1) })
-
-    by_may : (q y : ℕ) → q ≡ p → y ≡ x → MayGo assignments g q y → (once && assigned) ≡ true
-    by_may q y place name (inl temporary) = absurd (omega (arith, temporary, scalar, name))
-    by_may q y place name (inr may) = and_from once assigned (tells.1 (ap (λ k. assignments_in g k x) (sym place) ∙ ap (assignments_in g q) (sym name) ∙ may.0)) (is ∙ ap (λ k. assigns_scalar assignments g k x) (sym place) ∙ ap (assigns_scalar assignments g q) (sym name) ∙ may.1)
-
-    back : IsFree assignments g (Some p) i → (once && assigned) ≡ true
-    back free = by_may free.p free.x (same_Some free.p p (sym free.in_place)) (same_Some free.x x (sym free.target ∙ target)) free.may_go
-
--- A place assigns the variable of a scalar, as the code has it.
-pub assigns_viewed : (assignments : List Assignment) (p x : ℕ) (scalars : List declared-scalar.Scalar) (all : List Scalar) → all ≡ map scalar_view scalars
-    → option_map_or (λ (s : declared-scalar.Scalar). assigns assignments p s.var.0) (slice_get scalars x) false ≡ option_map_or (λ (s : Scalar). assigns assignments p s.variable) (slice_get all x) false
-assigns_viewed assignments p x scalars all is = in_view x scalars ∙ ap (λ l. option_map_or (λ (s : Scalar). assigns assignments p s.variable) (slice_get l x) false) (sym is)
-  where
-    in_view : (k : ℕ) (some : List declared-scalar.Scalar) → option_map_or (λ (s : declared-scalar.Scalar). assigns assignments p s.var.0) (slice_get some k) false ≡ option_map_or (λ (s : Scalar). assigns assignments p s.variable) (slice_get (map scalar_view some) k) false
-    in_view k [] = refl
-    in_view zero (s ∷ some) = refl
-    in_view (suc k) (s ∷ some) = in_view k some
