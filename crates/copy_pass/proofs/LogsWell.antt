@@ -1,5 +1,5 @@
 -- WHAT COPY PROPAGATION LOGS: few changes, each in a place of the unit, of a variable of it.
-use Rattle.std.proofs.Common.{◌≡◌, ℕ, zero, suc, ◌+◌, ◌<◌, ◌≤◌, Option, Some, None, List, [], ◌∷◌, ◌++◌, length, refl, sym, ap, ◌∙◌, subst, arith}
+use Rattle.std.proofs.Common.{◌≡◌, ℕ, ◌+◌, ◌<◌, ◌≤◌, Some, None, List, [], ◌∷◌, ◌++◌, length, refl, sym, ap, ◌∙◌, subst, arith}
 use Rattle.std.specs.Prelude.{option_map, slice_get}
 use Rattle.std.specs.List.{AllByRecursion}
 use Rattle.std.proofs.lemmas.List.{length-append}
@@ -117,7 +117,7 @@ same_front (i ∷ xs) ys (j ∷ vs) ws same long =
     let rest = same_front xs ys vs ws (parts same).1 (omega (arith, long)) in
     (ap (λ k. k ∷ xs) (parts same).0 ∙ ap (λ zs. j ∷ zs) rest.0, rest.1)
   where
-    parts : {k l : Instruction} {as bs : List Instruction} → k ∷ as ≡ l ∷ bs → (k ≡ l) × (as ≡ bs)
+    parts : {k l : Instruction} {us zs : List Instruction} → k ∷ us ≡ l ∷ zs → (k ≡ l) × (us ≡ zs)
     parts e = (cc, cc)
 
 -- What is read behind so many instructions.
@@ -174,9 +174,9 @@ module _ (g : Graph) where
 
   module _ (f n : ℕ) (b : Block) (at : slice_get g.blocks n ≡ Some b) where
     -- what is read where one stood
-    reads_there : (c : ℕ × Case) (is : IsOfBlock f n c) → slice_get (reads_in b.instructions b.end) c.1.index ≡ Some (reads_at is.0.1.1.rest is.0.1.1.end)
+    reads_there : (c : ℕ × Case) (is : IsOfBlock f n c) → slice_get (reads_in b.instructions b.end) c.1.index ≡ Some (reads_at is.0.2.rest is.0.2.end)
     reads_there c is =
-        let a = is.0.1.1 in
+        let a = is.0.2 in
         let same : a.stood.block ≡ b = same_Some a.stood.block b (sym a.stood.is ∙ ap (slice_get g.blocks) is.1 ∙ at) in
         sym (ap (λ (z : Block). slice_get (reads_in z.instructions z.end) c.1.index) same)
         ∙ ap (λ all. slice_get (reads_in all a.stood.block.end) c.1.index) a.stood.instructions
@@ -192,14 +192,14 @@ module _ (g : Graph) where
         same_pair : (c d : ℕ × Case) → IsOfOperand f n k o c → IsOfOperand f n k o d → c ≡ d
         same_pair c d a e =
             let function : c.0 ≡ d.0 = a.0.0.0.0 ∙ sym e.0.0.0.0 in
-            let case : c.1 ≡ d.1 = same_case c.1 d.1 a.0.0.0.1.0 e.0.0.0.1.0 a.0.0.0.1.1 e.0.0.0.1.1 (a.0.0.1 ∙ sym e.0.0.1) (a.0.1 ∙ sym e.0.1) (a.1 ∙ sym e.1) in
+            let case : c.1 ≡ d.1 = same_case c.1 d.1 a.0.0.0.1 e.0.0.0.1 a.0.0.0.2 e.0.0.0.2 (a.0.0.1 ∙ sym e.0.0.1) (a.0.1 ∙ sym e.0.1) (a.1 ∙ sym e.1) in
             λ i. (function i, case i)
 
     -- At one point they are no more than what is read there.
     few_at : (k : ℕ) (names : List ℕ) → slice_get (reads_in b.instructions b.end) k ≡ Some names → (part : List (ℕ × Case)) → AllByRecursion (IsOfIndex f n k) part → AreApart part → length part ≤ length names
     few_at k names there part are apart =
         let most = few_by_key {A = ℕ × Case} (λ (x : ℕ). 1) names (λ c. c.1.operand) (IsOfIndex f n k)
-            (λ c is. (let a = is.0.0.1.1 in
+            (λ c is. (let a = is.0.0.2 in
             let same : reads_at a.rest a.end ≡ names = same_Some (reads_at a.rest a.end) names (sym (reads_there c is.0) ∙ ap (slice_get (reads_in b.instructions b.end)) is.1 ∙ there) in
             slice_get_within names c.1.operand a.x (ap (λ l. slice_get l c.1.operand) (sym same) ∙ a.other.before)))
             (λ o x there_too few these no_two. one_of_operand k o few these no_two) part are apart in
@@ -209,11 +209,11 @@ module _ (g : Graph) where
     -- In one block they are no more than what is read in it.
     few_in_block : (part : List (ℕ × Case)) → AllByRecursion (IsOfBlock f n) part → AreApart part → length part ≤ read_in_block b
     few_in_block = few_by_key {A = ℕ × Case} (λ (names : List ℕ). length names) (reads_in b.instructions b.end) (λ c. c.1.index) (IsOfBlock f n)
-        (λ c is. slice_get_within (reads_in b.instructions b.end) c.1.index (reads_at is.0.1.1.rest is.0.1.1.end) (reads_there c is)) few_at
+        (λ c is. slice_get_within (reads_in b.instructions b.end) c.1.index (reads_at is.0.2.rest is.0.2.end) (reads_there c is)) few_at
 
   -- So it is in one function.
   few_in_graph : (f : ℕ) (part : List (ℕ × Case)) → AllByRecursion (IsOfGraph f) part → AreApart part → length part ≤ total read_in_block g.blocks
-  few_in_graph f = few_by_key {A = ℕ × Case} read_in_block g.blocks (λ c. c.1.block) (IsOfGraph f) (λ c is. slice_get_within g.blocks c.1.block is.1.1.stood.block is.1.1.stood.is) (few_in_block f)
+  few_in_graph f = few_by_key {A = ℕ × Case} read_in_block g.blocks (λ c. c.1.block) (IsOfGraph f) (λ c is. slice_get_within g.blocks c.1.block is.2.stood.block is.2.stood.is) (few_in_block f)
 
 -- A unit reads less often than changes may be logged.
 few_changes : (room : Room) → most_instructions room + most_instructions room + most_arguments room + most_blocks room + most_blocks room ≤ most_changes room

@@ -23,22 +23,22 @@ module _ {A B : Type 0} (R : A → B → Type 0) where
   pairs_before (a ∷ xs) (b ∷ ys) all (suc n) y at = pairs_before xs ys all.1 n y at
 
   -- Of a list that is related to another, parted at an element, what is related to its parts.
-  pub record PairsAt (xs : List A) (front : List B) (y : B) (behind : List B) : Type 0 where
+  pub record PairsAt (xs : List A) (earlier : List B) (y : B) (later : List B) : Type 0 where
     pub before : List A
     pub it : A
     pub behind_it : List A
     pub is : xs ≡ before ++ it ∷ behind_it
-    pub in_front : Pairs R before front
+    pub in_front : Pairs R before earlier
     pub alike : R it y
-    pub rest : Pairs R behind_it behind
+    pub rest : Pairs R behind_it later
 
   -- Such a list is parted so.
-  pub pairs_at : (xs : List A) (front : List B) (y : B) (behind : List B) → Pairs R xs (front ++ y ∷ behind) → PairsAt xs front y behind
-  pairs_at [] [] y behind all = absurd all
-  pairs_at [] (z ∷ front) y behind all = absurd all
-  pairs_at (x ∷ xs) [] y behind all = record { before = []; it = x; behind_it = xs; is = refl; in_front = tt; alike = all.0; rest = all.1 }
-  pairs_at (x ∷ xs) (z ∷ front) y behind all =
-      let s = pairs_at xs front y behind all.1 in
+  pub pairs_at : (xs : List A) (earlier : List B) (y : B) (later : List B) → Pairs R xs (earlier ++ y ∷ later) → PairsAt xs earlier y later
+  pairs_at [] [] y later all = absurd all
+  pairs_at [] (z ∷ earlier) y later all = absurd all
+  pairs_at (x ∷ xs) [] y later all = record { before = []; it = x; behind_it = xs; is = refl; in_front = tt; alike = all.0; rest = all.1 }
+  pairs_at (x ∷ xs) (z ∷ earlier) y later all =
+      let s = pairs_at xs earlier y later all.1 in
       record { before = x ∷ s.before; it = s.it; behind_it = s.behind_it; is = ap (λ l. x ∷ l) s.is; in_front = (all.0, s.in_front); alike = s.alike; rest = s.rest }
 
 -- Pairs that are so related are otherwise related, where the one follows from the other.

@@ -4,7 +4,7 @@ use Rattle.std.specs.Prelude.{option_map, slice_get}
 use Rattle.event_runs.specs.Agreement.{Pairs}
 use Rattle.places.specs.Flow.{can_go, assigns}
 use Rattle.graph_core.specs.Graphs.{Operand, Name, Of, Scalar, NoteValue, Is, Instruction, Marker, Note, Zero, CopyWords, End, Return, Block, Graph, Logged, UnitForm}
-use Rattle.graph_core.specs.Uses.{target_of, reads_of, reads_of_end, targets_of}
+use Rattle.graph_core.specs.Uses.{reads_of, reads_of_end, targets_of}
 use Rattle.graph_core.specs.Paths.{History, Among, Path, place_of, writes, is_call, called, is_bound, written, unnoted, owed}
 use Rattle.graph_core.specs.Validity.{AreAllDifferent, IsValid, place_behind}
 use Rattle.graph_core.specs.Bounds.{most_words}

@@ -142,14 +142,14 @@ graph_left {assignments} g h r = record {
 }
 
 -- functions of which that is left that the rule leaves
-pub each_left : {assignments : List Assignment} → (gs hs : List Graph) → EachFunction (IsReduced assignments) gs hs → EachFunction IsLeftGraph gs hs
-each_left [] [] all = tt
-each_left [] (h ∷ hs) all = absurd all
-each_left (g ∷ gs) [] all = absurd all
-each_left (g ∷ gs) (h ∷ hs) all = (graph_left g h all.0, each_left gs hs all.1)
+pub each_left : (assignments : List Assignment) (gs hs : List Graph) → EachFunction (IsReduced assignments) gs hs → EachFunction IsLeftGraph gs hs
+each_left assignments [] [] all = tt
+each_left assignments [] (h ∷ hs) all = absurd all
+each_left assignments (g ∷ gs) [] all = absurd all
+each_left assignments (g ∷ gs) (h ∷ hs) all = (graph_left g h all.0, each_left assignments gs hs all.1)
 
-pub each_keeps : {assignments : List Assignment} → (gs hs : List Graph) → EachFunction (IsReduced assignments) gs hs → EachFunction KeepsAllButBlocks gs hs
-each_keeps [] [] all = tt
-each_keeps [] (h ∷ hs) all = absurd all
-each_keeps (g ∷ gs) [] all = absurd all
-each_keeps (g ∷ gs) (h ∷ hs) all = ((graph_left g h all.0).keeps, each_keeps gs hs all.1)
+pub each_keeps : (assignments : List Assignment) (gs hs : List Graph) → EachFunction (IsReduced assignments) gs hs → EachFunction KeepsAllButBlocks gs hs
+each_keeps assignments [] [] all = tt
+each_keeps assignments [] (h ∷ hs) all = absurd all
+each_keeps assignments (g ∷ gs) [] all = absurd all
+each_keeps assignments (g ∷ gs) (h ∷ hs) all = ((graph_left g h all.0).keeps, each_keeps assignments gs hs all.1)

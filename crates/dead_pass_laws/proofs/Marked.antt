@@ -119,7 +119,7 @@ module _ (u v : UnitForm) (shared : ShareTheSame u v) (g : Graph) (blocks : List
       c.followed.none_unnoted x (taken.marked.calls c.hist n c.instruction x variable c.rest e is c.along (sym (left_like v.log g n c.rest e c.left).call ∙ call))
 
   -- What reads a name that lags goes, if it is a computation.
-  lagging_goes : (t : ℕ) (hist : History) (n : ℕ) (rest : List Instruction) (e : End) → Path g hist n rest e → LagsHere u v.log g blocks taken t hist n rest e → ReadsNext t rest e → (is_computed_next rest ≡ true) × Goes g n rest e
+  lagging_goes : (t : ℕ) (hist : History) (n : ℕ) (rest : List Instruction) (e : End) → Path g hist n rest e → LagsHere u v.log g blocks taken t hist n rest e → ReadsNext t rest e → (is_computed_next rest ≡ true) × Goes u.assignments g n rest e
   lagging_goes t hist n rest e along lags reads = (let both = lags_read g t hist n rest e lags.lags reads in (both.0, record { reached = record { history = hist; path = along }; idle = both.1 }))
 
   -- The same temporaries are local.
@@ -132,9 +132,9 @@ module _ (u v : UnitForm) (shared : ShareTheSame u v) (g : Graph) (blocks : List
       moved t (kept_target (said_kept v.log g n rest e kept.1) ∙ target) least (kept_computes (said_kept v.log g n rest e kept.1) ∙ computes)
   across_still hist after n i j rest e along place (inl kept) (sunk x variable p target of at unassigned) =
       sunk x variable p (kept_target (said_kept v.log g n rest e kept.1) ∙ target) of (place ∙ at) (ap (λ all. assigns all p variable) shared.assignments ∙ unassigned)
-  across_still hist after n i j rest e along place (inr calls) (moved t target least computes) = absurd (true≢false (sym computes ∙ calls.2))
-  across_still hist after n i j rest e along place (inr calls) (sunk x variable p target of at unassigned) =
-      absurd (true≢false (sym (goes_assigned u v.log g blocks taken hist n i rest e x variable p along at target of calls.0) ∙ unassigned))
+  across_still hist after n i j rest e along place (inr gone) (moved t target least computes) = absurd (true≢false (sym computes ∙ gone.2))
+  across_still hist after n i j rest e along place (inr gone) (sunk x variable p target of at unassigned) =
+      absurd (true≢false (sym (goes_assigned u v.log g blocks taken hist n i rest e x variable p along at target of gone.0) ∙ unassigned))
 
   -- A local temporary is read only behind a write of it in the same place, but by what may read across places.
   local : (after : History) (n : ℕ) (j : Instruction) (t : ℕ) (rest : List Instruction) (e : End) → IsLocal made t → Path made after n (j ∷ rest) e → Among t (reads_of j) → (written made t after ≡ true) ⊎ ReadsAcross v made after j
@@ -152,7 +152,7 @@ module _ (u v : UnitForm) (shared : ShareTheSame u v) (g : Graph) (blocks : List
       reads : Among t (reads_of c.instruction)
       reads = subst (λ l. Among t l) (left_like v.log g n c.rest e c.left).reads among
 
-      by_cases : (is_computation c.instruction ≡ true) × Goes g n (c.instruction ∷ c.rest) e → StaysOrCalls v.log g n c.rest e c.instruction j → ⊥
+      by_cases : (is_computation c.instruction ≡ true) × Goes u.assignments g n (c.instruction ∷ c.rest) e → StaysOrCalls u.assignments v.log g n c.rest e c.instruction j → ⊥
       by_cases both (inl kept) = kept.0 both.1
       by_cases both (inr untargeted) = true≢false (sym both.0 ∙ untargeted.2)
 

@@ -5,14 +5,14 @@ use Rattle.places.specs.Flow.{assigns}
 use Rattle.places.specs.declared.flow.Assignment.{Assignment}
 use Rattle.graph_core.specs.declared.instruction.Callee.{Callee}
 use Rattle.graph_core.specs.Graphs.{Operand, Name, Of, NoteValue, Is, Instruction, Marker, Note, Call, End, Block, Graph, Logged, UnitForm}
-use Rattle.graph_core.specs.Paths.{writes, is_marker, is_bound}
+use Rattle.graph_core.specs.Paths.{writes, is_marker}
 use Rattle.graph_core.specs.Points.{StandsWith}
 use Rattle.graph_core.specs.Uses.{target_of, is_computation}
 use Rattle.graph_core.specs.Validity.{place_behind}
 use Rattle.graph_core.specs.WellMarked.{IsVariable, ArePaired}
 use Rattle.dead_pass_rule.specs.Idle.{Goes, assigns_scalar}
 use Rattle.dead_pass_rule.specs.Removing.{without}
-use Rattle.dead_pass_notes.specs.Said.{IsDropped, IsSaid, recipe, gone as said_gone, unlogged, lost, unlost, stays as said_stays, SaysAs, noted, unreached, other, AreSaid, ends, gone, stays}
+use Rattle.dead_pass_notes.specs.Said.{IsDropped, IsSaid, recipe, unlogged, lost, unlost, SaysAs, noted, unreached, other, AreSaid, ends, gone, stays}
 use Rattle.dead_pass_laws.specs.Staying.{IsLeft, stays as left_stays, untargeted}
 use Rattle.dead_pass_laws.proofs.Came.{reduced_graph, IsTaken}
 use Rattle.dead_pass_laws.proofs.Entry.{goes_once, plain_target, scalar_assigns, variable_scalar}
@@ -43,7 +43,7 @@ plain_last (k ∷ front) i o plain =
 
 -- ---- What is left, at one instruction
 
-module _ {assignments : List Assignment} (log : List Logged) (g : Graph) (n : ℕ) (e : End) where
+module _ (assignments : List Assignment) (log : List Logged) (g : Graph) (n : ℕ) (e : End) where
   -- What stays begins the same place, or none.
   same_begun : (rest : List Instruction) (i j : Instruction) (o : Option ℕ) → SaysAs assignments log g n rest e i j → place_behind (j ∷ []) o ≡ place_behind (i ∷ []) o
   same_begun rest i j o (noted reached stands said) = refl
@@ -186,11 +186,11 @@ module _ (u : UnitForm) (log : List Logged) (g : Graph) (blocks : List Block) (t
   -- The own note says what it said.
   said_own : (q n : ℕ) (v : NoteValue) (note : List Instruction) (e : End) (w : NoteValue) → q ≡ p → v ≡ Is (Of (Name x)) → IsSaid u.assignments log g q n x v note e w → w ≡ Is (Of (Name x))
   said_own q n v note e w one is (recipe of) = absurd (none_dropped (subst (λ r. IsDropped u.assignments g r x) one of.dropped))
-  said_own q n v note e w one is (said_gone dropped none scalar last) = absurd (none_dropped (subst (λ r. IsDropped u.assignments g r x) one dropped))
+  said_own q n v note e w one is (gone dropped none scalar last) = absurd (none_dropped (subst (λ r. IsDropped u.assignments g r x) one dropped))
   said_own q n v note e w one is (unlogged dropped none never) = absurd (none_dropped (subst (λ r. IsDropped u.assignments g r x) one dropped))
   said_own q n v note e w one is (lost stayed found scalar first) = absurd (found.other (same_is (sym found.is ∙ is)))
   said_own q n v note e w one is (unlost stayed found never) = absurd (found.other (same_is (sym found.is ∙ is)))
-  said_own q n v note e w one is (said_stays stayed found) = is
+  said_own q n v note e w one is (stays stayed found) = is
 
   -- So it stays.
   own_stays : (n : ℕ) (rest : List Instruction) (e : End) (i j : Instruction) → i ≡ own → StandsWith g p n (i ∷ rest) e → SaysAs u.assignments log g n rest e i j → j ≡ own
@@ -226,7 +226,7 @@ module _ (u : UnitForm) (log : List Logged) (g : Graph) (blocks : List Block) (t
         → (more : List Instruction) × (rest ≡ own ∷ more)
     noted_made n c before rest j at parts place it =
         let b : WasBlock u log g blocks taken n c = was_block u log g blocks taken n c at in
-        let s = said_at log g n b.block.end b.block.instructions c.instructions b.said before j rest parts in
+        let s = said_at u.assignments log g n b.block.end b.block.instructions c.instructions b.said before j rest parts in
         let wrote : writes x s.i ≡ true = write_was n s.behind b.block.end s.i j it s.left in
         let there : place_behind s.front b.block.place ≡ Some p = sym (s.place b.block.place) ∙ ap (place_behind before) (sym b.place) ∙ place in
         let note = pairs.noted n b.block s.front s.behind s.i b.is s.is there wrote in
@@ -240,13 +240,13 @@ module _ (u : UnitForm) (log : List Logged) (g : Graph) (blocks : List Block) (t
         → (value ≡ Is (Of (Name x))) × (front : List Instruction) × (i : Instruction) × (before ≡ front ++ i ∷ []) × (writes x i ≡ true)
     written_made n c before rest value at parts place =
         let b : WasBlock u log g blocks taken n c = was_block u log g blocks taken n c at in
-        let s = said_at log g n b.block.end b.block.instructions c.instructions b.said before (Note x value) rest parts in
+        let s = said_at u.assignments log g n b.block.end b.block.instructions c.instructions b.said before (Note x value) rest parts in
         let was = left_note log g n s.behind b.block.end x value s.left refl in
         let there : place_behind s.front b.block.place ≡ Some p = sym (s.place b.block.place) ∙ ap (place_behind before) (sym b.place) ∙ place in
         let pair = pairs.written n b.block s.front s.behind was.0 b.is (s.is ∙ ap (λ i. s.front ++ i ∷ s.behind) was.1) there in
         let is_own : s.i ≡ own = was.1 ∙ ap (Note x) pair.0 in
         let stands : StandsWith g p n (s.i ∷ s.behind) b.block.end = record { block = b.block; before = s.front; is = b.is; instructions = s.is; ends = refl; place = there } in
-        let says = left_says log g n b.block.end s.behind s.i (Note x value) x value s.left refl in
+        let says = left_says u.assignments log g n b.block.end s.behind s.i (Note x value) x value s.left refl in
         let target : target_of pair.2 ≡ Some x = target_written x pair.2 pair.4 in
         let whole : b.block.instructions ≡ pair.1 ++ pair.2 ∷ s.i ∷ s.behind = s.is ∙ ap (λ l. l ++ s.i ∷ s.behind) pair.3 ∙ append_assoc pair.1 (pair.2 ∷ []) (s.i ∷ s.behind) in
         let in_place : place_behind pair.1 b.block.place ≡ Some p = sym (plain_last pair.1 pair.2 b.block.place (plain_target x pair.2 target)) ∙ ap (λ l. place_behind l b.block.place) (sym pair.3) ∙ there in

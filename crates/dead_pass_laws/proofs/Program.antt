@@ -22,7 +22,7 @@ going_markers : (i : Instruction) (rest others : List Instruction) → GoesAs i 
 going_markers i rest others (computed is) one = ap (λ l. markers_in (l ++ others)) (computed_plain i is).left ∙ one ∙ sym ((computed_plain i is).markers rest)
 going_markers _ rest others called one = one
 
-module _ {assignments : List Assignment} (g : Graph) (n : ℕ) (e : End) where
+module _ (g : Graph) (n : ℕ) (e : End) where
   -- What is left of one that stays has the same markers.
   staying_markers : {i j : Instruction} (rest behind others : List Instruction) → StaysAs g n behind e i j → markers_in others ≡ markers_in rest → markers_in (j ∷ others) ≡ markers_in (i ∷ rest)
   staying_markers rest behind others (same {i}) one = marker_same i one
@@ -32,11 +32,12 @@ module _ {assignments : List Assignment} (g : Graph) (n : ℕ) (e : End) where
       marker_same _ one = one
   staying_markers rest behind others (noted reached) one = one
 
+module _ {assignments : List Assignment} (g : Graph) (n : ℕ) (e : End) where
   -- What is left of instructions has the same markers.
   reduced_markers : (xs ys : List Instruction) → AreReduced assignments g n e xs ys → markers_in ys ≡ markers_in xs
   reduced_markers xs ys ends = refl
   reduced_markers xs ys (gone {i} {rest} {after = others} it_goes more) = going_markers i rest others (goes_as g n i rest e it_goes) (reduced_markers rest others more)
-  reduced_markers xs ys (stays {i} {j} {rest} {after = others} stay is more) = staying_markers rest rest others is (reduced_markers rest others more)
+  reduced_markers xs ys (stays {i} {j} {rest} {after = others} stay is more) = staying_markers g n e rest rest others is (reduced_markers rest others more)
 
 -- Blocks that have the same markers one by one have the same together.
 blocks_markers : (bs cs : List Block) → length cs ≡ length bs → ((n : ℕ) (b c : Block) → slice_get bs n ≡ Some b → slice_get cs n ≡ Some c → markers_in c.instructions ≡ markers_in b.instructions) → markers_of_blocks cs ≡ markers_of_blocks bs
@@ -62,11 +63,11 @@ same_function g h made =
     }
 
 -- So it is of all.
-same_functions : {assignments : List Assignment} → (gs hs : List Graph) → EachFunction (IsReduced assignments) gs hs → Pairs SameFunction gs hs
-same_functions [] [] made = tt
-same_functions [] (h ∷ hs) made = absurd made
-same_functions (g ∷ gs) [] made = absurd made
-same_functions (g ∷ gs) (h ∷ hs) made = (same_function g h made.0, same_functions gs hs made.1)
+same_functions : (assignments : List Assignment) (gs hs : List Graph) → EachFunction (IsReduced assignments) gs hs → Pairs SameFunction gs hs
+same_functions assignments [] [] made = tt
+same_functions assignments [] (h ∷ hs) made = absurd made
+same_functions assignments (g ∷ gs) [] made = absurd made
+same_functions assignments (g ∷ gs) (h ∷ hs) made = (same_function g h made.0, same_functions assignments gs hs made.1)
 
 -- THE REMOVAL OF DEAD ASSIGNMENTS KEEPS THE PROGRAM. Where just the writes are gone that go, a change is logged for each write of a variable that went, and what functions share is the same, the unit
 -- after is of the same program.
@@ -80,5 +81,5 @@ removed_program u v shared pass adds made = record {
   room = shared.room;
   added = map (logged_as pass Removed) adds.cases;
   log = adds.log;
-  functions = same_functions u.graphs v.graphs made;
+  functions = same_functions u.assignments u.graphs v.graphs made;
 }

@@ -45,7 +45,7 @@ stands_at {place = place} (behind {j} s) =
 
 -- ---- From after to before
 
-module _ {assignments : List Assignment} (log : List Logged) (g : Graph) (n : ℕ) (e : End) (p : ℕ) (j : Instruction) where
+module _ (assignments : List Assignment) (log : List Logged) (g : Graph) (n : ℕ) (e : End) (p : ℕ) (j : Instruction) where
   -- Among instructions before stood one in the place, of which this is left.
   record StoodIn (place : Option ℕ) (all : List Instruction) : Type 0 where
     instruction : Instruction
@@ -90,7 +90,7 @@ module _ {assignments : List Assignment} (log : List Logged) (g : Graph) (n : �
 
 -- ---- From before to after
 
-module _ {assignments : List Assignment} (log : List Logged) (g : Graph) (n : ℕ) (e : End) (p : ℕ) (i : Instruction) (rest : List Instruction) (stay : Goes assignments g n (i ∷ rest) e → ⊥) where
+module _ (assignments : List Assignment) (log : List Logged) (g : Graph) (n : ℕ) (e : End) (p : ℕ) (i : Instruction) (rest : List Instruction) (stay : Goes assignments g n (i ∷ rest) e → ⊥) where
   -- An instruction that does not go stands in the place among what is left, itself or as a note of the same scalar.
   record StaysIn (place : Option ℕ) (ys : List Instruction) : Type 0 where
     other : Instruction
@@ -160,7 +160,7 @@ module _ (u : UnitForm) (log : List Logged) (g : Graph) (blocks : List Block) (t
   pub stood_before : (p : ℕ) (j : Instruction) → InPlace (reduced_graph g blocks) p j → StoodBefore p j
   stood_before p j at =
       let b = was_block u log g blocks taken at.number at.block at.is in
-      let s = stood_in log g at.number b.block.end p j b.block.place b.block.instructions at.block.instructions b.said (subst (λ o. StandsIn p j o at.block.instructions) b.place at.stands) in
+      let s = stood_in u.assignments log g at.number b.block.end p j b.block.place b.block.instructions at.block.instructions b.said (subst (λ o. StandsIn p j o at.block.instructions) b.place at.stands) in
       record {
         n = at.number;
         instruction = s.instruction;
@@ -180,7 +180,7 @@ module _ (u : UnitForm) (log : List Logged) (g : Graph) (blocks : List Block) (t
   pub stands_after : (p n : ℕ) (i : Instruction) (rest : List Instruction) (e : End) → StandsWith g p n (i ∷ rest) e → (Goes u.assignments g n (i ∷ rest) e → ⊥) → StandsAfter p i
   stands_after p n i rest e st stay =
       let c = block_after u log g blocks taken n st.block st.is in
-      let s = stays_in log g n st.block.end p i rest (λ it_goes. stay (subst (λ f. Goes u.assignments g n (i ∷ rest) f) (sym st.ends) it_goes)) st.block.place st.before st.block.instructions c.block.instructions c.said st.instructions st.place in
+      let s = stays_in u.assignments log g n st.block.end p i rest (λ it_goes. stay (subst (λ f. Goes u.assignments g n (i ∷ rest) f) (sym st.ends) it_goes)) st.block.place st.before st.block.instructions c.block.instructions c.said st.instructions st.place in
       record {
         other = s.other;
         kept = s.kept;

@@ -314,7 +314,7 @@ module _ (u v : UnitForm) (log : List Logged) (made : EachFunction (IsMade u log
               rest = some.1.instructions;
               wants = wants;
               waiting = waiting;
-              is = ap (λ e. record d { here = record d.here { rest = some.1.instructions; end = e } }) (block_ends u log c.here.graph blocks l some.0 some.1 came.taken some.2 some.3);
+              is = ap (λ e. record d { here = record d.here { block = l; rest = some.1.instructions; end = e } }) (block_ends u log c.here.graph blocks l some.0 some.1 came.taken some.2 some.3);
               here = record {
                 block = l;
                 came = came_on u log c.here.graph blocks c.here.names others n l c.here.end some.0 to some.2 came;

@@ -1,10 +1,10 @@
 -- What is written in a place of the graph after: what stays of the writes before.
-use Rattle.std.proofs.Common.{◌≡◌, ℕ, zero, suc, ◌<◌, inl, inr, true, true≢false, Some, List, [], ◌∷◌, ◌++◌, length, sym, ap, ◌∙◌, subst, arith}
-use Rattle.std.specs.Prelude.{◌==◌, option_map, slice_get}
+use Rattle.std.proofs.Common.{◌≡◌, ℕ, ◌<◌, inl, inr, true, true≢false, List, [], ◌∷◌, ◌++◌, length, sym, ap, ◌∙◌, subst, arith}
+use Rattle.std.specs.Prelude.{◌==◌}
 use Rattle.std.proofs.lemmas.Bool.{and_from, eq-eqb}
-use Rattle.std.proofs.lemmas.Option.{none-some, same_Some}
+use Rattle.std.proofs.lemmas.Option.{same_Some}
 use Rattle.places.specs.declared.flow.Assignment.{Assignment}
-use Rattle.graph_core.specs.Graphs.{Instruction, Scalar, End, Block, Graph, Logged, UnitForm}
+use Rattle.graph_core.specs.Graphs.{Instruction, End, Block, Graph, Logged, UnitForm}
 use Rattle.graph_core.specs.Paths.{writes, is_bound}
 use Rattle.graph_core.specs.Points.{StandsWith, assignments_in}
 use Rattle.graph_core.specs.Validity.{place_behind}

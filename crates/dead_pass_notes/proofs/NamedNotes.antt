@@ -17,14 +17,14 @@ removal_counted log p variable number is =
     let within = slice_get_within log is.k is.change is.is in
     (omega (arith, is.counted), omega (arith, is.counted, within))
 
-module _ {assignments : List Assignment} (u : UnitForm) (g : Graph) (valid : IsGraph u g) where
+module _ (u : UnitForm) (g : Graph) (valid : IsGraph u g) where
   -- An instruction that stands at a point names what there is.
   standing_names : (p n : ℕ) (i : Instruction) (rest : List Instruction) (e : End) → StandsWith g p n (i ∷ rest) e → IsInstruction u g i
   standing_names p n i rest e s =
       let block : IsBlock u g s.block = all_at (IsBlock u g) g.blocks n s.block valid.blocks s.is in
       all_within (IsInstruction u g) s.before i rest (subst (AllByRecursion (IsInstruction u g)) s.instructions block.instructions)
 
-  module _ (p k : ℕ) (note : List Instruction) (last : End) where
+  module _ {assignments : List Assignment} (p k : ℕ) (note : List Instruction) (last : End) where
     -- The recipe of an operand that names what there is names what there is: so does each definition that it goes back to.
     recipe_names : (n : ℕ) (rest : List Instruction) (e : End) (a : Operand) (r : Recipe) → IsRecipe assignments g p k note last n rest e a r → IsOperand u.statics g a → AreOperandsOf u.statics g r
     recipe_names n rest e a r constant h = tt

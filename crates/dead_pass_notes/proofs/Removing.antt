@@ -67,8 +67,8 @@ module _ {assignments : List Assignment} (u : UnitForm) (log : List Logged) (gro
           record { place = s.place; end = s.end; instructions = instructions_thinned n b.end b.instructions c.instructions (said.notes n b c at there) block.instructions }
 
 -- So it is with all graphs of a valid unit.
-pub graphs_thinned : {assignments : List Assignment} → (u : UnitForm) (log : List Logged) → length u.log ≤ length log → (gs hs : List Graph) → AllByRecursion (IsGraph u) gs → EachFunction (IsReduced assignments) gs hs → EachFunction (SaysWhatItShall assignments log) gs hs → Pairs (IsThinned (MayBeSaid u log)) gs hs
-graphs_thinned u log grown [] [] valid reduced said = tt
-graphs_thinned u log grown [] (h ∷ hs) valid reduced said = absurd reduced
-graphs_thinned u log grown (g ∷ gs) [] valid reduced said = absurd reduced
-graphs_thinned u log grown (g ∷ gs) (h ∷ hs) valid reduced said = (graph_thinned u log grown g valid.0 h reduced.0 said.0, graphs_thinned u log grown gs hs valid.1 reduced.1 said.1)
+pub graphs_thinned : (assignments : List Assignment) (u : UnitForm) (log : List Logged) → length u.log ≤ length log → (gs hs : List Graph) → AllByRecursion (IsGraph u) gs → EachFunction (IsReduced assignments) gs hs → EachFunction (SaysWhatItShall assignments log) gs hs → Pairs (IsThinned (MayBeSaid u log)) gs hs
+graphs_thinned assignments u log grown [] [] valid reduced said = tt
+graphs_thinned assignments u log grown [] (h ∷ hs) valid reduced said = absurd reduced
+graphs_thinned assignments u log grown (g ∷ gs) [] valid reduced said = absurd reduced
+graphs_thinned assignments u log grown (g ∷ gs) (h ∷ hs) valid reduced said = (graph_thinned u log grown g valid.0 h reduced.0 said.0, graphs_thinned assignments u log grown gs hs valid.1 reduced.1 said.1)

@@ -52,9 +52,9 @@ module _ (item : declared-instr.Instr) (no_truncate : (x : declared-name.Name) (
       by (instr.CopyWords object bytes words) same e = cc
       by (instr.Call y f all) same e = cc
 
-  pub none_made : (g : Graph) (note : NotePoint) (d : Spot) → left_at g d.block (suc d.left) ≡ instruction_view item ∷ left_at g d.block d.left
+  pub none_made : {assignments : List Assignment} → (g : Graph) (note : NotePoint) (d : Spot) → left_at g d.block (suc d.left) ≡ instruction_view item ∷ left_at g d.block d.left
       → ((x : ℕ) (a : Operand) (rest : List Instruction) → left_at g d.block (suc d.left) ≢ Move x a ∷ rest) → (r : Recipe) → IsMade assignments g note d r → ⊥
-  none_made g note d is no_copy r made = by made.right made.is
+  none_made {assignments} g note d is no_copy r made = by made.right made.is
     where
       by : {i : Instruction} {q : Recipe} → IsRightSide assignments g note.place.0 note.spot.block (noted g note) (end_at g note.spot.block) d.block (left_at g d.block d.left) (end_at g d.block) i q → left_at g d.block (suc d.left) ≡ i ∷ left_at g d.block d.left → ⊥
       by (moved {x = x} {a = a} s) e = no_copy x a (left_at g d.block d.left) e

@@ -25,7 +25,7 @@ thinned_valid u v valid share thinned grown = subst IsValid (sym (shared u v sha
 
 -- THE UNIT THAT THE REMOVAL OF DEAD ASSIGNMENTS MAKES OF A VALID UNIT IS VALID.
 pub removed_valid : (u v : UnitForm) → IsValid u → ShareTheSame u v → (pass : PassName) → AddsChangesOf pass Removed (λ before after. IsRemovedWrite u.assignments before) u v → EachFunction (IsReduced u.assignments) u.graphs v.graphs → EachFunction (SaysWhatItShall u.assignments v.log) u.graphs v.graphs → IsValid v
-removed_valid u v valid share pass adds reduced said = thinned_valid u v valid share (graphs_thinned u v.log grown u.graphs v.graphs valid.graphs reduced said) grown
+removed_valid u v valid share pass adds reduced said = thinned_valid u v valid share (graphs_thinned u.assignments u v.log grown u.graphs v.graphs valid.graphs reduced said) grown
   where
     grown : length u.log ≤ length v.log
     grown = omega (arith, ap (λ (l : List Logged). length l) adds.log, length-append u.log (map (logged_as pass Removed) adds.cases))

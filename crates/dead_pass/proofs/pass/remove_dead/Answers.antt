@@ -36,12 +36,12 @@ returns-clause-changes c =
 pub returns-clause-functions : goal.returns-clause-functions
 returns-clause-functions c =
     let left : EachFunction (IsReduced (unit_view c.args.unit.now).assignments) (map graph_view c.args.unit.now.graphs.items) (map graph_view c.in-Some-4.graphs.items) = search rules in
-    each_keeps (map graph_view c.args.unit.now.graphs.items) (map graph_view c.in-Some-4.graphs.items) left
+    each_keeps (unit_view c.args.unit.now).assignments (map graph_view c.args.unit.now.graphs.items) (map graph_view c.in-Some-4.graphs.items) left
 
 pub returns-clause-left : goal.returns-clause-left
 returns-clause-left c =
     let left : EachFunction (IsReduced (unit_view c.args.unit.now).assignments) (map graph_view c.args.unit.now.graphs.items) (map graph_view c.in-Some-4.graphs.items) = search rules in
-    each_left (map graph_view c.args.unit.now.graphs.items) (map graph_view c.in-Some-4.graphs.items) left
+    each_left (unit_view c.args.unit.now).assignments (map graph_view c.args.unit.now.graphs.items) (map graph_view c.in-Some-4.graphs.items) left
 
 pub returns-clause-notes : goal.returns-clause-notes
 returns-clause-notes c =

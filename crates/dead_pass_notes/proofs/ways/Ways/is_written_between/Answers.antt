@@ -1,6 +1,7 @@
-use Rattle.std.proofs.Common.{◌≡◌, Some, length, refl, sym, ap, ◌∙◌, subst}
+use Rattle.std.proofs.Common.{◌≡◌, List, Some, length, refl, sym, ap, ◌∙◌, subst}
 use Rattle.std.specs.Prelude.{◌↔◌, false, slice_get, true}
 use Rattle.std.proofs.lemmas.Result.{IfOk-weaker}
+use Rattle.places.specs.declared.flow.Assignment.{Assignment}
 use Rattle.graph_core.specs.Graphs.{block_view, end_view, graph_view}
 use Rattle.dead_pass_rule.specs.Asking.{is_going}
 use Rattle.dead_pass_rule.specs.Walks.{turn_of}
@@ -30,7 +31,7 @@ returns-clause-exact c =
     let at : slice_get g.blocks n ≡ Some (block_view b) = there block_view c.deref.result.now c.args.graph.now.blocks.items n b c.deref.ensures.value c.in-Some.ensures.lookup.3.0 c.in-Some.ensures.lookup.1 in
     let end : end_view b.end ≡ end_at g n = sym (end_there g n (block_view b) at) in
     let rest = c.instructions_left-rest.ensures in
-    IfOk-weaker c.search.result (λ is. IsReady g goes to now → AreSeen now → (is ≡ true) ↔ SomeComes g to y now.ahead.items) _
+    IfOk-weaker c.search.result (λ is. (assignments : List Assignment) → IsReady assignments g goes to now → AreSeen now → (is ≡ true) ↔ SomeComes assignments g to y now.ahead.items) _
     (λ is exact assignments ready point.
     (let begun = c.begin.ensures in
     let visited = c.in_ok-visit.ensures in
