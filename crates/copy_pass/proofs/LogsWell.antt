@@ -199,10 +199,10 @@ module _ (g : Graph) where
     few_at : (k : ℕ) (names : List ℕ) → slice_get (reads_in b.instructions b.end) k ≡ Some names → (part : List (ℕ × Case)) → AllByRecursion (IsOfIndex f n k) part → AreApart part → length part ≤ length names
     few_at k names there part are apart =
         let most = few_by_key {A = ℕ × Case} (λ (x : ℕ). 1) names (λ c. c.1.operand) (IsOfIndex f n k)
-            (λ c is. (let a = is.0.0.2 in
-            let same : reads_at a.rest a.end ≡ names = same_Some (reads_at a.rest a.end) names (sym (reads_there c is.0) ∙ ap (slice_get (reads_in b.instructions b.end)) is.1 ∙ there) in
-            slice_get_within names c.1.operand a.x (ap (λ l. slice_get l c.1.operand) (sym same) ∙ a.other.before)))
-            (λ o x there_too few these no_two. one_of_operand k o few these no_two) part are apart in
+        (λ c is. (let a = is.0.0.2 in
+        let same : reads_at a.rest a.end ≡ names = same_Some (reads_at a.rest a.end) names (sym (reads_there c is.0) ∙ ap (slice_get (reads_in b.instructions b.end)) is.1 ∙ there) in
+        slice_get_within names c.1.operand a.x (ap (λ l. slice_get l c.1.operand) (sym same) ∙ a.other.before)))
+        (λ o x there_too few these no_two. one_of_operand k o few these no_two) part are apart in
         let ones = total_ones names in
         omega (arith, most, ones)
 
@@ -229,9 +229,9 @@ module _ (u v : UnitForm) (pass : PassName) (marked : AreWellMarked u) (changes 
   few : (cases : List (ℕ × Case)) → AllByRecursion IsOfUnit cases → AreApart cases → length cases ≤ most_changes u.room
   few cases are apart =
       let all = few_by_key {A = ℕ × Case} (λ (g : Graph). total read_in_block g.blocks) u.graphs (λ c. c.0) IsOfUnit (λ c is. slice_get_within u.graphs c.0 is.before is.stood)
-          (λ f g at part these no_two. few_in_graph g f part (all_so (λ c. IsOfUnit c × (c.0 ≡ f)) (λ c. (c.0 ≡ f) × (h : Graph) × IsReplacedRead g h c.1)
-          (λ c is. (is.1, is.0.after, subst (λ h. IsReplacedRead h is.0.after c.1) (same_Some is.0.before g (sym is.0.stood ∙ ap (slice_get u.graphs) is.1 ∙ at)) is.0.case)) part these) no_two)
-          cases are apart in
+      (λ f g at part these no_two. few_in_graph g f part (all_so (λ c. IsOfUnit c × (c.0 ≡ f)) (λ c. (c.0 ≡ f) × (h : Graph) × IsReplacedRead g h c.1)
+      (λ c is. (is.1, is.0.after, subst (λ h. IsReplacedRead h is.0.after c.1) (same_Some is.0.before g (sym is.0.stood ∙ ap (slice_get u.graphs) is.1 ∙ at)) is.0.case)) part these) no_two)
+      cases are apart in
       let read = few_in_graphs u.graphs in
       let instructions = marked.valid.instructions in
       let blocks = marked.valid.blocks in

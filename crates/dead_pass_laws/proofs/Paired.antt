@@ -145,7 +145,7 @@ module _ (assignments : List Assignment) (log : List Logged) (g : Graph) (n : �
             h,
             ap (λ q. h ∷ q) (s.none (rest_same z)),
             subst (λ q. SaysAs assignments log g n (s.i ∷ s.behind) e m q) (first_same whole)
-            (subst (λ q. SaysAs assignments log g n (s.i ∷ s.behind) e q l) (first_same z) (subst (λ q. SaysAs assignments log g n q e k l) all says)),
+                (subst (λ q. SaysAs assignments log g n (s.i ∷ s.behind) e q l) (first_same z) (subst (λ q. SaysAs assignments log g n q e k l) all says)),
           )
       by_first (f ∷ first) m z not_m = (let was = s.last first m (rest_same z) not_m in (h ∷ was.0, was.1, ap (λ q. h ∷ q) was.2, was.3))
 

@@ -6,6 +6,7 @@ use Rattle.dead_pass_notes.specs.Idle.{assignments_of, graph_of}
 use Rattle.dead_pass_notes.specs.Sources.{Gives, IsFound, IsSource}
 use Rattle.dead_pass_notes.proofs.Found.{none_shallow}
 use Rattle.dead_pass_notes.proofs.recipes.+recipe_at.Goals as goal
+
 pub returns-then-depth-eq0-clause-found : goal.returns-then-depth-eq0-clause-found
 returns-then-depth-eq0-clause-found t c = λ known room source.
     (let given = Gives (assignments_of c.args.idle.now) (graph_of c.args.idle.now) c.args.note c.args.source in

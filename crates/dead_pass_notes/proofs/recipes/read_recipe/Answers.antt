@@ -5,6 +5,7 @@ use Rattle.dead_pass_notes.specs.Sources.{IsFound, IsRead}
 use Rattle.dead_pass_notes.proofs.Found.{read_name, read_none, read_other}
 use Rattle.dead_pass_notes.proofs.recipes.read_recipe.Goals as goal
 use Rattle.dead_pass_notes.proofs.recipes.read_recipe.Goals.{in-Name+in_ok-still_holds+else-not-branch, in_default}
+
 pub returns-then-not-branch-clause-found : goal.returns-then-not-branch-clause-found
 returns-then-not-branch-clause-found c = λ known room source depth.
     (let g = graph_of c.args.idle.now in

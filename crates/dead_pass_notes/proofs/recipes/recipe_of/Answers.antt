@@ -9,6 +9,7 @@ use Rattle.dead_pass_notes.specs.Sources.{Gives, IsMade, IsSource}
 use Rattle.dead_pass_notes.proofs.Found.{found_same, made_copied}
 use Rattle.dead_pass_notes.proofs.recipes.recipe_of.Goals as goal
 use Rattle.dead_pass_notes.proofs.recipes.recipe_of.Goals.{in-Some+in_ok-source-in-Some, in-None}
+
 pub returns-clause-found : goal.returns-clause-found
 returns-clause-found c =
     let g = graph_of c.args.idle.now in

@@ -8,6 +8,7 @@ use Rattle.dead_pass_notes.proofs.Circles.{IsMarked, marked_again, marked_here, 
 use Rattle.dead_pass_notes.proofs.Sources.{copied_read, here, made_read, none_read}
 use Rattle.dead_pass_notes.proofs.recipes.source_of.Goals as goal
 use Rattle.dead_pass_notes.proofs.recipes.source_of.Goals.{then-steps-limit, else-steps-limit}
+
 pub loop-steps-init : goal.loop-steps-init
 loop-steps-init c = record {
   same = λ borne r. ((λ q. q), (λ q. q));

@@ -5,6 +5,7 @@ use Rattle.dead_pass_notes.specs.Idle.{IsBorneOut, assignments_of, graph_of}
 use Rattle.dead_pass_notes.specs.Sources.{IsRead}
 use Rattle.dead_pass_notes.proofs.Circles.{IsMarked}
 use Rattle.dead_pass_notes.proofs.recipes.source_of.Given as goal
+
 abbrev pub invariant-loop-steps : goal.invariant-loop-steps
 invariant-loop-steps l = record {
   same : IsBorneOut l.idle → (r : Recipe) → IsRead (assignments_of l.idle) (graph_of l.idle) l.note l.fn.at (operand_view l.fn.operand) r ↔ IsRead (assignments_of l.idle) (graph_of l.idle) l.note l.at (operand_view l.operand) r;

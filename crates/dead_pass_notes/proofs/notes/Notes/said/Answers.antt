@@ -8,6 +8,7 @@ use Rattle.dead_pass_notes.specs.Lost.{IsToldLost, said_by}
 use Rattle.dead_pass_notes.specs.Sources.{IsSaidAt}
 use Rattle.dead_pass_notes.proofs.Saying.{lost_told, said_lost, said_same, told_lost}
 use Rattle.dead_pass_notes.proofs.notes.Notes.said.Goals as goal
+
 pub returns-then-not-is_lost-clause-said : goal.returns-then-not-is_lost-clause-said
 returns-then-not-is_lost-clause-said c =
     let before = note_view c.args.before.now in

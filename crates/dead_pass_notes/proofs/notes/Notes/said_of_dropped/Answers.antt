@@ -9,6 +9,7 @@ use Rattle.dead_pass_notes.specs.Sources.{IsFound, IsMade, IsSaidAt}
 use Rattle.dead_pass_notes.proofs.Sources.{at_spot}
 use Rattle.dead_pass_notes.proofs.Saying.{dropped_at, once_there, recipe_found, recipe_none, said_gone, said_recipe}
 use Rattle.dead_pass_notes.proofs.notes.Notes.said_of_dropped.Goals as goal
+
 pub returns-in-Some-clause-said : goal.returns-in-Some-clause-said
 returns-in-Some-clause-said c = λ log told known room once going.
     (let idle = c.args.idle.now in
