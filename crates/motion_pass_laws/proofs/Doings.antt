@@ -4,7 +4,7 @@ use Rattle.std.specs.Prelude.{◌==◌}
 use Rattle.std.proofs.lemmas.Bool.{ne_eqb}
 use Rattle.std.proofs.lemmas.Option.{none-some, same_Some}
 use Rattle.graph_core.specs.Graphs.{NoteValue, Instruction, Marker, Note, Move, Operate, Truncate, Same, Address, Load, Store, Zero, CopyWords, Call, Graph}
-use Rattle.graph_core.specs.Uses.{reads_of}
+use Rattle.graph_core.specs.Uses.{reads_of, target_of}
 use Rattle.graph_core.specs.Paths.{Among, front, behind, place_by, writes, is_marker, is_call, notes, owed_by}
 use Rattle.graph_core.specs.Computations.{Computation, Operating, Truncating, Comparing, computed_by, operands_of}
 use Rattle.graph_core.specs.Validity.{place_behind, markers_in}
@@ -30,6 +30,12 @@ doing_notes : (x y : ℕ) (e : Computation) → notes y (doing x e) ≡ false
 doing_notes x y (Operating o a b) = refl
 doing_notes x y (Truncating t a) = refl
 doing_notes x y (Comparing a b) = refl
+
+-- Its target is its name.
+doing_target : (x : ℕ) (e : Computation) → target_of (doing x e) ≡ Some x
+doing_target x (Operating o a b) = refl
+doing_target x (Truncating t a) = refl
+doing_target x (Comparing a b) = refl
 
 -- It writes its name.
 doing_writes : (x y : ℕ) (e : Computation) → writes y (doing x e) ≡ (x == y)
@@ -87,6 +93,10 @@ module _ (g : Graph) (e : Computation) (i : Instruction) (is : IsDoing g e i) wh
   -- It writes no name of the graph.
   pub new_writes : (x : ℕ) → x < g.name_count → writes x i ≡ false
   new_writes x less = ap (writes x) is.is ∙ doing_writes is.name x e ∙ new_other x less
+
+  -- Its target is its name.
+  pub new_target : target_of i ≡ Some is.name
+  new_target = ap target_of is.is ∙ doing_target is.name e
 
   -- The place in force stays.
   pub new_place : (before : Option ℕ) → place_by i before ≡ before
@@ -160,6 +170,13 @@ module _ (g : Graph) where
   same_writes x (of_operate fresh) = refl
   same_writes x (of_truncate fresh) = refl
   same_writes x (of_same fresh) = refl
+
+  -- They write to the same name, or to none.
+  pub same_target : {i j : Instruction} → StaysOrReads g i j → target_of j ≡ target_of i
+  same_target stays = refl
+  same_target (of_operate fresh) = refl
+  same_target (of_truncate fresh) = refl
+  same_target (of_same fresh) = refl
 
   -- They begin a place, or do not.
   pub same_marker : {i j : Instruction} → StaysOrReads g i j → is_marker j ≡ is_marker i

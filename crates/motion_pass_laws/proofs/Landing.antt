@@ -13,26 +13,27 @@ use Rattle.graph_core.specs.Runs.{Activation, Configuration, entered}
 use Rattle.motion_pass_points.specs.Ways.{within, along, leaves, enters, IsCome, goes}
 use Rattle.motion_pass_placement.specs.Moving.{AreDoneAt, AreMoved, no_more, IsLed, directly, by_own, IsEnd, returns, jumps, branches, IsMoved}
 use Rattle.motion_pass_laws.proofs.Ready.{end_inserted}
-use Rattle.motion_pass_laws.proofs.Quiet.{moved_graph, after_of, moved_configuration, IsQuiet, quiet_none, quiet_step, quiet_and}
+use Rattle.motion_pass_laws.proofs.Quiet.{moved_graph, after_of, moved_configuration, standing_in, IsQuiet, quiet_none, quiet_step, quiet_and}
 use Rattle.motion_pass_laws.proofs.Carried.{all_at, AreCarried, AreHeld, held_there, held_behind, carried_on, valid_at}
 use Rattle.motion_pass_laws.proofs.Settling.{IsSettling, settles}
 use Rattle.motion_pass_laws.proofs.Blocks.{at_left, at_right}
 use Rattle.motion_pass_laws.proofs.Fits.{IsMovedAt, IsMovedTo, moved_to, at_block, Fits, left, moved}
 
 module _ (u v : UnitForm) (c : Configuration) (count : ℕ) (blocks : List Block) where
-  -- A BLOCK AFTER LEADS TO ONE BEFORE: from its beginning the run after comes, with nothing seen, to a point that fits the beginning of that before.
-  pub record IsLanding (others : ℕ → Value) (b : Block) (label : ℕ) : Type 0 where
+  -- A BLOCK AFTER LEADS TO ONE BEFORE: from its beginning the run after comes, with nothing seen, to a point that fits the beginning of that before, in the block of the same number.
+  pub record IsLanding (others : ℕ → Value) (b : Block) (to label : ℕ) : Type 0 where
     pub block : Block
     pub stands : slice_get blocks label ≡ Some block
     pub names : ℕ → Value
     pub rest : List Instruction
     pub end : End
-    pub quiet : (waiting : List Activation) → IsQuiet (after_of u v) (moved_configuration c count blocks others block.instructions block.end waiting) (moved_configuration c count blocks names rest end waiting)
+    pub quiet : (waiting : List Activation)
+        → IsQuiet (after_of u v) (moved_configuration (standing_in label c) count blocks others block.instructions block.end waiting) (moved_configuration (standing_in to c) count blocks names rest end waiting)
     pub fits : Fits u c.here.graph count blocks (is_live c.memory) c.here.names names b.instructions rest b.end end
 
   -- So it is with the blocks of these numbers, if there is one before.
   abbrev pub Lands : (others : ℕ → Value) (to label : ℕ) → Type 0
-  Lands others to label = (b : Block) → slice_get c.here.graph.blocks to ≡ Some b → IsLanding others b label
+  Lands others to label = (b : Block) → slice_get c.here.graph.blocks to ≡ Some b → IsLanding others b to label
 
   -- An end after does what one before does, and leads to where that one leads.
   pub data LeadsTo (others : ℕ → Value) : (before after : End) → Type 0 where
@@ -61,10 +62,11 @@ module _ (u v : UnitForm) (c : Configuration) (count : ℕ) (blocks : List Block
           let held = held_there u c.here.graph valid (is_live c.memory) c.here.names made.treated (within n [] end) others (λ e inserted. end_inserted c.here.graph.blocks e come inserted) carried in
           carried_on u c.here.graph valid (is_live c.memory) c.here.names c.here.names made.treated (within n [] end) (along n l) others others come (leaves among) held carried.agree (λ k. refl) (λ e same. refl)
 
-      module _ (done : List Instruction) (are : AreDoneAt c.here.graph.blocks (along n l) c.here.graph.name_count made.treated done) where
+      -- what is done on it, in a block of this number
+      module _ (done : List Instruction) (are : AreDoneAt c.here.graph.blocks (along n l) c.here.graph.name_count made.treated done) (number : ℕ) where
         -- what is done on it is done
-        pub edge_settled : IsSettling u v c.here.graph valid c c.here.names count blocks (along n l) c.here.graph.name_count made.treated done others
-        edge_settled = settles u v c.here.graph valid c c.here.names count blocks (along n l) c.here.graph.name_count made.treated done are (omega (arith)) others carried.agree
+        pub edge_settled : IsSettling u v c.here.graph valid (standing_in number c) c.here.names count blocks (along n l) c.here.graph.name_count made.treated done others
+        edge_settled = settles u v c.here.graph valid (standing_in number c) c.here.names count blocks (along n l) c.here.graph.name_count made.treated done are (omega (arith)) others carried.agree
 
         -- and then the names agree and have what is held
         edge_held : AreHeld u c.here.graph valid (is_live c.memory) c.here.names made.treated (along n l) edge_settled.after
@@ -84,7 +86,7 @@ module _ (u v : UnitForm) (c : Configuration) (count : ℕ) (blocks : List Block
           names = edge_settled.after;
           rest = to.block.instructions;
           end = to.block.end;
-          quiet = λ waiting. quiet_none (after_of u v) (moved_configuration c count blocks edge_settled.after to.block.instructions to.block.end waiting);
+          quiet = λ waiting. quiet_none (after_of u v) (moved_configuration (standing_in l c) count blocks edge_settled.after to.block.instructions to.block.end waiting);
           fits = edge_fits b at to;
         })
 
@@ -93,11 +95,11 @@ module _ (u v : UnitForm) (c : Configuration) (count : ℕ) (blocks : List Block
       leads_directly are b at = (let to = moved_to u c.here.graph count blocks made l b at in record {
         block = to.block;
         stands = to.stands;
-        names = (edge_settled [] are).after;
+        names = (edge_settled [] are l).after;
         rest = to.block.instructions;
         end = to.block.end;
-        quiet = λ waiting. (edge_settled [] are).quiet to.block.instructions to.block.end waiting;
-        fits = edge_fits [] are b at to;
+        quiet = λ waiting. (edge_settled [] are l).quiet to.block.instructions to.block.end waiting;
+        fits = edge_fits [] are l b at to;
       })
 
       -- An edge with a block of its own leads there by it.
@@ -109,18 +111,26 @@ module _ (u v : UnitForm) (c : Configuration) (count : ℕ) (blocks : List Block
         names = s.after;
         rest = to.block.instructions;
         end = to.block.end;
-        quiet = λ waiting. quiet_and (after_of u v) (moved_configuration c count blocks others all (Jump l) waiting) (moved_configuration c count blocks s.after [] (Jump l) waiting) (moved_configuration c count blocks s.after to.block.instructions to.block.end waiting)
-            (subst (λ xs. IsQuiet (after_of u v) (moved_configuration c count blocks others xs (Jump l) waiting) (moved_configuration c count blocks s.after [] (Jump l) waiting)) (append-nil all) (s.quiet [] (Jump l) waiting))
-            (quiet_step (after_of u v) (moved_configuration c count blocks s.after [] (Jump l) waiting) (moved_configuration c count blocks s.after to.block.instructions to.block.end waiting)
-            (ap (entered (moved_configuration c count blocks s.after [] (Jump l) waiting)) to.stands));
-        fits = edge_fits all are b at to;
+        quiet = λ waiting. quiet_and (after_of u v) (own_begun waiting) (own_done waiting) (there waiting)
+            (subst (λ xs. IsQuiet (after_of u v) (moved_configuration (standing_in label c) count blocks others xs (Jump l) waiting) (own_done waiting)) (append-nil all) (s.quiet [] (Jump l) waiting))
+            (quiet_step (after_of u v) (own_done waiting) (there waiting) (ap (entered (own_done waiting) l) to.stands));
+        fits = edge_fits all are label b at to;
       }
         where
-          s : IsSettling u v c.here.graph valid c c.here.names count blocks (along n l) c.here.graph.name_count made.treated all others
-          s = edge_settled all are
+          s : IsSettling u v c.here.graph valid (standing_in label c) c.here.names count blocks (along n l) c.here.graph.name_count made.treated all others
+          s = edge_settled all are label
 
           to : IsMovedTo u c.here.graph count blocks made l b
           to = moved_to u c.here.graph count blocks made l b at
+
+          own_begun : List Activation → Configuration
+          own_begun waiting = moved_configuration (standing_in label c) count blocks others all (Jump l) waiting
+
+          own_done : List Activation → Configuration
+          own_done waiting = moved_configuration (standing_in label c) count blocks s.after [] (Jump l) waiting
+
+          there : List Activation → Configuration
+          there waiting = moved_configuration (standing_in l c) count blocks s.after to.block.instructions to.block.end waiting
 
     -- Where an edge leads, one way or the other.
     edge_led : (l : ℕ) → Among l (targets_of end) → (place : Option ℕ) (next label : ℕ) (own : List Block) → IsLed c.here.graph.blocks c.here.graph.name_count made.treated n place l next label own
@@ -142,12 +152,12 @@ module _ (u v : UnitForm) (c : Configuration) (count : ℕ) (blocks : List Block
     agree = carried.agree;
     leads = returning;
   }
-  by_end made valid others n _ _ come carried place next _ _ (jumps {to} {done} are) stand = (let s = edge_settled made valid others n (Jump to) come carried to front done are in record {
+  by_end made valid others n _ _ come carried place next _ _ (jumps {to} {done} are) stand = (let s = edge_settled made valid others n (Jump to) come carried to front done are c.here.block in record {
     valid = (valid_at u c.here.graph valid come).1;
     names = s.after;
     quiet = λ waiting. subst (λ xs. IsQuiet (after_of u v) (moved_configuration c count blocks others xs (Jump to) waiting) (moved_configuration c count blocks s.after [] (Jump to) waiting)) (append-nil done) (s.quiet [] (Jump to) waiting);
-    agree = (edge_held made valid others n (Jump to) come carried to front done are).agree;
-    leads = jumping (edge_jumps made valid others n (Jump to) come carried to front done are);
+    agree = (edge_held made valid others n (Jump to) come carried to front done are c.here.block).agree;
+    leads = jumping (edge_jumps made valid others n (Jump to) come carried to front done are c.here.block);
   })
   by_end made valid others n _ _ come carried place next _ _ (branches {c = k} {a} {b} {to} {else} {label} {other} {own} {others = more} one two) stand = record {
     valid = (valid_at u c.here.graph valid come).1;
@@ -178,7 +188,7 @@ module _ (u v : UnitForm) (c : Configuration) (valid : IsGraph u c.here.graph) w
     names = c.here.names;
     rest = b.instructions;
     end = b.end;
-    quiet = λ waiting. quiet_none (after_of u v) (moved_configuration c c.here.graph.name_count c.here.graph.blocks c.here.names b.instructions b.end waiting);
+    quiet = λ waiting. quiet_none (after_of u v) (moved_configuration (standing_in to c) c.here.graph.name_count c.here.graph.blocks c.here.names b.instructions b.end waiting);
     fits = left valid block.instructions block.operands;
   })
 

@@ -18,10 +18,11 @@ pub mod Doings
 pub mod Histories
 pub mod Ways
 pub mod Standing
-pub mod Ahead
+pub mod Pairing
 pub mod Making
 pub mod Marked
 pub mod Moved
+pub mod LogsWell
 pub mod Once
 pub mod Positions
 pub mod Following

@@ -20,6 +20,10 @@ moved_activation a count blocks others rest end = record a { graph = moved_graph
 abbrev pub moved_configuration : Configuration → (count : ℕ) → (blocks : List Block) → (others : ℕ → Value) → (rest : List Instruction) → (end : End) → (waiting : List Activation) → Configuration
 moved_configuration c count blocks others rest end waiting = record { memory = c.memory; input = c.input; here = moved_activation c.here count blocks others rest end; waiting = waiting }
 
+-- a configuration whose activation stands in this block
+abbrev pub standing_in : (number : ℕ) → Configuration → Configuration
+standing_in number c = record c { here = record c.here { block = number } }
+
 -- the unit after, with what it shares with the unit before
 abbrev pub after_of : UnitForm → UnitForm → UnitForm
 after_of u v = record v { main = u.main; statics = u.statics; array_bytes = u.array_bytes }

@@ -19,7 +19,7 @@ use Rattle.graph_core.specs.Runs.{Activation, Configuration, TooDeep, Stop, Goes
 use Rattle.motion_pass_placement.specs.Moves.{AreAllMoved}
 use Rattle.motion_pass_laws.proofs.Values.{computed}
 use Rattle.motion_pass_laws.proofs.Reading.{value_same, two_same, values_same, recipe_same, pointed_same, computes}
-use Rattle.motion_pass_laws.proofs.Quiet.{after_of, moved_configuration}
+use Rattle.motion_pass_laws.proofs.Quiet.{after_of, moved_configuration, standing_in}
 use Rattle.motion_pass_laws.proofs.Fits.{Fits, GoesOn, Acts, itself, reads_temporary}
 use Rattle.motion_pass_laws.proofs.Lives.{LiveTheSame, KeepsLives, write_lives, zeroed_lives, copied_lives, live_same, begun_covers}
 use Rattle.motion_pass_laws.proofs.Landing.{Lands, LeadsTo, returning, jumping, branching}
@@ -145,10 +145,10 @@ module _ (u v : UnitForm) (valid : IsValid u) (made : AreAllMoved u.room u.graph
     go_same : (to label : ℕ) → Lands u v c count blocks others to label → DoesSame u v (go_to c to) (go_to d label)
     go_same to label lands = by_block (slice_get c.here.graph.blocks to) refl
       where
-        by_block : (o : Option Block) → slice_get c.here.graph.blocks to ≡ o → DoesSame u v (entered c o) (go_to d label)
+        by_block : (o : Option Block) → slice_get c.here.graph.blocks to ≡ o → DoesSame u v (entered c to o) (go_to d label)
         by_block None at = tt
-        by_block (Some b) at = (let l = lands b at in subst (λ o. DoesSame u v (entered c (Some b)) (entered d o)) (sym l.stands) (record {
-          to = moved_configuration c count blocks l.names l.rest l.end waiting;
+        by_block (Some b) at = (let l = lands b at in subst (λ o. DoesSame u v (entered c to (Some b)) (entered d label o)) (sym l.stands) (record {
+          to = moved_configuration (standing_in to c) count blocks l.names l.rest l.end waiting;
           quiet = l.quiet waiting;
           related = record { count = count; blocks = blocks; others = l.names; rest = l.rest; end = l.end; waiting = waiting; is = refl; here = l.fits; waits = waits };
         }))
