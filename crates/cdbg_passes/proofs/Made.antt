@@ -5,7 +5,6 @@ use Rattle.graph_core.specs.Graphs.{UnitForm, unit_view}
 use Rattle.graph_core.specs.Validity.{IsValid}
 use Rattle.graph_core.specs.WellMarked.{AreWellMarked}
 use Rattle.pass_law.specs.Kept.{ShareTheSame}
-use Rattle.pass_law.specs.Keeps.{Keeps}
 use Rattle.cdbg_passes.specs.Steps.{MakesValid}
 
 -- where it has two properties it has each that follows from them
@@ -34,9 +33,9 @@ pub made_valid : {E : Type 0} (u : UnitForm) (made : Result (Option declared-uni
     → IfOk made (λ o. IfSome o (λ v. MakesValid u (unit_view v)))
 made_valid u made valid shared = of_both made (λ v. IsValid (unit_view v)) (λ v. ShareTheSame u (unit_view v)) (λ v. MakesValid u (unit_view v)) (λ v one other. record { valid = one; shared = other }) valid shared
 
--- What is made by a lawful step of a well marked unit keeps what that does.
-pub made_keeps : {E : Type 0} (Step : UnitForm → UnitForm → Type 0) → ((u v : UnitForm) → AreWellMarked u → Step u v → Keeps u v)
-    → (u : UnitForm) (made : Result (Option declared-unit.Unit) E) → IfOk made (λ o. IfSome o (λ v. Step u (unit_view v))) → AreWellMarked u → IfOk made (λ o. IfSome o (λ v. Keeps u (unit_view v)))
-made_keeps Step lawful u (Ok (Some v)) step marked = lawful u (unit_view v) marked step
-made_keeps Step lawful u (Ok None) step marked = tt
-made_keeps Step lawful u (Err e) step marked = tt
+-- What is made by a step of a well marked unit is so, where each such step is so.
+pub made_so : {E : Type 0} (Step Is : UnitForm → UnitForm → Type 0) → ((u v : UnitForm) → AreWellMarked u → Step u v → Is u v)
+    → (u : UnitForm) (made : Result (Option declared-unit.Unit) E) → IfOk made (λ o. IfSome o (λ v. Step u (unit_view v))) → AreWellMarked u → IfOk made (λ o. IfSome o (λ v. Is u (unit_view v)))
+made_so Step Is lawful u (Ok (Some v)) step marked = lawful u (unit_view v) marked step
+made_so Step Is lawful u (Ok None) step marked = tt
+made_so Step Is lawful u (Err e) step marked = tt

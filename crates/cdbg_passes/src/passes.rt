@@ -1,7 +1,7 @@
 //! Passes with their names.
 
 ghost use Rattle.std.specs.Prelude.{◌≡◌, codes};
-ghost use Rattle.debug_records.specs.Change.{letters};
+ghost use Rattle.debug_records.specs.Change.{letters, pass_name};
 ghost use Rattle.cdbg_passes.specs.Steps.{MovesCode, PropagatesCopies, RemovesDead};
 
 use copy_pass::propagate_copies;
@@ -16,6 +16,7 @@ use std::alloc::{AllocError, Global};
 #[derive(Drop)]
 pub struct CopyPropagation {
     name: PassName,
+    ghost called: { name ≡ pass_name (codes "copy") },
 }
 
 impl CopyPropagation {
@@ -47,6 +48,7 @@ impl UnitPass for CopyPropagation {
 #[derive(Drop)]
 pub struct LazyMotion {
     name: PassName,
+    ghost called: { name ≡ pass_name (codes "motion") },
 }
 
 impl LazyMotion {
@@ -78,6 +80,7 @@ impl UnitPass for LazyMotion {
 #[derive(Drop)]
 pub struct DeadRemoval {
     name: PassName,
+    ghost called: { name ≡ pass_name (codes "dead") },
 }
 
 impl DeadRemoval {

@@ -1,27 +1,32 @@
 -- What is made of a well marked graph is well marked.
 use Rattle.std.proofs.Common.{◌≡◌, ◌≢◌, inl, inr, ℕ, zero, suc, ◌<◌, ◌≤◌, true, false, true≢false, Option, Some, List, [], ◌∷◌, ◌++◌, length, refl, sym, ap, ◌∙◌, subst, arith}
-use Rattle.std.specs.Prelude.{option_map, slice_get}
+use Rattle.std.specs.Prelude.{◌⊎◌, map, option_map, slice_get}
 use Rattle.std.specs.List.{AllByRecursion}
 use Rattle.std.proofs.lemmas.Option.{none-some, same_Some}
 use Rattle.places.specs.Flow.{can_go, assigns}
 use Rattle.graph_core.specs.Graphs.{Operand, Name, Of, Scalar, NoteValue, Is, Instruction, Marker, Note, Zero, CopyWords, End, Return, Block, Graph, Logged, UnitForm}
 use Rattle.graph_core.specs.Uses.{reads_of, reads_of_end, targets_of}
 use Rattle.graph_core.specs.Paths.{History, Among, Path, place_of, is_call, called, written, unnoted, owed}
-use Rattle.graph_core.specs.Validity.{IsGraph}
+use Rattle.graph_core.specs.Validity.{AreAllDifferent, IsGraph}
+use Rattle.graph_core.specs.Computations.{Computation}
 use Rattle.graph_core.specs.Bounds.{most_words}
-use Rattle.graph_core.specs.WellMarked.{InPlace, ComesToMarker, IsVariable, IsLocal, WasTaken, WrittenIn, IsRightNote, IsWellMarked}
+use Rattle.graph_core.specs.WellMarked.{InPlace, ComesToMarker, IsVariable, IsLocal, WasTaken, WasSunk, WrittenIn, MayStand, ReadsAcross, moved, sunk, IsRightNote, IsWellMarked}
 use Rattle.motion_pass_laws.proofs.Carried.{valid_at}
-use Rattle.motion_pass_laws.specs.Made.{IsNew, AreLeft, IsAfter, of_block, of_edge, IsMade, IsLedTo, directly, by_own}
+use Rattle.motion_pass_laws.specs.Made.{StaysOrReads, IsDoing, IsNew, PassedSo, AreLeft, IsAfter, of_block, of_edge, IsMade, IsLedTo, directly, by_own}
 use Rattle.motion_pass_laws.proofs.Lists.{among_left}
-use Rattle.motion_pass_laws.proofs.Doings.{no_new_marker, no_new_note, no_new_zero, no_new_copy, new_call, new_reads, same_call, same_reads, only_marker, only_note, only_zero, only_copy}
+use Rattle.motion_pass_laws.proofs.Doings.{no_new_marker, no_new_note, no_new_zero, no_new_copy, new_call, new_target, same_call, same_reads, same_target, only_marker, only_note, only_zero, only_copy}
 use Rattle.motion_pass_laws.proofs.Histories.{same_place, same_called, same_unnoted, same_owed, same_written}
 use Rattle.motion_pass_laws.proofs.Ways.{leads_inside, ComesTo, to_old, to_new, path_to, path_to_same, path_to_end, path_come}
 use Rattle.motion_pass_laws.proofs.Standing.{WasInPlace, was_in, was_none, was_in_place, written_before, written_after, before_end, comes_after, first_stays, left_ends}
-use Rattle.motion_pass_laws.proofs.Ahead.{written_there}
+use Rattle.motion_pass_laws.proofs.Pairing.{paired_after}
 
 -- What was removed by the log was removed by a longer one.
 removed_still : (log added : List Logged) (p variable : ℕ) → WasTaken log p variable → WasTaken (log ++ added) p variable
 removed_still log added p variable r = record { change = r.change; logged = among_left r.change log added r.logged; taken = r.taken; at = r.at; of = r.of }
+
+-- What sank by the log sank by a longer one.
+sunk_still : (log added : List Logged) (variable : ℕ) → WasSunk log variable → WasSunk (log ++ added) variable
+sunk_still log added variable s = record { change = s.change; logged = among_left s.change log added s.logged; sunk = s.sunk; of = s.of }
 
 -- A number that has an element is below their count.
 number_inside : {A : Type 0} (f : A → ℕ) (xs : List A) (n value : ℕ) → option_map f (slice_get xs n) ≡ Some value → n < length xs
@@ -128,20 +133,31 @@ module _ (u v : UnitForm) (g h : Graph) (valid : IsGraph u g) (made : IsMade g h
       by_place (was_in k same stands) = old.copies p object bytes words (subst (λ i. InPlace g p i) (only_copy g k same) stands)
       by_place (was_none e new) = absurd (no_new_copy g new)
 
-  module _ (assignments : v.assignments ≡ u.assignments) where
-    -- Scalars are written where their variables are assigned.
-    written_where : (p x variable : ℕ) → IsVariable h x variable → WrittenIn h p x → assigns v.assignments p variable ≡ true
+  -- No variable has two scalars.
+  variables : AreAllDifferent (map (λ (s : Scalar). s.variable) h.scalars)
+  variables = subst (λ ss. AreAllDifferent (map (λ (s : Scalar). s.variable) ss)) (sym made.scalars) old.variables
+
+  module _ (assignments : v.assignments ≡ u.assignments) (added : List Logged) (log : v.log ≡ u.log ++ added) where
+    -- A scalar may be written and noted where it might be before.
+    may_stand : (p x variable : ℕ) → IsVariable g x variable → MayStand u g p x variable → MayStand v h p x variable
+    may_stand p x variable is (inl assigned) = inl (ap (λ all. assigns all p variable) assignments ∙ assigned)
+    may_stand p x variable is (inr pairs) = inr (subst (λ all. WasSunk all variable) (sym log) (sunk_still u.log added variable pairs.0), paired_after g h made p x (scalar_name x variable is) pairs.1)
+
+    -- Scalars are written where they may be.
+    written_where : (p x variable : ℕ) → IsVariable h x variable → WrittenIn h p x → MayStand v h p x variable
     written_where p x variable is w =
         let of = variable_back x variable is in
-        ap (λ all. assigns all p variable) assignments ∙ old.written_where p x variable of (written_before g h made p x (scalar_name x variable of) w)
+        may_stand p x variable of (old.written_where p x variable of (written_before g h made p x (scalar_name x variable of) w))
 
     -- They are noted there.
-    noted_where : (p x variable : ℕ) (value : NoteValue) → IsVariable h x variable → InPlace h p (Note x value) → assigns v.assignments p variable ≡ true
+    noted_where : (p x variable : ℕ) (value : NoteValue) → IsVariable h x variable → InPlace h p (Note x value) → MayStand v h p x variable
     noted_where p x variable value is at = by_place (was_in_place g h made p (Note x value) at)
       where
-        by_place : WasInPlace g h made p (Note x value) → assigns v.assignments p variable ≡ true
-        by_place (was_in k same stands) =
-            ap (λ all. assigns all p variable) assignments ∙ old.noted_where p x variable value (variable_back x variable is) (subst (λ i. InPlace g p i) (only_note g k same) stands)
+        of : IsVariable g x variable
+        of = variable_back x variable is
+
+        by_place : WasInPlace g h made p (Note x value) → MayStand v h p x variable
+        by_place (was_in k same stands) = may_stand p x variable of (old.noted_where p x variable value of (subst (λ i. InPlace g p i) (only_note g k same) stands))
         by_place (was_none e new) = absurd (no_new_note g new)
 
   -- ---- Paths
@@ -199,9 +215,19 @@ module _ (u v : UnitForm) (g h : Graph) (valid : IsGraph u g) (made : IsMade g h
       let all = valid_at u g valid (path_come g c.way) in
       same_written g x (note_name x all.0.0.0) h made.entry made.parameters c.passed ∙ old.behind_write c.before c.number x c.rest c.end c.way
 
-  -- A local temporary is read only behind a write of it in the same place.
-  local : (hist : History) (n : ℕ) (i : Instruction) (t : ℕ) (rest : List Instruction) (e : End) → IsLocal h t → Path h hist n (i ∷ rest) e → Among t (reads_of i) → written h t hist ≡ true
-  local hist n i t rest e is way among = by_kind (path_to u g h valid made way)
+  -- What might read across places reads across them still.
+  across_still : v.assignments ≡ u.assignments → {before hist : History} {k i : Instruction} → PassedSo g before hist → StaysOrReads g k i → ReadsAcross u g before k → ReadsAcross v h hist i
+  across_still assignments passed same (moved t target of_motion) = moved t (same_target g same ∙ target) (subst (λ m. m ≤ t) (sym made.first_moved) of_motion)
+  across_still assignments passed same (sunk x variable p target is place none) = sunk x variable p (same_target g same ∙ target)
+      (subst (λ ss. option_map (λ (s : Scalar). s.variable) (slice_get ss x) ≡ Some variable) (sym made.scalars) is) (same_place g passed ∙ place) (ap (λ all. assigns all p variable) assignments ∙ none)
+
+  -- A new instruction reads across places: it writes a temporary of code motion.
+  new_across : (hist : History) (e : Computation) (i : Instruction) → IsDoing g e i → ReadsAcross v h hist i
+  new_across hist e i new = moved new.name (new_target g e i new) (subst (λ m. m ≤ new.name) (sym made.first_moved) (let less = valid.temporaries in let fresh = new.fresh in omega (arith, less, fresh)))
+
+  -- A local temporary is read only behind a write of it in the same place, but by what may read across places.
+  local : v.assignments ≡ u.assignments → (hist : History) (n : ℕ) (i : Instruction) (t : ℕ) (rest : List Instruction) (e : End) → IsLocal h t → Path h hist n (i ∷ rest) e → Among t (reads_of i) → (written h t hist ≡ true) ⊎ ReadsAcross v h hist i
+  local assignments hist n i t rest e is way among = by_kind (path_to u g h valid made way)
     where
       of : IsLocal g t
       of = local_back t is
@@ -209,12 +235,13 @@ module _ (u v : UnitForm) (g h : Graph) (valid : IsGraph u g) (made : IsMade g h
       less : t < g.name_count
       less = local_name t of
 
-      by_kind : ComesTo u g h valid made hist i → written h t hist ≡ true
-      by_kind (to_old before number k more end walk passed same) =
-          same_written g t less h made.entry made.parameters passed ∙ old.local before number k t more end of walk (same_reads g t less same among)
-      by_kind (to_new before number more end walk passed new) =
-          same_written g t less h made.entry made.parameters passed
-          ∙ written_there u g valid old t of new.computation (new_reads g new.computation i new.does t among) before number more end new.can walk
+      by_old : (before : History) (k : Instruction) → PassedSo g before hist → StaysOrReads g k i → (written g t before ≡ true) ⊎ ReadsAcross u g before k → (written h t hist ≡ true) ⊎ ReadsAcross v h hist i
+      by_old before k passed same (inl there) = inl (same_written g t less h made.entry made.parameters passed ∙ there)
+      by_old before k passed same (inr across) = inr (across_still assignments passed same across)
+
+      by_kind : ComesTo u g h valid made hist i → (written h t hist ≡ true) ⊎ ReadsAcross v h hist i
+      by_kind (to_old before number k more end walk passed same) = by_old before k passed same (old.local before number k t more end of walk (same_reads g t less same among))
+      by_kind (to_new before number more end walk passed new) = inr (new_across hist new.computation i new.does)
 
   -- So it is at the ends of blocks.
   local_at_end : (hist : History) (n : ℕ) (t : ℕ) (e : End) → IsLocal h t → Path h hist n [] e → Among t (reads_of_end e) → written h t hist ≡ true
@@ -251,12 +278,13 @@ module _ (u v : UnitForm) (g h : Graph) (valid : IsGraph u g) (made : IsMade g h
     copies = copies;
     zeroes_first = zeroes_first;
     copies_first = copies_first;
-    written_where = written_where assignments;
-    noted_where = noted_where assignments;
+    variables = variables;
+    written_where = written_where assignments added log;
+    noted_where = noted_where assignments added log;
     noted = noted assignments;
     right = right added log;
     behind_write = behind_write;
     calls = calls;
-    local = local;
+    local = local assignments;
     local_at_end = local_at_end;
   }

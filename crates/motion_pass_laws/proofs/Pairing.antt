@@ -13,12 +13,12 @@ use Rattle.motion_pass_laws.proofs.Doings.{new_behind, new_writes, no_new_note, 
 -- ---- Lists
 
 -- all but the first
-abbrev tail_of : List Instruction → List Instruction
+abbrev pub tail_of : List Instruction → List Instruction
 tail_of [] = []
 tail_of (i ∷ more) = more
 
 -- the first, or another where there is none
-abbrev first_or : Instruction → List Instruction → Instruction
+abbrev pub first_or : Instruction → List Instruction → Instruction
 first_or other [] = other
 first_or other (i ∷ more) = i
 

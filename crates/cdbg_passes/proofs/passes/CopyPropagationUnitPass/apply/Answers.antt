@@ -1,4 +1,5 @@
-use Rattle.std.specs.Prelude.{codes}
+use Rattle.std.proofs.Common.{sym, subst}
+use Rattle.std.specs.Prelude.{IfOk, IfSome, codes}
 use Rattle.debug_records.specs.Change.{pass_name}
 use Rattle.debug_records.specs.declared.change.Kind.TheVariants.{Replaced}
 use Rattle.pass_law.specs.Changes.{AddsChangesOf}
@@ -6,10 +7,13 @@ use Rattle.pass_law.specs.Kept.{EachFunction}
 use Rattle.copy_pass_rule.specs.Copying.{IsPropagated}
 use Rattle.copy_pass.specs.Reads.{IsReplacedRead}
 use Rattle.graph_core.specs.Graphs.{unit_view}
+use Rattle.graph_core.specs.WellMarked.{AreWellMarked}
+use Rattle.pass_law.specs.Keeps.{Keeps}
+use Rattle.pass_law.specs.Logs.{LogsWell}
 use Rattle.pass_law.proofs.Shape.{kept_but_blocks}
 use Rattle.cdbg_passes.specs.Steps.{MakesValid, PropagatesCopies}
-use Rattle.cdbg_passes.proofs.Made.{made_keeps, made_valid, of_three}
-use Rattle.cdbg_passes.proofs.Lawful.{copies_kept}
+use Rattle.cdbg_passes.proofs.Made.{made_so, made_valid, of_three}
+use Rattle.cdbg_passes.proofs.Lawful.{copies_kept, copies_logged}
 use Rattle.cdbg_passes.proofs.passes.CopyPropagationUnitPass.apply.Goals as goal
 
 pub returns-clause-kept : goal.returns-clause-kept
@@ -22,4 +26,9 @@ returns-clause-step c =
     (λ v made changes functions. record { made = made; changes = changes; functions = functions }) (made_valid u c.propagate_copies.result c.propagate_copies.ensures.valid c.propagate_copies.ensures.shared) c.propagate_copies.ensures.changes c.propagate_copies.ensures.exact
 
 pub returns-clause-keeps : goal.returns-clause-keeps
-returns-clause-keeps c = made_keeps PropagatesCopies copies_kept (unit_view c.args.unit.now) c.propagate_copies.result (returns-clause-step c)
+returns-clause-keeps c = made_so PropagatesCopies Keeps copies_kept (unit_view c.args.unit.now) c.propagate_copies.result (returns-clause-step c)
+
+pub returns-clause-logs : goal.returns-clause-logs
+returns-clause-logs c =
+    subst (λ name. AreWellMarked (unit_view c.args.unit.now) → IfOk c.propagate_copies.result (λ o. IfSome o (λ v. LogsWell name (unit_view c.args.unit.now) (unit_view v)))) (sym c.args.self.now.called)
+    (made_so PropagatesCopies (LogsWell (pass_name (codes "copy"))) copies_logged (unit_view c.args.unit.now) c.propagate_copies.result (returns-clause-step c))
