@@ -112,11 +112,11 @@ module _ (g : Graph) where
 
     -- In one block they are no more than its instructions that are counted.
     few_in_block : (part : List (ℕ × Case)) → AllByRecursion (IsOfBlock f n) part → AreApart part → length part ≤ total counts b.instructions
-    few_in_block = few_by_key counts b.instructions (λ c. c.1.index) (IsOfBlock f n) (λ c is. slice_get_within b.instructions c.1.index is.0.1.instruction (stands_in_block f n b at c is)) few_at
+    few_in_block = few_by_key {A = ℕ × Case} counts b.instructions (λ c. c.1.index) (IsOfBlock f n) (λ c is. slice_get_within b.instructions c.1.index is.0.1.instruction (stands_in_block f n b at c is)) few_at
 
   -- So it is in one function.
   few_in_graph : (f : ℕ) (part : List (ℕ × Case)) → AllByRecursion (IsOfGraph f) part → AreApart part → length part ≤ instructions_of g
-  few_in_graph f = few_by_key (λ (b : Block). total counts b.instructions) g.blocks (λ c. c.1.block) (IsOfGraph f) (λ c is. slice_get_within g.blocks c.1.block is.1.stood.block is.1.stood.is) (few_in_block f)
+  few_in_graph f = few_by_key {A = ℕ × Case} (λ (b : Block). total counts b.instructions) g.blocks (λ c. c.1.block) (IsOfGraph f) (λ c is. slice_get_within g.blocks c.1.block is.1.stood.block is.1.stood.is) (few_in_block f)
 
 -- A unit has fewer instructions than changes may be logged.
 few_changes : (room : Room) → most_instructions room ≤ most_changes room
@@ -131,7 +131,7 @@ module _ (u v : UnitForm) (pass : PassName) (marked : AreWellMarked u) (changes 
   -- In all functions there are few.
   few : (cases : List (ℕ × Case)) → AllByRecursion IsOfUnit cases → AreApart cases → length cases ≤ most_changes u.room
   few cases are apart =
-      let all = few_by_key instructions_of u.graphs (λ c. c.0) IsOfUnit (λ c is. slice_get_within u.graphs c.0 is.before is.stood)
+      let all = few_by_key {A = ℕ × Case} instructions_of u.graphs (λ c. c.0) IsOfUnit (λ c is. slice_get_within u.graphs c.0 is.before is.stood)
           (λ f g at part these no_two. few_in_graph g f part (all_so (λ c. IsOfUnit c × (c.0 ≡ f)) (λ c. (c.0 ≡ f) × IsReadingAssignment g c.1)
           (λ c is. (is.1, subst (λ h. IsReadingAssignment h c.1) (same_Some is.0.before g (sym is.0.stood ∙ ap (slice_get u.graphs) is.1 ∙ at)) is.0.case.assignment)) part these) no_two)
           cases are apart in

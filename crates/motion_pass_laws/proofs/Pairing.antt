@@ -102,11 +102,11 @@ module _ (g h : Graph) (n : ℕ) (end last : End) where
   -- It became so, among what is left.
   pub was_part : {all after : List Instruction} → AreLeft g h n end last all after → (before rest : List Instruction) (i : Instruction) (place : Option ℕ) → after ≡ before ++ i ∷ rest → ((e : Computation) → IsDoing g e i → ⊥) → WasPart all before i rest place
   was_part (none_left ends) before rest i place are old = absurd (none_there before rest i are)
-  was_part (one_left {i = k} {j} {all} {after} same left) [] rest i place are old = is_first k j i all after rest place same left are
-  was_part (one_left {i = k} {j} {all} {after} same left) (b ∷ before) rest i place are old =
+  was_part (one_left {i = k} {j = j} {before = all} {after = after} same left) [] rest i place are old = is_first k j i all after rest place same left are
+  was_part (one_left {i = k} {j = j} {before = all} {after = after} same left) (b ∷ before) rest i place are old =
       behind_one k j b all before rest i place same (ap (first_or j) are) (was_part left before rest i (place_behind (k ∷ []) place) (ap tail_of are) old)
-  was_part (new_left {i = d} {all} {after} new left) [] rest i place are old = absurd (old new.computation (subst (λ z. IsDoing g new.computation z) (ap (first_or d) are) new.does))
-  was_part (new_left {i = d} {all} {after} new left) (b ∷ before) rest i place are old =
+  was_part (new_left {i = d} {before = all} {after = after} new left) [] rest i place are old = absurd (old new.computation (subst (λ z. IsDoing g new.computation z) (ap (first_or d) are) new.does))
+  was_part (new_left {i = d} {before = all} {after = after} new left) (b ∷ before) rest i place are old =
       behind_new d b all before rest i place new (ap (first_or d) are) (was_part left before rest i place (ap tail_of are) old)
 
   -- What becomes a note is that note.
