@@ -27,7 +27,7 @@ use Rattle.cdbg_passes.proofs.Lagging.{IsLagging, lagging_unread}
 use Rattle.cdbg_passes.proofs.LoggedCases.{logged_for}
 use Rattle.cdbg_passes.proofs.Unassigned.{unassigned}
 
-module _ (u v : UnitForm) (g : Graph) (blocks : List Block) (taken : IsTaken u v.log g blocks) (p x variable : ℕ) (is_variable : IsVariable g x variable) (d : IsDropped g p x) where
+module _ (u v : UnitForm) (g : Graph) (blocks : List Block) (taken : IsTaken u v.log g blocks) (p x variable : ℕ) (is_variable : IsVariable g x variable) (d : IsDropped u.assignments g p x) where
   -- The place wrote the scalar before,
   was_written : WrittenIn g p x
   was_written = instruction d.instruction (in_place g d.n d.stands.block d.stands.before d.instruction d.rest p d.stands.is d.stands.instructions d.stands.place) (writes_target x d.instruction d.target)
@@ -77,11 +77,11 @@ module _ (u v : UnitForm) (g : Graph) (blocks : List Block) (taken : IsTaken u v
 -- EACH CHANGE OF THE REMOVAL OF DEAD ASSIGNMENTS IS EARNED.
 pub dead_earned : (u v : UnitForm) → AreWellMarked u → RemovesDead u v → AreEarned u v
 dead_earned u v marked step k c low at homes =
-    let l = logged_for (pass_name (codes "dead")) Removed (λ before after. IsRemovedWrite before) u v step.changes k c low at in
-    let reduced = made_of IsReduced u.graphs v.graphs step.functions l.function l.before l.after l.stood l.stands in
-    let said = made_of (SaysWhatItShall v.log) u.graphs v.graphs step.notes l.function l.before l.after l.stood l.stands in
+    let l = logged_for (pass_name (codes "dead")) Removed (λ before after. IsRemovedWrite u.assignments before) u v step.changes k c low at in
+    let reduced = made_of (IsReduced u.assignments) u.graphs v.graphs step.functions l.function l.before l.after l.stood l.stands in
+    let said = made_of (SaysWhatItShall u.assignments v.log) u.graphs v.graphs step.notes l.function l.before l.after l.stood l.stands in
     let made = function_made u v marked (pass_name (codes "dead")) step.changes l.function l.before l.after l.stood l.stands reduced said in
-    let write : IsRemovedWrite l.before l.of = l.is in
+    let write : IsRemovedWrite u.assignments l.before l.of = l.is in
     let dropped = goes_dropped l.before l.of.place.0 write.x (variable_scalar l.before.scalars write.x l.of.var.0 write.variable)
     (record { n = l.of.block; instruction = write.instruction; rest = write.rest; end = write.end; stands = write.stood; target = write.written; goes = write.goes }) in
     let removed = was_removed u v l.before l.after.blocks made.taken l.of.place.0 write.x l.of.var.0 write.variable dropped in

@@ -44,21 +44,21 @@ total_both count (x ∷ xs) ys = (let rest = total_both count xs ys in omega (ar
 
 -- Where what is left of an instruction counts no more than it, what is left of a graph counts no more.
 module _ (count : Instruction → ℕ) (left : (i : Instruction) → total count (without i) ≤ count i) (stay : (g : Graph) (n : ℕ) (rest : List Instruction) (e : End) (i j : Instruction) → StaysAs g n rest e i j → count j ≤ count i) where
-  reduced_less : (g : Graph) (n : ℕ) (e : End) (is js : List Instruction) → AreReduced g n e is js → total count js ≤ total count is
-  reduced_less g n e is js ends = omega arith
-  reduced_less g n e is js (gone {i} {rest} {after} goes_here more) =
-      let deeper = reduced_less g n e rest after more in
+  reduced_less : (u : UnitForm) (g : Graph) (n : ℕ) (e : End) (is js : List Instruction) → AreReduced u.assignments g n e is js → total count js ≤ total count is
+  reduced_less u g n e is js ends = omega arith
+  reduced_less u g n e is js (gone {i} {rest} {after} goes_here more) =
+      let deeper = reduced_less u g n e rest after more in
       let here = left i in
       let both = total_both count (without i) after in
       omega (arith, deeper, here, both)
-  reduced_less g n e is js (stays {i} {j} {rest} {after} stays_here as_is more) =
-      let deeper = reduced_less g n e rest after more in
+  reduced_less u g n e is js (stays {i} {j} {rest} {after} stays_here as_is more) =
+      let deeper = reduced_less u g n e rest after more in
       let here = stay g n rest e i j as_is in
       omega (arith, deeper, here)
 
-  blocks_less : (g h : Graph) → IsReduced g h → total (λ (b : Block). total count b.instructions) h.blocks ≤ total (λ (b : Block). total count b.instructions) g.blocks
-  blocks_less g h made =
-      total_less (λ b. total count b.instructions) (λ b. total count b.instructions) g.blocks h.blocks made.count (λ n b c is at. reduced_less g n b.end b.instructions c.instructions (made.blocks n b c is at).instructions)
+  blocks_less : (u : UnitForm) (g h : Graph) → IsReduced u.assignments g h → total (λ (b : Block). total count b.instructions) h.blocks ≤ total (λ (b : Block). total count b.instructions) g.blocks
+  blocks_less u g h made =
+      total_less (λ b. total count b.instructions) (λ b. total count b.instructions) g.blocks h.blocks made.count (λ n b c is at. reduced_less u g n b.end b.instructions c.instructions (made.blocks n b c is at).instructions)
 
 left_counts : (i : Instruction) → total counts (without i) ≤ counts i
 left_counts (Call x f all) = omega arith
@@ -76,11 +76,11 @@ stay_arguments : (g : Graph) (n : ℕ) (rest : List Instruction) (e : End) (i j 
 stay_arguments g n rest e i j same = omega arith
 stay_arguments g n rest e i j (noted reached) = omega arith
 
-reduced_grows : (g h : Graph) → IsReduced g h → NeverGrows g h
-reduced_grows g h made =
+reduced_grows : (u : UnitForm) (g h : Graph) → IsReduced u.assignments g h → NeverGrows g h
+reduced_grows u g h made =
     let names : h.name_count ≡ g.name_count = ap (λ (q : Graph). q.name_count) made.rest in
     let blocks = made.count in
-    record { names = omega (arith, names); blocks = omega (arith, blocks); instructions = blocks_less counts left_counts stay_counts g h made; arguments = blocks_less arguments_in left_arguments stay_arguments g h made }
+    record { names = omega (arith, names); blocks = omega (arith, blocks); instructions = blocks_less counts left_counts stay_counts u g h made; arguments = blocks_less arguments_in left_arguments stay_arguments u g h made }
 
 -- ---- Units
 
@@ -90,4 +90,4 @@ copies_never_grow u v step = each_becomes IsPropagated NeverGrows propagated_gro
 
 -- and none by one of the removal of dead assignments.
 pub dead_never_grow : (u v : UnitForm) → RemovesDead u v → EachFunction NeverGrows u.graphs v.graphs
-dead_never_grow u v step = each_becomes IsReduced NeverGrows reduced_grows u.graphs v.graphs step.functions
+dead_never_grow u v step = each_becomes (IsReduced u.assignments) NeverGrows (reduced_grows u) u.graphs v.graphs step.functions

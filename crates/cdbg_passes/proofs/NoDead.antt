@@ -5,7 +5,7 @@ use Rattle.std.proofs.lemmas.Bool.{or_parts}
 use Rattle.std.proofs.lemmas.Option.{same_Some, none-some}
 use Rattle.graph_core.specs.declared.value.Value.{Value}
 use Rattle.graph_core.specs.declared.value.Value.TheVariants.{Odd}
-use Rattle.graph_core.specs.Graphs.{Instruction, Marker, Note, Move, Operate, Truncate, Same, Address, Load, Store, Zero, CopyWords, Call, End, Block, Graph}
+use Rattle.graph_core.specs.Graphs.{Instruction, Marker, Note, Move, Operate, Truncate, Same, Address, Load, Store, Zero, CopyWords, Call, End, Block, Graph, UnitForm}
 use Rattle.graph_core.specs.Uses.{is_computation, reads_of, target_of, targets_of}
 use Rattle.graph_core.specs.Paths.{History, Among, Way, stays, passes, goes, Path, path, writes}
 use Rattle.graph_core.specs.Points.{IsUnread, ReadsNext, StandsWith, some_passed}
@@ -35,10 +35,10 @@ left_of (Zero object words) x e = absurd (none-some x e)
 left_of (CopyWords object bytes words) x e = absurd (none-some x e)
 left_of (Call y f all) x e = call (Call None f all) refl refl refl
 
-pub goes_target : {g : Graph} {n : ℕ} {i : Instruction} {rest : List Instruction} {e : End} → Goes g n (i ∷ rest) e → (x : ℕ) × (target_of i ≡ Some x)
-goes_target w = of_idle w.idle
+pub goes_target : (u : UnitForm) {g : Graph} {n : ℕ} {i : Instruction} {rest : List Instruction} {e : End} → Goes u.assignments g n (i ∷ rest) e → (x : ℕ) × (target_of i ≡ Some x)
+goes_target u w = of_idle w.idle
   where
-    of_idle : {g : Graph} {n : ℕ} {i : Instruction} {rest : List Instruction} {e : End} → IsIdle g n (i ∷ rest) e → (x : ℕ) × (target_of i ≡ Some x)
+    of_idle : {g : Graph} {n : ℕ} {i : Instruction} {rest : List Instruction} {e : End} → IsIdle u.assignments g n (i ∷ rest) e → (x : ℕ) × (target_of i ≡ Some x)
     of_idle (idle {x = x} at target may computed deeper) = (x, target)
 
 -- the place in force stays behind what has a target, and behind what is left of it
@@ -126,7 +126,7 @@ stays_same x i j (noted reached) t = absurd (none-some x t)
 
 -- ---- The graphs before and after
 
-module _ (g h : Graph) (made : IsReduced g h) where
+module _ (u : UnitForm) (g h : Graph) (made : IsReduced u.assignments g h) where
   other_block : (xs ys : List Block) (n : ℕ) (c : Block) → length ys ≡ length xs → slice_get ys n ≡ Some c → (b : Block) × (slice_get xs n ≡ Some b)
   other_block [] [] n c l e = absurd (none-some c e)
   other_block [] (y ∷ ys) n c l e = absurd (omega (arith, l))
@@ -149,11 +149,11 @@ module _ (g h : Graph) (made : IsReduced g h) where
     place : place_behind front b.place ≡ place_behind left_front c.place
     hist : History
     along : Path g hist n rest b.end
-    reduced : AreReduced g n b.end rest after
+    reduced : AreReduced u.assignments g n b.end rest after
 
   -- how an instruction of the graph after came of one before
   abbrev How : (n : ℕ) (i : Instruction) (rest : List Instruction) (e : End) (j : Instruction) → Type 0
-  How n i rest e j = ((Goes g n (i ∷ rest) e → ⊥) × StaysAs g n rest e i j) ⊎ (Goes g n (i ∷ rest) e × (without i ≡ j ∷ []))
+  How n i rest e j = ((Goes u.assignments g n (i ∷ rest) e → ⊥) × StaysAs g n rest e i j) ⊎ (Goes u.assignments g n (i ∷ rest) e × (without i ≡ j ∷ []))
 
   -- The instruction from which the first of what is left came.
   record Came (n : ℕ) (b : Block) (o : Option ℕ) (j : Instruction) (left : List Instruction) : Type 0 where
@@ -165,7 +165,7 @@ module _ (g h : Graph) (made : IsReduced g h) where
     hist : History
     along : Path g hist n (i ∷ rest) b.end
     how : How n i rest b.end j
-    more : AreReduced g n b.end rest left
+    more : AreReduced u.assignments g n b.end rest left
 
   pass : {k : History} {n : ℕ} {i : Instruction} {rest : List Instruction} {e : End} → Value → Path g k n (i ∷ rest) e → (l : History) × Path g l n rest e
   pass {k} {n} {i} {rest} v (path d is way) = (record { block = n; left = length rest; instruction = i; wrote = v } ∷ k, path d is (passes way v))
@@ -175,7 +175,7 @@ module _ (g h : Graph) (made : IsReduced g h) where
 
   module _ (n : ℕ) (b : Block) where
     -- What goes before the first of what is left is passed.
-    came : (rest after : List Instruction) → AreReduced g n b.end rest after → (front : List Instruction) → b.instructions ≡ front ++ rest → (hist : History) → Path g hist n rest b.end → (j : Instruction) (left : List Instruction) → after ≡ j ∷ left
+    came : (rest after : List Instruction) → AreReduced u.assignments g n b.end rest after → (front : List Instruction) → b.instructions ≡ front ++ rest → (hist : History) → Path g hist n rest b.end → (j : Instruction) (left : List Instruction) → after ≡ j ∷ left
         → Came n b (place_behind front b.place) j left
     came [] [] ends front at hist along j left e = absurd (none_left e)
       where
@@ -183,12 +183,12 @@ module _ (g h : Graph) (made : IsReduced g h) where
         none_left q = cc
     came [] (k ∷ after) r front at hist along j left e = elim r [ ]
     came (i ∷ rest) after (gone {after = behind} goes_here more) front at hist along j left e =
-        let target = goes_target goes_here in
+        let target = goes_target u goes_here in
         by_left (λ e2. came rest behind more (front ++ i ∷ []) (step_front front i rest b.instructions at) (pass Odd along).0 (pass Odd along).1 j left e2) (left_of i target.0 target.1)
       where
         by_left : (behind ≡ j ∷ left → Came n b (place_behind (front ++ i ∷ []) b.place) j left) → LeftOf i → Came n b (place_behind front b.place) j left
         by_left deeper (nothing none computed) =
-            let target = goes_target goes_here in
+            let target = goes_target u goes_here in
             subst (λ o. Came n b o j left) (place_on front (i ∷ []) b.place ∙ place_kept i target.0 (place_behind front b.place) target.1) (deeper (sym (ap (λ l. l ++ behind) none) ∙ e))
         by_left deeper (call k one no_target reads) =
             let both : k ∷ behind ≡ j ∷ left = sym (ap (λ l. l ++ behind) one) ∙ e in
@@ -203,7 +203,7 @@ module _ (g h : Graph) (made : IsReduced g h) where
               hist = hist;
               along = along;
               how = inr (goes_here, subst (λ a. without i ≡ a ∷ []) head one);
-              more = subst (λ a. AreReduced g n b.end rest a) tail more;
+              more = subst (λ a. AreReduced u.assignments g n b.end rest a) tail more;
             }
     came (i ∷ rest) after (kept {j = k} {after = behind} stays_here as_is more) front at hist along j left e =
         let head : k ≡ j = cc in
@@ -217,14 +217,14 @@ module _ (g h : Graph) (made : IsReduced g h) where
           hist = hist;
           along = along;
           how = inl (stays_here, subst (λ a. StaysAs g n rest b.end i a) head as_is);
-          more = subst (λ a. AreReduced g n b.end rest a) tail more;
+          more = subst (λ a. AreReduced u.assignments g n b.end rest a) tail more;
         }
 
     -- What goes before the end of a block is passed.
-    finish : (rest after : List Instruction) → AreReduced g n b.end rest after → after ≡ [] → (hist : History) → Path g hist n rest b.end → (k : History) × Path g k n [] b.end
+    finish : (rest after : List Instruction) → AreReduced u.assignments g n b.end rest after → after ≡ [] → (hist : History) → Path g hist n rest b.end → (k : History) × Path g k n [] b.end
     finish [] after r e hist along = (hist, along)
     finish (i ∷ rest) after (gone {after = behind} goes_here more) e hist along =
-        let target = goes_target goes_here in
+        let target = goes_target u goes_here in
         by_left (λ e2. finish rest behind more e2 (pass Odd along).0 (pass Odd along).1) (left_of i target.0 target.1)
       where
         by_left : (behind ≡ [] → (k : History) × Path g k n [] b.end) → LeftOf i → (k : History) × Path g k n [] b.end
@@ -244,7 +244,7 @@ module _ (g h : Graph) (made : IsReduced g h) where
     place_same : (i j : Instruction) (rest : List Instruction) (o : Option ℕ) → How n i rest b.end j → place_behind (i ∷ []) o ≡ place_behind (j ∷ []) o
     place_same i j rest o (inl (stays_here, same)) = refl
     place_same i j rest o (inl (stays_here, noted reached)) = refl
-    place_same i j rest o (inr (goes_here, one)) = (let target = goes_target goes_here in place_kept i target.0 o target.1 ∙ sym (place_left i j o one))
+    place_same i j rest o (inr (goes_here, one)) = (let target = goes_target u goes_here in place_kept i target.0 o target.1 ∙ sym (place_left i j o one))
 
   -- a point of a path of the graph after
   before : (first : Block) → slice_get h.blocks 0 ≡ Some first → {hist : History} {n : ℕ} {after : List Instruction} {e : End} → Way h 0 first.instructions first.end hist n after e → Before n after e
@@ -289,7 +289,7 @@ module _ (g h : Graph) (made : IsReduced g h) where
     more : List Instruction
     passed : History
     way : Way h n after e passed m more f
-    reduced : AreReduced g m f left more
+    reduced : AreReduced u.assignments g m f left more
     unwritten : some_passed (writes x) passed ≡ false
 
   pub no_write : (x : ℕ) (k : Instruction) → target_of k ≡ None → writes x k ≡ false
@@ -308,10 +308,10 @@ module _ (g h : Graph) (made : IsReduced g h) where
   no_write x (Call (Some y) f all) t = absurd (none-some y (sym t))
 
   -- how one instruction is passed
-  pass_one : (n : ℕ) (after : List Instruction) (e : End) (x m : ℕ) (i : Instruction) (left : List Instruction) (f : End) → Value → writes x i ≡ false → (more : List Instruction) (passed : History) → Way h n after e passed m more f → AreReduced g m f (i ∷ left) more → some_passed (writes x) passed ≡ false
+  pass_one : (n : ℕ) (after : List Instruction) (e : End) (x m : ℕ) (i : Instruction) (left : List Instruction) (f : End) → Value → writes x i ≡ false → (more : List Instruction) (passed : History) → Way h n after e passed m more f → AreReduced u.assignments g m f (i ∷ left) more → some_passed (writes x) passed ≡ false
       → Forth n after e x m left f
   pass_one n after e x m i left f v quiet more passed way (gone {after = behind} goes_here reduced) no_writes =
-      let target = goes_target goes_here in
+      let target = goes_target u goes_here in
       by_left (left_of i target.0 target.1)
     where
       by_left : LeftOf i → Forth n after e x m left f
@@ -332,7 +332,7 @@ module _ (g h : Graph) (made : IsReduced g h) where
         unwritten = ap (λ t. t || some_passed (writes x) passed) (stays_quiet x i j as_is quiet) ∙ no_writes;
       }
 
-  forth : (n x : ℕ) (rest after : List Instruction) (e : End) → AreReduced g n e rest after → {passed : History} {m : ℕ} {left : List Instruction} {f : End} → Way g n rest e passed m left f → some_passed (writes x) passed ≡ false → Forth n after e x m left f
+  forth : (n x : ℕ) (rest after : List Instruction) (e : End) → AreReduced u.assignments g n e rest after → {passed : History} {m : ℕ} {left : List Instruction} {f : End} → Way g n rest e passed m left f → some_passed (writes x) passed ≡ false → Forth n after e x m left f
   forth n x rest after e reduced stays quiet = record { more = after; passed = []; way = stays; reduced = reduced; unwritten = refl }
   forth n x rest after e reduced (passes {h = k} {n = m} {i = i} {left = left} {e = f} way v) quiet =
       let parts = or_parts (writes x i) (some_passed (writes x) k) quiet in
@@ -350,24 +350,24 @@ module _ (g h : Graph) (made : IsReduced g h) where
         unwritten = r.unwritten;
       }
     where
-      none_more : (more : List Instruction) → AreReduced g m f [] more → more ≡ []
+      none_more : (more : List Instruction) → AreReduced u.assignments g m f [] more → more ≡ []
       none_more [] ends = refl
       none_more (k ∷ more) r = elim r [ ]
 
   -- What reads a name that a write reaches is a computation that goes too, where nothing in the graph after reads it.
-  reader : (n x : ℕ) (after : List Instruction) (e : End) → IsUnread h x n after e → (m : ℕ) (left : List Instruction) (f : End) → Forth n after e x m left f → ReadsNext x left f → (is_computed_next left ≡ true) × IsIdle g m left f
+  reader : (n x : ℕ) (after : List Instruction) (e : End) → IsUnread h x n after e → (m : ℕ) (left : List Instruction) (f : End) → Forth n after e x m left f → ReadsNext x left f → (is_computed_next left ≡ true) × IsIdle u.assignments g m left f
   reader n x after e unread m left f r reads = by_left left r.more r.way r.reduced reads
     where
       never : {A : Type 0} (more : List Instruction) → Way h n after e r.passed m more f → ReadsNext x more f → A
       never more way read = absurd (true≢false (sym (unread r.passed m more f way read) ∙ r.unwritten))
 
-      by_left : (left more : List Instruction) → Way h n after e r.passed m more f → AreReduced g m f left more → ReadsNext x left f → (is_computed_next left ≡ true) × IsIdle g m left f
+      by_left : (left more : List Instruction) → Way h n after e r.passed m more f → AreReduced u.assignments g m f left more → ReadsNext x left f → (is_computed_next left ≡ true) × IsIdle u.assignments g m left f
       by_left [] more way ends read = never [] way read
       by_left (i ∷ left) more way (gone {after = behind} goes_here reduced) read =
-          let target = goes_target goes_here in
+          let target = goes_target u goes_here in
           by_kind (left_of i target.0 target.1)
         where
-          by_kind : LeftOf i → (is_computation i ≡ true) × IsIdle g m (i ∷ left) f
+          by_kind : LeftOf i → (is_computation i ≡ true) × IsIdle u.assignments g m (i ∷ left) f
           by_kind (nothing none computed) = (computed, goes_here.idle)
           by_kind (call k one no_target same_reads) = never (k ∷ behind) (subst (λ a. Way h n after e r.passed m (a ++ behind) f) one way) (subst (λ a. Among x a) (sym same_reads) read)
       by_left (i ∷ left) more way (kept {j = j} {after = behind} stays_here as_is reduced) read = never (j ∷ behind) way (stays_read x i j as_is read)
@@ -375,7 +375,7 @@ module _ (g h : Graph) (made : IsReduced g h) where
   -- ---- None is left
 
   -- No write is left that nothing reads, of a name that may go in the graph before.
-  pub no_dead_before : (n p x : ℕ) (i : Instruction) (rest : List Instruction) (e : End) → IsReached h n (i ∷ rest) e → StandsWith h p n (i ∷ rest) e → target_of i ≡ Some x → MayGo g p x → IsUnread h x n rest e → ⊥
+  pub no_dead_before : (n p x : ℕ) (i : Instruction) (rest : List Instruction) (e : End) → IsReached h n (i ∷ rest) e → StandsWith h p n (i ∷ rest) e → target_of i ≡ Some x → MayGo u.assignments g p x → IsUnread h x n rest e → ⊥
   no_dead_before n p x j after e reached stands target may unread = by_path reached.path
     where
       by_path : Path h reached.history n (j ∷ after) e → ⊥
@@ -385,7 +385,7 @@ module _ (g h : Graph) (made : IsReduced g h) where
           by_how s found found.how
         where
           by_how : (s : Before n (j ∷ after) e) → (found : Came n s.b (place_behind s.front s.b.place) j after) → How n found.i found.rest s.b.end j → ⊥
-          by_how s found (inr (goes_here, one)) = (let t = goes_target goes_here in no_target (left_of found.i t.0 t.1))
+          by_how s found (inr (goes_here, one)) = (let t = goes_target u goes_here in no_target (left_of found.i t.0 t.1))
             where
               no_target : LeftOf found.i → ⊥
               no_target (nothing none computed) = absurd (differ (sym none ∙ one))

@@ -8,6 +8,7 @@ use Rattle.graph_core.specs.Paths.{Passed, History, Among, front, Way, stays, pa
 use Rattle.graph_core.specs.Points.{ReadsNext}
 use Rattle.pass_law.specs.Earned.{IsCopiedAt}
 use Rattle.pass_law.specs.Worked.{scalar}
+use Rattle.pass_law.specs.Worked.{unit_of}
 use Rattle.pass_law.specs.WorkedChanges.{copying, passing_by}
 use Rattle.pass_law.proofs.Inversions.{some_same, among_one, among_none, apart, to_block}
 use Rattle.copy_pass_rule.specs.Copying.{IsCopied}
@@ -115,10 +116,10 @@ reads_nothing behind_marker r = apart 0 1 (lit< tt) (among_one r)
 way_to_copy : Way passing_by 0 (Marker 1 ∷ []) (Jump 1) (passed 1 2 (Marker 2) Odd ∷ passed 0 0 (Marker 1) Odd ∷ []) 1 (copy ∷ note ∷ []) (Jump 2)
 way_to_copy = passes (goes (passes stays Odd) front _ refl) Odd
 
-has_dead : HasNoDead passing_by → ⊥
+has_dead : HasNoDead (unit_of passing_by []) passing_by → ⊥
 has_dead none =
     none 1 2 0 copy (note ∷ []) (Jump 2) (record { history = passed 1 2 (Marker 2) Odd ∷ passed 0 0 (Marker 1) Odd ∷ []; path = path _ refl way_to_copy })
-    (record { block = _; before = Marker 2 ∷ []; is = refl; instructions = refl; ends = refl; place = refl }) refl (inr refl) (λ h m left f way reads. absurd (reads_nothing (on way) reads))
+    (record { block = _; before = Marker 2 ∷ []; is = refl; instructions = refl; ends = refl; place = refl }) refl (inr (refl, refl)) (λ h m left f way reads. absurd (reads_nothing (on way) reads))
 
 pub are_refused : AreRefused
 are_refused = record { copy = has_copies; dead = has_dead; again = computed_again; more = computed_more; least = not_least }

@@ -1,7 +1,7 @@
 -- That a pass leaves nothing that it could still do, said of what it made.
 use Rattle.std.specs.Prelude.{◌≡◌, ◌⊎◌, ℕ, suc, Some, List, ◌∷◌, ◌++◌, slice_get, take, drop}
 use Rattle.memory_map.specs.declared.map.Room.{Room}
-use Rattle.graph_core.specs.Graphs.{Instruction, End, Graph}
+use Rattle.graph_core.specs.Graphs.{Instruction, End, Graph, UnitForm}
 use Rattle.graph_core.specs.Uses.{target_of}
 use Rattle.graph_core.specs.Paths.{Among}
 use Rattle.graph_core.specs.Points.{IsUnread, StandsWith, reads_at}
@@ -17,10 +17,10 @@ use Rattle.motion_pass_laws.specs.Optimal.{IsOptimal}
 abbrev pub HasNoCopies : Graph → Type 0
 HasNoCopies h = (n : ℕ) (rest : List Instruction) (e : End) (x y : ℕ) → IsReached h n rest e → Among x (reads_at rest e) → IsCopied h x y n rest e → ⊥
 
--- NO WRITE IS DEAD: where a path comes to a write of a temporary, or of a scalar that its place assigns once, with the binding of a parameter counted, some way from there reads the name before it is written again.
-abbrev pub HasNoDead : Graph → Type 0
-HasNoDead h =
-    (n p x : ℕ) (i : Instruction) (rest : List Instruction) (e : End) → IsReached h n (i ∷ rest) e → StandsWith h p n (i ∷ rest) e → target_of i ≡ Some x → MayGo h p x → IsUnread h x n rest e → ⊥
+-- NO WRITE IS DEAD: where a path comes to a write of a temporary, or of a scalar in a place that assigns its variable and writes it once, with the binding of a parameter counted, some way from there reads the name before it is written again.
+abbrev pub HasNoDead : UnitForm → Graph → Type 0
+HasNoDead u h =
+    (n p x : ℕ) (i : Instruction) (rest : List Instruction) (e : End) → IsReached h n (i ∷ rest) e → StandsWith h p n (i ∷ rest) e → target_of i ≡ Some x → MayGo u.assignments h p x → IsUnread h x n rest e → ⊥
 
 -- What code motion would make of a function takes the unit beyond a bound, with the functions before it as they became and those behind it as they were.
 pub record IsBeyondBounds (room : Room) (before : List Graph) (g : Graph) (behind : List Graph) : Type 0 where

@@ -34,6 +34,6 @@ pub record MovesCode (u v : UnitForm) : Type 0 where
 -- A step of the removal of dead assignments: the writes that go are gone from each function, behind the old changes one is logged for each of them that wrote a variable, and no other, and each note says what it shall.
 pub record RemovesDead (u v : UnitForm) : Type 0 where
   pub made : MakesValid u v
-  pub changes : AddsChangesOf (pass_name (codes "dead")) Removed (λ before after. IsRemovedWrite before) u v
-  pub functions : EachFunction IsReduced u.graphs v.graphs
+  pub changes : AddsChangesOf (pass_name (codes "dead")) Removed (λ before after. IsRemovedWrite u.assignments before) u v
+  pub functions : EachFunction (IsReduced u.assignments) u.graphs v.graphs
   pub notes : SayWhatTheyShall u v

@@ -31,7 +31,7 @@ pub fn changes_are_earned()
 /// computed more often than before, and on one that is cut short at most once more.
 pub fn no_pass_is_idle()
     ensures copy { (u v : UnitForm) → PropagatesCopies u v → AllByRecursion HasNoCopies v.graphs }
-    ensures dead { (u v : UnitForm) → RemovesDead u v → AllByRecursion HasNoDead v.graphs }
+    ensures dead { (u v : UnitForm) → RemovesDead u v → AllByRecursion (HasNoDead v) v.graphs }
     ensures left { (u v : UnitForm) → AreWellMarked u → MovesCode u v
         → AreLeftForBounds u.room u.graphs v.graphs }
     ensures again { (u v : UnitForm) → AreWellMarked u → MovesCode u v

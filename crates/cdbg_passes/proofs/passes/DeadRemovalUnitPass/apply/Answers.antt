@@ -23,7 +23,7 @@ returns-clause-kept c = kept_but_blocks (unit_view c.args.unit.now) c.remove_dea
 pub returns-clause-step : goal.returns-clause-step
 returns-clause-step c =
     let u = unit_view c.args.unit.now in
-    of_four c.remove_dead.result (λ v. MakesValid u (unit_view v)) (λ v. AddsChangesOf (pass_name (codes "dead")) Removed (λ before after. IsRemovedWrite before) u (unit_view v)) (λ v. EachFunction IsReduced u.graphs (unit_view v).graphs) (λ v. SayWhatTheyShall u (unit_view v))
+    of_four c.remove_dead.result (λ v. MakesValid u (unit_view v)) (λ v. AddsChangesOf (pass_name (codes "dead")) Removed (λ before after. IsRemovedWrite u.assignments before) u (unit_view v)) (λ v. EachFunction (IsReduced u.assignments) u.graphs (unit_view v).graphs) (λ v. SayWhatTheyShall u (unit_view v))
     (λ v. RemovesDead u (unit_view v)) (λ v made changes functions notes. record { made = made; changes = changes; functions = functions; notes = notes }) (made_valid u c.remove_dead.result c.remove_dead.ensures.valid c.remove_dead.ensures.shared) c.remove_dead.ensures.changes c.remove_dead.ensures.exact c.remove_dead.ensures.notes
 
 pub returns-clause-keeps : goal.returns-clause-keeps
