@@ -38,7 +38,7 @@ module _ (u v : UnitForm) (g : Graph) (blocks : List Block) (taken : IsTaken u v
 
   -- Where a path comes to its note in the place, the scalar lags.
   lags_there : (hist after : History) (n : ℕ) (value : NoteValue) (rest : List Instruction) (e : End) → Path g hist n (Note x value ∷ rest) e → place_of hist ≡ Some p → IsFollowed u v.log g blocks taken hist after n (Note x value ∷ rest) e
-      → Lags g x hist n (Note x value ∷ rest) e
+      → Lags u.assignments g x hist n (Note x value ∷ rest) e
   lags_there hist after n value rest e along place followed = elim (followed.still_written x (taken.marked.behind_write hist n x rest e (subst (λ w. Path g hist n (Note x w ∷ rest) e) own along))) [
     | inl lagging ↦ lagging.lags
     | inr still ↦ absurd (dropped_none g p x d (still.stays_written p place))
@@ -82,7 +82,7 @@ dead_earned u v marked step k c low at homes =
     let said = made_of (SaysWhatItShall u.assignments v.log) u.graphs v.graphs step.notes l.function l.before l.after l.stood l.stands in
     let made = function_made u v marked (pass_name (codes "dead")) step.changes l.function l.before l.after l.stood l.stands reduced said in
     let write : IsRemovedWrite u.assignments l.before l.of = l.is in
-    let dropped = goes_dropped l.before l.of.place.0 write.x (variable_scalar l.before.scalars write.x l.of.var.0 write.variable)
+    let dropped : IsDropped u.assignments l.before l.of.place.0 write.x = goes_dropped l.before l.of.place.0 write.x (variable_scalar l.before.scalars write.x l.of.var.0 write.variable)
     (record { n = l.of.block; instruction = write.instruction; rest = write.rest; end = write.end; stands = write.stood; target = write.written; goes = write.goes }) in
     let removed = was_removed u v l.before l.after.blocks made.taken l.of.place.0 write.x l.of.var.0 write.variable dropped in
     record {

@@ -25,8 +25,8 @@ module _ (u : UnitForm) (log : List Logged) (g : Graph) (blocks : List Block) (t
     pub hist : History
     pub rest : List Instruction
     pub along : Path g hist n rest e
-    pub said : AreSaid log g n e rest left
-    pub lags : Lags g x hist n rest e
+    pub said : AreSaid u.assignments log g n e rest left
+    pub lags : Lags u.assignments g x hist n rest e
 
   -- The same where an instruction comes next: it is what is left of one that comes next on the path before.
   record LagsNext (n : ℕ) (j : Instruction) (more : List Instruction) (e : End) : Type 0 where
@@ -34,19 +34,19 @@ module _ (u : UnitForm) (log : List Logged) (g : Graph) (blocks : List Block) (t
     instruction : Instruction
     rest : List Instruction
     along : Path g hist n (instruction ∷ rest) e
-    left : IsLeft log g n rest e instruction j
-    said : AreSaid log g n e rest more
-    lags : Lags g x hist n (instruction ∷ rest) e
+    left : IsLeft u.assignments log g n rest e instruction j
+    said : AreSaid u.assignments log g n e rest more
+    lags : Lags u.assignments g x hist n (instruction ∷ rest) e
 
   -- The same where a block ends: it ends on the path before.
   record LagsLast (n : ℕ) (e : End) : Type 0 where
     hist : History
     along : Path g hist n [] e
-    lags : Lags g x hist n [] e
+    lags : Lags u.assignments g x hist n [] e
 
   -- It lags behind what goes, whether that writes it or not.
-  lags_over : (hist : History) (n : ℕ) (i : Instruction) (rest : List Instruction) (e : End) (w : Value) → Path g hist n (i ∷ rest) e → Goes g n (i ∷ rest) e → Lags g x hist n (i ∷ rest) e
-      → Lags g x (record { block = n; left = length rest; instruction = i; wrote = w } ∷ hist) n rest e
+  lags_over : (hist : History) (n : ℕ) (i : Instruction) (rest : List Instruction) (e : End) (w : Value) → Path g hist n (i ∷ rest) e → Goes u.assignments g n (i ∷ rest) e → Lags u.assignments g x hist n (i ∷ rest) e
+      → Lags u.assignments g x (record { block = n; left = length rest; instruction = i; wrote = w } ∷ hist) n rest e
   lags_over hist n i rest e w along it_goes lags = elim (cases_Bool (writes x i)) [
     | inl it ↦ lags_first g x hist n i rest e w there (target_written x i it) it_goes
     | inr other ↦ lags_behind g x hist n i rest e w other lags
@@ -60,20 +60,20 @@ module _ (u : UnitForm) (log : List Logged) (g : Graph) (blocks : List Block) (t
   module _ (n : ℕ) (e : End) where
     -- over one of which it is known what is behind it
     next_going : (hist : History) (i : Instruction) (behind others : List Instruction) (j : Instruction) (more : List Instruction) → GoesAs i → (is_computation i ≡ true → LagsNext n j more e)
-        → Goes g n (i ∷ behind) e → AreSaid log g n e behind others → without i ++ others ≡ j ∷ more → Path g hist n (i ∷ behind) e → Lags g x hist n (i ∷ behind) e → LagsNext n j more e
+        → Goes u.assignments g n (i ∷ behind) e → AreSaid u.assignments log g n e behind others → without i ++ others ≡ j ∷ more → Path g hist n (i ∷ behind) e → Lags u.assignments g x hist n (i ∷ behind) e → LagsNext n j more e
     next_going hist i behind others j more (computed is) later it_goes said same along lags = later is
     next_going hist _ behind others j more (called {x = y} {f = f} {all = all}) later it_goes said same along lags = record {
       hist = hist;
       instruction = Call (Some y) f all;
       rest = behind;
       along = along;
-      left = subst (λ k. IsLeft log g n behind e (Call (Some y) f all) k) (first_same same) (untargeted it_goes);
-      said = subst (λ l. AreSaid log g n e behind l) (rest_same same) said;
+      left = subst (λ k. IsLeft u.assignments log g n behind e (Call (Some y) f all) k) (first_same same) (untargeted it_goes);
+      said = subst (λ l. AreSaid u.assignments log g n e behind l) (rest_same same) said;
       lags = lags;
     }
 
     -- Where an instruction comes next in the graph after, one comes next behind what goes.
-    next_of : (hist : History) (rest left : List Instruction) (j : Instruction) (more : List Instruction) → AreSaid log g n e rest left → left ≡ j ∷ more → Path g hist n rest e → Lags g x hist n rest e → LagsNext n j more e
+    next_of : (hist : History) (rest left : List Instruction) (j : Instruction) (more : List Instruction) → AreSaid u.assignments log g n e rest left → left ≡ j ∷ more → Path g hist n rest e → Lags u.assignments g x hist n rest e → LagsNext n j more e
     next_of hist rest left j more ends same along lags = absurd (not_empty (sym same))
     next_of hist rest left j more (gone {i} {rest = behind} {after = others} it_goes said) same along lags =
         next_going hist i behind others j more (goes_as g n i behind e it_goes)
@@ -86,8 +86,8 @@ module _ (u : UnitForm) (log : List Logged) (g : Graph) (blocks : List Block) (t
       instruction = i;
       rest = behind;
       along = along;
-      left = subst (λ l. IsLeft log g n behind e i l) (first_same same) (left_stays stay says);
-      said = subst (λ l. AreSaid log g n e behind l) (rest_same same) said;
+      left = subst (λ l. IsLeft u.assignments log g n behind e i l) (first_same same) (left_stays stay says);
+      said = subst (λ l. AreSaid u.assignments log g n e behind l) (rest_same same) said;
       lags = lags;
     }
 
@@ -97,7 +97,7 @@ module _ (u : UnitForm) (log : List Logged) (g : Graph) (blocks : List Block) (t
     last_going _ others called later same = absurd (not_empty same)
 
     -- Where the block ends in the graph after, it ends behind what goes.
-    last_of : (hist : History) (rest left : List Instruction) → AreSaid log g n e rest left → left ≡ [] → Path g hist n rest e → Lags g x hist n rest e → LagsLast n e
+    last_of : (hist : History) (rest left : List Instruction) → AreSaid u.assignments log g n e rest left → left ≡ [] → Path g hist n rest e → Lags u.assignments g x hist n rest e → LagsLast n e
     last_of hist rest left ends same along lags = record { hist = hist; along = along; lags = lags }
     last_of hist rest left (gone {i} {rest = behind} {after = others} it_goes said) same along lags =
         last_going i others (goes_as g n i behind e it_goes)
@@ -119,7 +119,7 @@ module _ (u : UnitForm) (log : List Logged) (g : Graph) (blocks : List Block) (t
     lags = by_cases (left_cases log g n c.rest e c.left);
   }
     where
-      by_cases : StaysOrCalls log g n c.rest e c.instruction j → Lags g x (record { block = n; left = length c.rest; instruction = c.instruction; wrote = v } ∷ c.hist) n c.rest e
+      by_cases : StaysOrCalls u.assignments log g n c.rest e c.instruction j → Lags u.assignments g x (record { block = n; left = length c.rest; instruction = c.instruction; wrote = v } ∷ c.hist) n c.rest e
       by_cases (inl kept) = lags_behind g x c.hist n c.instruction c.rest e v (sym (kept_writes x (said_kept log g n c.rest e kept.1)) ∙ quiet) c.lags
       by_cases (inr calls) = lags_over c.hist n c.instruction c.rest e v c.along calls.0 c.lags
 
@@ -154,7 +154,7 @@ module _ (u : UnitForm) (log : List Logged) (g : Graph) (blocks : List Block) (t
       c : LagsNext n j more e
       c = next_there n j more e l
 
-      by_read : (is_computation c.instruction ≡ true) × IsIdle g n (c.instruction ∷ c.rest) e → StaysOrCalls log g n c.rest e c.instruction j → ⊥
+      by_read : (is_computation c.instruction ≡ true) × IsIdle u.assignments g n (c.instruction ∷ c.rest) e → StaysOrCalls u.assignments log g n c.rest e c.instruction j → ⊥
       by_read both (inl kept) = kept.0 (record { reached = record { history = c.hist; path = c.along }; idle = both.1 })
       by_read both (inr calls) = true≢false (sym both.0 ∙ calls.2)
 

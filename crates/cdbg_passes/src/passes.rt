@@ -1,7 +1,7 @@
 //! Passes with their names.
 
 ghost use Rattle.std.specs.Prelude.{◌≡◌, codes};
-ghost use Rattle.debug_records.specs.Change.{letters, pass_name};
+ghost use Rattle.debug_records.specs.Change.{IsPassName, letters, pass_name};
 ghost use Rattle.cdbg_passes.specs.Steps.{MovesCode, PropagatesCopies, RemovesDead};
 
 use copy_pass::propagate_copies;
@@ -9,8 +9,20 @@ use dead_pass::remove_dead;
 use debug_records::PassName;
 use graph_core::Unit;
 use motion_pass::move_code;
-use pass_law::{UnitPass, name_of};
+use pass_law::UnitPass;
 use std::alloc::{AllocError, Global};
+
+/// The name of these letters, which are 1 to 16 lower-case letters.
+fn name_of(bytes: &[u8]) -> PassName
+    requires { IsPassName bytes.now }
+    ensures letters { letters result ≡ bytes.now }
+    ensures whole { result ≡ pass_name bytes.now }
+{
+    match PassName::of(bytes) {
+        Some(name) => name,
+        None => unreachable!(),
+    }
+}
 
 /// Copy propagation, by the name `copy`.
 #[derive(Drop)]
