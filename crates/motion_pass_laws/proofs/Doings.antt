@@ -4,7 +4,7 @@ use Rattle.std.specs.Prelude.{◌==◌}
 use Rattle.std.proofs.lemmas.Bool.{ne_eqb}
 use Rattle.std.proofs.lemmas.Option.{none-some, same_Some}
 use Rattle.graph_core.specs.Graphs.{NoteValue, Instruction, Marker, Note, Move, Operate, Truncate, Same, Address, Load, Store, Zero, CopyWords, Call, Graph}
-use Rattle.graph_core.specs.Uses.{reads_of, target_of}
+use Rattle.graph_core.specs.Uses.{is_computation, reads_of, target_of}
 use Rattle.graph_core.specs.Paths.{Among, front, behind, place_by, writes, is_marker, is_call, notes, owed_by}
 use Rattle.graph_core.specs.Computations.{Computation, Operating, Truncating, Comparing, computed_by, operands_of}
 use Rattle.graph_core.specs.Validity.{place_behind, markers_in}
@@ -36,6 +36,12 @@ doing_target : (x : ℕ) (e : Computation) → target_of (doing x e) ≡ Some x
 doing_target x (Operating o a b) = refl
 doing_target x (Truncating t a) = refl
 doing_target x (Comparing a b) = refl
+
+-- It is a computation.
+doing_computation : (x : ℕ) (e : Computation) → is_computation (doing x e) ≡ true
+doing_computation x (Operating o a b) = refl
+doing_computation x (Truncating t a) = refl
+doing_computation x (Comparing a b) = refl
 
 -- It writes its name.
 doing_writes : (x y : ℕ) (e : Computation) → writes y (doing x e) ≡ (x == y)
@@ -97,6 +103,10 @@ module _ (g : Graph) (e : Computation) (i : Instruction) (is : IsDoing g e i) wh
   -- Its target is its name.
   pub new_target : target_of i ≡ Some is.name
   new_target = ap target_of is.is ∙ doing_target is.name e
+
+  -- It is a computation.
+  pub new_computation : is_computation i ≡ true
+  new_computation = ap is_computation is.is ∙ doing_computation is.name e
 
   -- The place in force stays.
   pub new_place : (before : Option ℕ) → place_by i before ≡ before
@@ -177,6 +187,13 @@ module _ (g : Graph) where
   same_target (of_operate fresh) = refl
   same_target (of_truncate fresh) = refl
   same_target (of_same fresh) = refl
+
+  -- They are computations, or are not.
+  pub same_computation : {i j : Instruction} → StaysOrReads g i j → is_computation j ≡ is_computation i
+  same_computation stays = refl
+  same_computation (of_operate fresh) = refl
+  same_computation (of_truncate fresh) = refl
+  same_computation (of_same fresh) = refl
 
   -- They begin a place, or do not.
   pub same_marker : {i j : Instruction} → StaysOrReads g i j → is_marker j ≡ is_marker i

@@ -14,7 +14,7 @@ use Rattle.graph_core.specs.WellMarked.{InPlace, ComesToMarker, IsVariable, IsLo
 use Rattle.motion_pass_laws.proofs.Carried.{valid_at}
 use Rattle.motion_pass_laws.specs.Made.{StaysOrReads, IsDoing, IsNew, PassedSo, AreLeft, IsAfter, of_block, of_edge, IsMade, IsLedTo, directly, by_own}
 use Rattle.motion_pass_laws.proofs.Lists.{among_left}
-use Rattle.motion_pass_laws.proofs.Doings.{no_new_marker, no_new_note, no_new_zero, no_new_copy, new_call, new_target, same_call, same_reads, same_target, only_marker, only_note, only_zero, only_copy}
+use Rattle.motion_pass_laws.proofs.Doings.{no_new_marker, no_new_note, no_new_zero, no_new_copy, new_call, new_target, new_computation, same_call, same_reads, same_target, same_computation, only_marker, only_note, only_zero, only_copy}
 use Rattle.motion_pass_laws.proofs.Histories.{same_place, same_called, same_unnoted, same_owed, same_written}
 use Rattle.motion_pass_laws.proofs.Ways.{leads_inside, ComesTo, to_old, to_new, path_to, path_to_same, path_to_end, path_come}
 use Rattle.motion_pass_laws.proofs.Standing.{WasInPlace, was_in, was_none, was_in_place, written_before, written_after, before_end, comes_after, first_stays, left_ends}
@@ -217,13 +217,13 @@ module _ (u v : UnitForm) (g h : Graph) (valid : IsGraph u g) (made : IsMade g h
 
   -- What might read across places reads across them still.
   across_still : v.assignments ≡ u.assignments → {before hist : History} {k i : Instruction} → PassedSo g before hist → StaysOrReads g k i → ReadsAcross u g before k → ReadsAcross v h hist i
-  across_still assignments passed same (moved t target of_motion) = moved t (same_target g same ∙ target) (subst (λ m. m ≤ t) (sym made.first_moved) of_motion)
+  across_still assignments passed same (moved t target of_motion computes) = moved t (same_target g same ∙ target) (subst (λ m. m ≤ t) (sym made.first_moved) of_motion) (same_computation g same ∙ computes)
   across_still assignments passed same (sunk x variable p target is place none) = sunk x variable p (same_target g same ∙ target)
       (subst (λ ss. option_map (λ (s : Scalar). s.variable) (slice_get ss x) ≡ Some variable) (sym made.scalars) is) (same_place g passed ∙ place) (ap (λ all. assigns all p variable) assignments ∙ none)
 
-  -- A new instruction reads across places: it writes a temporary of code motion.
+  -- A new instruction reads across places: it computes a temporary of code motion.
   new_across : (hist : History) (e : Computation) (i : Instruction) → IsDoing g e i → ReadsAcross v h hist i
-  new_across hist e i new = moved new.name (new_target g e i new) (subst (λ m. m ≤ new.name) (sym made.first_moved) (let less = valid.temporaries in let fresh = new.fresh in omega (arith, less, fresh)))
+  new_across hist e i new = moved new.name (new_target g e i new) (subst (λ m. m ≤ new.name) (sym made.first_moved) (let less = valid.temporaries in let fresh = new.fresh in omega (arith, less, fresh))) (new_computation g e i new)
 
   -- A local temporary is read only behind a write of it in the same place, but by what may read across places.
   local : v.assignments ≡ u.assignments → (hist : History) (n : ℕ) (i : Instruction) (t : ℕ) (rest : List Instruction) (e : End) → IsLocal h t → Path h hist n (i ∷ rest) e → Among t (reads_of i) → (written h t hist ≡ true) ⊎ ReadsAcross v h hist i

@@ -148,7 +148,7 @@ module _ (g h : Graph) (made : IsMade g h) (p x : ℕ) (less : x < g.name_count)
           let only : s.was ≡ Note x v = only_note g s.was s.becomes in
           let pair = old.written n a s.front s.back v there (s.are ∙ ap (λ z. s.front ++ z ∷ s.back) only) (sym s.place_same ∙ ap (place_behind before) (sym of.place) ∙ place) in
           let one = s.directly (ap computed_by only) pair.1 pair.2 pair.3 in
-          (pair.0, one.0, one.1, one.2, same_writes g x one.3 ∙ pair.4)
+          (pair.0, one.0, one.1, one.2, same_writes g x {i = pair.2} {j = one.1} one.3 ∙ pair.4)
       by_block (of_edge m a there left) =
           (let s = was_part g h m a.end b.end left before rest (Note x v) b.place are (λ e new. no_new_note g new) in absurd (none_there s.front s.back s.was s.are))
 
