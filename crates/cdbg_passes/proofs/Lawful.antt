@@ -10,7 +10,7 @@ use Rattle.pass_law.specs.Keeps.{Keeps}
 use Rattle.pass_law.specs.Logs.{LogsWell}
 use Rattle.cdbg_passes.specs.Steps.{MovesCode, PropagatesCopies, RemovesDead}
 use Rattle.copy_pass_laws.proofs.Keeping.{copies_keep}
-use Rattle.copy_pass_laws.proofs.LogsWell.{copy_logs_well}
+use Rattle.copy_pass.proofs.LogsWell.{copy_logs_well}
 use Rattle.motion_pass_laws.proofs.LogsWell.{motion_logs_well}
 use Rattle.motion_pass_laws.proofs.Moved.{moved_keeps}
 use Rattle.dead_pass_laws.proofs.DeadMarksWhole.{removed_keeps}
