@@ -1,12 +1,11 @@
 -- What new instructions do, and what those do that read a temporary in place of a computation.
-use Rattle.std.proofs.Common.{◌≡◌, ℕ, ◌<◌, ◌≤◌, Bool, true, false, true≢false, Option, Some, List, [], ◌∷◌, refl, sym, ap, ◌∙◌, subst, arith}
+use Rattle.std.proofs.Common.{◌≡◌, ℕ, ◌<◌, ◌≤◌, Bool, true, false, true≢false, Option, Some, List, [], ◌∷◌, refl, ap, ◌∙◌, arith}
 use Rattle.std.specs.Prelude.{◌==◌}
 use Rattle.std.proofs.lemmas.Bool.{ne_eqb}
-use Rattle.std.proofs.lemmas.Option.{none-some, same_Some}
-use Rattle.graph_core.specs.Graphs.{NoteValue, Instruction, Marker, Note, Move, Operate, Truncate, Same, Address, Load, Store, Zero, CopyWords, Call, Graph}
+use Rattle.graph_core.specs.Graphs.{NoteValue, Instruction, Marker, Note, Zero, CopyWords, Graph}
 use Rattle.graph_core.specs.Uses.{is_computation, reads_of, target_of}
 use Rattle.graph_core.specs.Paths.{Among, front, behind, place_by, writes, is_marker, is_call, notes, owed_by}
-use Rattle.graph_core.specs.Computations.{Computation, Operating, Truncating, Comparing, computed_by, operands_of}
+use Rattle.graph_core.specs.Computations.{Computation, Operating, Truncating, Comparing}
 use Rattle.graph_core.specs.Validity.{place_behind, markers_in}
 use Rattle.motion_pass_points.specs.MotionPointsComputing.{doing}
 use Rattle.motion_pass_laws.specs.Made.{StaysOrReads, stays, of_operate, of_truncate, of_same, IsDoing}
@@ -67,12 +66,6 @@ doing_markers x (Operating o a b) rest = refl
 doing_markers x (Truncating t a) rest = refl
 doing_markers x (Comparing a b) rest = refl
 
--- It reads the operands of its computation.
-doing_reads : (x : ℕ) (e : Computation) → reads_of (doing x e) ≡ operands_of e
-doing_reads x (Operating o a b) = refl
-doing_reads x (Truncating t a) = refl
-doing_reads x (Comparing a b) = refl
-
 -- A note that is owed stays owed, unless its scalar is the name that is written.
 doing_owed : (assigns : ℕ → Bool) (x y : ℕ) (e : Computation) (before : Bool) → (x == y) ≡ false → owed_by assigns y (doing x e) before ≡ before
 doing_owed assigns x y (Operating o a b) before other = rw other refl
@@ -119,10 +112,6 @@ module _ (g : Graph) (e : Computation) (i : Instruction) (is : IsDoing g e i) wh
   -- The places that a block begins stay.
   pub new_markers : (rest : List Instruction) → markers_in (i ∷ rest) ≡ markers_in rest
   new_markers rest = ap (λ k. markers_in (k ∷ rest)) is.is ∙ doing_markers is.name e rest
-
-  -- It reads the operands of its computation.
-  pub new_reads : (t : ℕ) → Among t (reads_of i) → Among t (operands_of e)
-  new_reads t among = subst (λ xs. Among t xs) (ap reads_of is.is ∙ doing_reads is.name e) among
 
   -- A note of a scalar that is owed stays owed.
   pub new_owed : (assigns : ℕ → Bool) (x : ℕ) → x < g.name_count → (before : Bool) → owed_by assigns x i before ≡ before
@@ -279,18 +268,3 @@ module _ (g : Graph) where
   same_reads t less (of_operate {t = k} fresh) among = absurd (not_read t k less fresh among)
   same_reads t less (of_truncate {t = k} fresh) among = absurd (not_read t k less fresh among)
   same_reads t less (of_same {t = k} fresh) among = absurd (not_read t k less fresh among)
-
--- An instruction that does a computation reads its operands.
-pub computed_reads : (i : Instruction) (e : Computation) → computed_by i ≡ Some e → (t : ℕ) → Among t (operands_of e) → Among t (reads_of i)
-computed_reads (Operate z o a b) e q t among = subst (λ d. Among t (operands_of d)) (sym (same_Some (Operating o a b) e q)) among
-computed_reads (Truncate z k a) e q t among = subst (λ d. Among t (operands_of d)) (sym (same_Some (Truncating k a) e q)) among
-computed_reads (Same z a b) e q t among = subst (λ d. Among t (operands_of d)) (sym (same_Some (Comparing a b) e q)) among
-computed_reads (Marker p) e q t among = absurd (none-some e q)
-computed_reads (Note z v) e q t among = absurd (none-some e q)
-computed_reads (Move z a) e q t among = absurd (none-some e q)
-computed_reads (Address z object) e q t among = absurd (none-some e q)
-computed_reads (Load z k l) e q t among = absurd (none-some e q)
-computed_reads (Store k l a) e q t among = absurd (none-some e q)
-computed_reads (Zero object words) e q t among = absurd (none-some e q)
-computed_reads (CopyWords object bytes words) e q t among = absurd (none-some e q)
-computed_reads (Call z f all) e q t among = absurd (none-some e q)

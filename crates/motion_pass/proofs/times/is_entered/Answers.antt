@@ -16,4 +16,4 @@ returns c =
     let next : (k - 1) + 1 ≡ k = omega (arith, first) in
     let n = get_or path k 0 in
     let is_block : n < length (graph_view g).blocks = omega (arith, c.if-number-len.false, c.len.ensures, long) in
-    next_entered (graph_view g).blocks path k (k - 1) (get_or path (k - 1) 0) n next (slice_get-get_or path (k - 1) 0 (omega (arith, inside))) (slice_get-get_or path k 0 inside) is_block c.leads_to.ensures
+    next_entered (graph_view g).blocks path k (k - 1) (get_or path (k - 1) 0) n next (slice_get-get_or path (k - 1) 0 (omega (arith, inside))) (slice_get-get_or path k 0 inside) is_block c.leads_to.result c.leads_to.ensures
