@@ -132,9 +132,9 @@ module _ (u v : UnitForm) (pass : PassName) (marked : AreWellMarked u) (changes 
   few : (cases : List (ℕ × Case)) → AllByRecursion IsOfUnit cases → AreApart cases → length cases ≤ most_changes u.room
   few cases are apart =
       let all = few_by_key {A = ℕ × Case} instructions_of u.graphs (λ c. c.0) IsOfUnit (λ c is. slice_get_within u.graphs c.0 is.before is.stood)
-          (λ f g at part these no_two. few_in_graph g f part (all_so (λ c. IsOfUnit c × (c.0 ≡ f)) (λ c. (c.0 ≡ f) × IsReadingAssignment g c.1)
-          (λ c is. (is.1, subst (λ h. IsReadingAssignment h c.1) (same_Some is.0.before g (sym is.0.stood ∙ ap (slice_get u.graphs) is.1 ∙ at)) is.0.case.assignment)) part these) no_two)
-          cases are apart in
+      (λ f g at part these no_two. few_in_graph g f part (all_so (λ c. IsOfUnit c × (c.0 ≡ f)) (λ c. (c.0 ≡ f) × IsReadingAssignment g c.1)
+      (λ c is. (is.1, subst (λ h. IsReadingAssignment h c.1) (same_Some is.0.before g (sym is.0.stood ∙ ap (slice_get u.graphs) is.1 ∙ at)) is.0.case.assignment)) part these) no_two)
+      cases are apart in
       let valid = marked.valid.instructions in
       let most = few_changes u.room in
       omega (arith, all, valid, most)
