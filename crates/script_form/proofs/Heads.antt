@@ -6,7 +6,7 @@ use Rattle.std.proofs.lemmas.Bool.{cases_Bool}
 use Rattle.std.proofs.lemmas.Slice.Eq.{bytes_eq-Decides}
 use Rattle.script_form.specs.Reading.{order_of_word}
 use Rattle.script_form.specs.Refusal.{most_arguments}
-use Rattle.script_form.specs.Script.{Order, Step, Continue, Locals, Where, Quit, IsOrder, order_words}
+use Rattle.script_form.specs.Script.{Order, Step, Continue, Next, Finish, Locals, Where, Quit, IsOrder, order_words}
 
 -- The word takes no argument, and is this order alone.
 pub record IsPlain (head : List ℕ) (o : Order) : Type 0 where
@@ -39,6 +39,14 @@ pub is_continue : IsPlain (codes "continue") Continue
 unfolding order_of_word most_arguments
 is_continue = record { no_break = refl; no_print = refl; order = refl; spelled = refl; good = tt; arguments = refl }
 
+pub is_next : IsPlain (codes "next") Next
+unfolding order_of_word most_arguments
+is_next = record { no_break = refl; no_print = refl; order = refl; spelled = refl; good = tt; arguments = refl }
+
+pub is_finish : IsPlain (codes "finish") Finish
+unfolding order_of_word most_arguments
+is_finish = record { no_break = refl; no_print = refl; order = refl; spelled = refl; good = tt; arguments = refl }
+
 pub is_locals : IsPlain (codes "locals") Locals
 unfolding order_of_word most_arguments
 is_locals = record { no_break = refl; no_print = refl; order = refl; spelled = refl; good = tt; arguments = refl }
@@ -59,10 +67,15 @@ known A head word this other = ⊎_elim
     (cases_Bool (bytes_eq head word))
 
 no_head : (head : List ℕ) → bytes_eq head (codes "break") ≡ false → bytes_eq head (codes "print") ≡ false → bytes_eq head (codes "step") ≡ false
-    → bytes_eq head (codes "continue") ≡ false → bytes_eq head (codes "locals") ≡ false → bytes_eq head (codes "where") ≡ false
-    → bytes_eq head (codes "quit") ≡ false → IsNoHead head
+    → bytes_eq head (codes "continue") ≡ false → bytes_eq head (codes "next") ≡ false → bytes_eq head (codes "finish") ≡ false
+    → bytes_eq head (codes "locals") ≡ false → bytes_eq head (codes "where") ≡ false → bytes_eq head (codes "quit") ≡ false → IsNoHead head
 unfolding order_of_word most_arguments
-no_head head b p s c l w q = record { no_break = b; no_print = p; order = rw (s, c, l, w, q); arguments = rw (b, p, s, c, l, w, q) }
+no_head head b p s c n f l w q = record {
+  no_break = b;
+  no_print = p;
+  order = rw (s, c, n, f, l, w, q);
+  arguments = rw (b, p, s, c, n, f, l, w, q);
+}
 
 plain_as : (head word : List ℕ) (o : Order) → IsPlain word o → head ≡ word → Heads head
 plain_as head word o plain same = a_plain o (subst (λ h. IsPlain h o) (sym same) plain)
@@ -73,7 +86,9 @@ heads head =
     known (Heads head) head (codes "print") a_print (λ p.
     known (Heads head) head (codes "step") (plain_as head (codes "step") Step is_step) (λ s.
     known (Heads head) head (codes "continue") (plain_as head (codes "continue") Continue is_continue) (λ c.
+    known (Heads head) head (codes "next") (plain_as head (codes "next") Next is_next) (λ n.
+    known (Heads head) head (codes "finish") (plain_as head (codes "finish") Finish is_finish) (λ f.
     known (Heads head) head (codes "locals") (plain_as head (codes "locals") Locals is_locals) (λ l.
     known (Heads head) head (codes "where") (plain_as head (codes "where") Where is_where) (λ w.
     known (Heads head) head (codes "quit") (plain_as head (codes "quit") Quit is_quit) (λ q.
-    none (no_head head b p s c l w q))))))))
+    none (no_head head b p s c n f l w q))))))))))

@@ -8,11 +8,11 @@ use Rattle.debug_records.specs.declared.code.Code.{Code}
 use Rattle.debug_records.specs.declared.code.TheConstants.Code.{UNKNOWN_COMMAND, LINE_NUMBER, COMMAND_NAME}
 use Rattle.script_form.specs.Reading.{◌>>=◌, begins_with_digit, mark_of, name_of, order_in, order_of_words}
 use Rattle.script_form.specs.Refusal.{WordsBreak, unknown, too_many, no_line, no_function, no_name, missing, most_arguments}
-use Rattle.script_form.specs.Script.{Order, Break, Step, Continue, Print, Locals, Where, Quit, IsOrder, is_name, mark_word, order_words}
+use Rattle.script_form.specs.Script.{Order, Break, Step, Continue, Next, Finish, Print, Locals, Where, Quit, IsOrder, is_name, mark_word, order_words}
 use Rattle.script_form.specs.Words.{is_blank, is_word, words}
 use Rattle.script_form.proofs.Arguments.{MarkCases, marks, mark_cases, mark_complete, mark_broken_line, mark_no_name, name_broken, name_complete}
 use Rattle.script_form.proofs.Arguments as argument
-use Rattle.script_form.proofs.Heads.{Heads, IsPlain, IsNoHead, a_break, a_print, a_plain, none, heads, is_step, is_continue, is_locals, is_where, is_quit}
+use Rattle.script_form.proofs.Heads.{Heads, IsPlain, IsNoHead, a_break, a_print, a_plain, none, heads, is_step, is_continue, is_next, is_finish, is_locals, is_where, is_quit}
 
 -- Each word has at least one byte.
 abbrev pub AreWords : List (List ℕ) → Type 0
@@ -140,6 +140,8 @@ order_complete (Break m) good =
     with_one (codes "break") (mark_word m) (Ok (Break m)) (of_break (codes "break") (mark_word m) refl ∙ ap (λ r. r >>= λ m. Ok (Break m)) (mark_complete m good))
 order_complete Step good = alone (codes "step") (Ok Step) (of_plain (codes "step") Step is_step)
 order_complete Continue good = alone (codes "continue") (Ok Continue) (of_plain (codes "continue") Continue is_continue)
+order_complete Next good = alone (codes "next") (Ok Next) (of_plain (codes "next") Next is_next)
+order_complete Finish good = alone (codes "finish") (Ok Finish) (of_plain (codes "finish") Finish is_finish)
 order_complete (Print name) good =
     with_one (codes "print") name (Ok (Print name)) (of_print (codes "print") name refl ∙ ap (λ r. r >>= λ n. Ok (Print n)) (name_complete name good))
 order_complete Locals good = alone (codes "locals") (Ok Locals) (of_plain (codes "locals") Locals is_locals)

@@ -10,7 +10,7 @@ use Rattle.debug_records.specs.declared.code.Code.{Code}
 use Rattle.debug_records.specs.declared.code.TheConstants.Code.{LINE_SIZE}
 use Rattle.script_form.specs.Reading.{Fault, ◌>>=◌, at_line, order_in, order_of_line, orders_from, script_of, with_front}
 use Rattle.script_form.specs.Refusal.{IsRefused, ReadingsAreOne, LineBreaks, too_long, by_words}
-use Rattle.script_form.specs.Script.{AskFor, IsScript, Order, Break, Step, Continue, Print, Locals, Where, Quit, IsOrder, IsShort, has_words, order_words}
+use Rattle.script_form.specs.Script.{AskFor, IsScript, Order, Break, Step, Continue, Next, Finish, Print, Locals, Where, Quit, IsOrder, IsShort, has_words, order_words}
 use Rattle.script_form.specs.Words.{words}
 use Rattle.script_form.proofs.LineLaws.{Answer, Ask, answer, are_words, asks, breaks, order_complete, words_broken}
 
@@ -42,6 +42,8 @@ order_has_words : (o : Order) → has_words (order_words o) ≡ true
 order_has_words (Break m) = refl
 order_has_words Step = refl
 order_has_words Continue = refl
+order_has_words Next = refl
+order_has_words Finish = refl
 order_has_words (Print name) = refl
 order_has_words Locals = refl
 order_has_words Where = refl

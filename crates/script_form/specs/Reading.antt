@@ -10,7 +10,7 @@ use Rattle.debug_records.specs.declared.code.Code.{Code}
 use Rattle.debug_records.specs.declared.code.TheConstants.Code.{UNKNOWN_COMMAND, LINE_NUMBER, COMMAND_NAME, LINE_SIZE}
 use Rattle.script_form.specs.declared.refusal.ScriptErr.{ScriptErr}
 use Rattle.script_form.specs.declared.refusal.ScriptErr.TheVariants as errors
-use Rattle.script_form.specs.Script.{Mark, OnLine, InFunction, Order, Break, Step, Continue, Print, Locals, Where, Quit, is_name}
+use Rattle.script_form.specs.Script.{Mark, OnLine, InFunction, Order, Break, Step, Continue, Next, Finish, Print, Locals, Where, Quit, is_name}
 use Rattle.script_form.specs.Words.{words}
 
 -- The code of a rule, and the line on which it is broken.
@@ -52,10 +52,12 @@ unfoldable pub order_of_word : List ℕ → Option Order
 order_of_word word =
     if bytes_eq word (codes "step") then Some Step
     else (if bytes_eq word (codes "continue") then Some Continue
+    else (if bytes_eq word (codes "next") then Some Next
+    else (if bytes_eq word (codes "finish") then Some Finish
     else (if bytes_eq word (codes "locals") then Some Locals
     else (if bytes_eq word (codes "where") then Some Where
     else (if bytes_eq word (codes "quit") then Some Quit
-    else None))))
+    else None))))))
 
 -- the order of its first word and its argument, which is empty where it is missing
 unfoldable pub order_of_words : List ℕ → List ℕ → Result Order Code

@@ -15,7 +15,8 @@ use Rattle.script_form.specs.Words.{words}
 unfoldable pub most_arguments : List ℕ → Option ℕ
 most_arguments head =
     if bytes_eq head (codes "break") || bytes_eq head (codes "print") then Some 1
-    else (if bytes_eq head (codes "step") || bytes_eq head (codes "continue") || bytes_eq head (codes "locals") || bytes_eq head (codes "where")
+    else (if bytes_eq head (codes "step") || bytes_eq head (codes "continue") || bytes_eq head (codes "next")
+    || bytes_eq head (codes "finish") || bytes_eq head (codes "locals") || bytes_eq head (codes "where")
     || bytes_eq head (codes "quit") then Some 0 else None)
 
 -- The words of a line break the rule of the code.

@@ -20,6 +20,8 @@ pub data Order : Type 0 where
   Break : Mark → Order
   Step : Order
   Continue : Order
+  Next : Order
+  Finish : Order
   Print : List ℕ → Order
   Locals : Order
   Where : Order
@@ -35,6 +37,8 @@ abbrev pub order_of : Command → Order
 order_of (command.Break t) = Break (mark t)
 order_of command.Step = Step
 order_of command.Continue = Continue
+order_of command.Next = Next
+order_of command.Finish = Finish
 order_of (command.Print name) = Print (string_bytes name)
 order_of command.Locals = Locals
 order_of command.Where = Where
@@ -67,6 +71,8 @@ abbrev pub order_words : Order → List (List ℕ)
 order_words (Break m) = codes "break" ∷ mark_word m ∷ []
 order_words Step = codes "step" ∷ []
 order_words Continue = codes "continue" ∷ []
+order_words Next = codes "next" ∷ []
+order_words Finish = codes "finish" ∷ []
 order_words (Print name) = codes "print" ∷ name ∷ []
 order_words Locals = codes "locals" ∷ []
 order_words Where = codes "where" ∷ []
@@ -83,6 +89,8 @@ IsOrder (Break m) = IsMark m
 IsOrder (Print name) = IsTrue (is_name name)
 IsOrder Step = ⊤
 IsOrder Continue = ⊤
+IsOrder Next = ⊤
+IsOrder Finish = ⊤
 IsOrder Locals = ⊤
 IsOrder Where = ⊤
 IsOrder Quit = ⊤

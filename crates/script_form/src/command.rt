@@ -18,6 +18,10 @@ pub enum Command {
     Step,
     /// `continue`: run to the next marked stop.
     Continue,
+    /// `next`: run to the next stop that is marked or no deeper than here, past calls.
+    Next,
+    /// `finish`: run to the next stop that is marked or less deep than here, out of the innermost function.
+    Finish,
     /// `print NAME`: show the variable of this name.
     Print(String),
     /// `locals`: show all visible variables.

@@ -112,6 +112,10 @@ fn command_of_word(word: &[u8]) -> Option<Command>
         Some(Command::Step)
     } else if word == b"continue".as_slice() {
         Some(Command::Continue)
+    } else if word == b"next".as_slice() {
+        Some(Command::Next)
+    } else if word == b"finish".as_slice() {
+        Some(Command::Finish)
     } else if word == b"locals".as_slice() {
         Some(Command::Locals)
     } else if word == b"where".as_slice() {
