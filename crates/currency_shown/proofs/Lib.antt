@@ -6,3 +6,4 @@ mod HiddenPlaces
 mod LeastPlaces
 mod Chaining
 mod Reaching
+mod Leading

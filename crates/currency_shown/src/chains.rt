@@ -5,8 +5,17 @@ ghost use Rattle.graph_core.specs.Graphs.{Jump, end_view};
 ghost use Rattle.currency_shown.specs.Chains.{AreLinked, IsLinked, LeadsTo};
 
 use graph_core::{Block, End};
-use graph_paths::{entry, flag, put_entry, put_flag, reached_in_order, successor};
+use graph_paths::{entry, flag, put_entry, put_flag, reached_in_order};
 use std::alloc::{AllocError, Global};
+
+/// An end leads to its targets in one way more each.
+fn add_ways(ways: &mut [u32], end: &End) {
+    let targets = end.targets();
+    for label in targets.as_slice() {
+        let count = entry(ways, label.0);
+        put_entry(ways, label.0, count.saturating_add(1));
+    }
+}
 
 /// In how many ways each block is come to from these blocks. The first has one more, the call.
 fn ways_into(alloc: Global, blocks: &[Block], from: &[u32]) -> Result<Vec<u32>, AllocError> {
@@ -14,12 +23,7 @@ fn ways_into(alloc: Global, blocks: &[Block], from: &[u32]) -> Result<Vec<u32>, 
     put_entry(&mut ways, 0, 1);
     for number in from {
         if let Some(block) = blocks.get(*number as usize) {
-            for which in 0..2u32 {
-                if let Some(to) = successor(&block.end, which) {
-                    let count = entry(&ways, to);
-                    put_entry(&mut ways, to, count.saturating_add(1));
-                }
-            }
+            add_ways(&mut ways, &block.end);
         }
     }
     Ok(ways)
