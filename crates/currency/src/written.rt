@@ -24,30 +24,30 @@ fn function_of(writer: Writer) -> u32
 }
 
 /// The name that an instruction of a function writes, by its block and index.
-fn target_at(graph: &Graph, function: u32, block: u32, index: u32) -> Option<u32>
+fn target_at(graph: &Graph, function: u32, block: usize, index: usize) -> Option<u32>
     ensures { IfSome result (λ y. Writes (graph_view graph.now) function y (Writer.Instruction function block index)) }
 {
-    if block as usize >= graph.blocks.len() {
+    if block >= graph.blocks.len() {
         return None;
     }
-    let found = &graph.blocks[block as usize];
-    if index as usize >= found.instructions.len() {
+    let found = &graph.blocks[block];
+    if index >= found.instructions.len() {
         return None;
     }
-    match found.instructions[index as usize].target() {
+    match found.instructions[index].target() {
         Some(name) => Some(name.0),
         None => None,
     }
 }
 
 /// The scalar to which a parameter of a function is bound.
-fn bound_at(graph: &Graph, function: u32, parameter: u32) -> Option<u32>
+fn bound_at(graph: &Graph, function: u32, parameter: usize) -> Option<u32>
     ensures { IfSome result (λ y. Writes (graph_view graph.now) function y (Writer.Binding function parameter)) }
 {
-    if parameter as usize >= graph.parameters.len() {
+    if parameter >= graph.parameters.len() {
         return None;
     }
-    match &graph.parameters[parameter as usize] {
+    match &graph.parameters[parameter] {
         Binding::Scalar(name) => Some(name.0),
         Binding::Object(_) => None,
     }

@@ -1,7 +1,6 @@
 -- The questions are on one scalar.
-use Rattle.std.proofs.Common.{◌≡◌, ◌≢◌, inl, inr, ℕ, ◌+◌, ◌-◌, ◌<◌, ◌≤◌, Bool, true, false, Some, List, length, get_or, take, refl, sym, ap, subst, ◌∙◌, true≢false, eqb-true, min}
+use Rattle.std.proofs.Common.{◌≡◌, ◌≢◌, inl, inr, ℕ, ◌+◌, ◌-◌, ◌<◌, ◌≤◌, Bool, true, false, None, Option, Some, List, length, get_or, take, refl, sym, ap, subst, ◌∙◌, true≢false, eqb-true, min}
 use Rattle.std.specs.Prelude.{All, Contains, slice_get, ◌⊎◌, ◌↔◌}
-use Rattle.std.proofs.lemmas.Bool.Decides.{eqb_tells}
 use Rattle.std.proofs.lemmas.List.Elements.{All-contains, All-more, All-weaker, Contains-get_or}
 use Rattle.debug_records.specs.declared.change.Change.{Change}
 use Rattle.debug_records.specs.declared.change.Kind.TheVariants.{Moved}
@@ -11,7 +10,7 @@ use Rattle.graph_homes.specs.Homes.{is_same_home}
 use Rattle.graph_homes.specs.Reused.{IsTemporaryOf, first_copy}
 use Rattle.graph_core.specs.Graphs.{Logged, graph_view, logged}
 use Rattle.currency_notes.specs.Homes.{home_in, number_at}
-use Rattle.currency_writers.specs.Marks.{number_at as mark_of}
+use Rattle.currency_writers.specs.Marks.{mark_at as mark_of}
 use Rattle.currency_writers.specs.declared.marks.Marks as declared-marks
 use Rattle.currency_notes.proofs.Lists.{at_among, take_whole}
 use Rattle.currency_writers.specs.declared.writers.Writer as declared-writer
@@ -26,6 +25,7 @@ use Rattle.currency_writers.specs.Writers.{AreWriters, AreWritesBy, HaveOneHome,
 use Rattle.currency_writers.specs.Copies.{AreCopies}
 use Rattle.currency_hiding.specs.Changes.{AreFound, IsListed, hides_as, log_of}
 use Rattle.currency_hiding.specs.Found.{AreForeign, IsCopied, IsForeign, IsFunction, IsHomeWritten, IsOn, IsOwn}
+use Rattle.currency_writers.proofs.Entering.{none_tells}
 use Rattle.currency_hiding.proofs.ByKind.{moved_by}
 use Rattle.currency_hiding.proofs.Listed.{listed_by, numbered}
 pub use Rattle.base_laws.proofs.Lists.{member_at}
@@ -37,23 +37,23 @@ same_number (Register r) (Slot j) e = absurd (true≢false (sym e))
 same_number (Slot k) (Register r) e = absurd (true≢false (sym e))
 
 -- the places are marked where the home of a name is written
-abbrev pub AreMarked : declared-writers.Writers → (x : ℕ) → declared-marks.Marks → Type 0
-AreMarked v x marks = (p y : ℕ) (w : declared-writer.Writer) → Writes v p y w → HaveOneHome v y x → mark_of marks p ≢ 0
+abbrev pub AreMarked : declared-writers.Writers → (x : ℕ) → declared-marks.Marks (Unit {0}) → Type 0
+AreMarked v x marks = (p y : ℕ) (w : declared-writer.Writer) → Writes v p y w → HaveOneHome v y x → mark_of marks p ≢ None
 
 -- and no others
-abbrev pub AreBare : declared-writers.Writers → (x : ℕ) → declared-marks.Marks → Type 0
-AreBare v x marks = (p : ℕ) → mark_of marks p ≢ 0 → IsHomeWritten v x p
+abbrev pub AreBare : declared-writers.Writers → (x : ℕ) → declared-marks.Marks (Unit {0}) → Type 0
+AreBare v x marks = (p : ℕ) → mark_of marks p ≢ None → IsHomeWritten v x p
 
 -- a name that is marked is that of the first copy in the place of a change
 abbrev pub AreOwnOnly : declared-function.Function → List Change → Type 0
-AreOwnOnly f moved = (t : ℕ) → mark_of f.own t ≢ 0 → (d : Change) × Contains moved d × IsCopied f d.place.0 t
+AreOwnOnly f moved = (t : ℕ) → mark_of f.own t ≢ None → (d : Change) × Contains moved d × IsCopied f d.place.0 t
 
 -- the place of a write is marked, if it is one of the home of a name
-abbrev pub IsPlaceMarked : declared-writers.Writers → (x : ℕ) → declared-marks.Marks → declared-write.Write → Type 0
-IsPlaceMarked v x marks w = (z : declared-written.Written) → slice_get v.all.items w.number ≡ Some z → z.place ≡ w.place → HaveOneHome v z.name x → mark_of marks w.place ≢ 0
+abbrev pub IsPlaceMarked : declared-writers.Writers → (x : ℕ) → declared-marks.Marks (Unit {0}) → declared-write.Write → Type 0
+IsPlaceMarked v x marks w = (z : declared-written.Written) → slice_get v.all.items w.number ≡ Some z → z.place ≡ w.place → HaveOneHome v z.name x → mark_of marks w.place ≢ None
 
 -- all writes of the home were looked at
-pub marked_all : (v : declared-writers.Writers) (x : ℕ) (marks : declared-marks.Marks) (list : List declared-write.Write) (k : ℕ) → AreWriters v → AreWritesBy v.all.items (home_key v) (home_key v x) list → length list ≤ k → All (IsPlaceMarked v x marks) (take k list) → AreMarked v x marks
+pub marked_all : (v : declared-writers.Writers) (x : ℕ) (marks : declared-marks.Marks (Unit {0})) (list : List declared-write.Write) (k : ℕ) → AreWriters v → AreWritesBy v.all.items (home_key v) (home_key v x) list → length list ≤ k → All (IsPlaceMarked v x marks) (take k list) → AreMarked v x marks
 marked_all v x marks list k writers by le all p y w writes shared =
     let at = member_at v.all.items (record { place = p; name = y; writer = w }) (writers.all p y w writes) in
     let number = same_number (home_in v.homes.now y) (home_in v.homes.now x) shared in
@@ -61,16 +61,16 @@ marked_all v x marks list k writers by le all p y w writes shared =
     (record { place = p; name = y; writer = w }) at.1 refl shared
 
 -- one write more
-pub marked_next : (v : declared-writers.Writers) (x : ℕ) (old new : declared-marks.Marks) (list : List declared-write.Write) (k : ℕ) (d : declared-write.Write) → k < length list → ((p : ℕ) → mark_of old p ≢ 0 → mark_of new p ≢ 0) → IsPlaceMarked v x new (get_or list k d) → All (IsPlaceMarked v x old) (take k list)
+pub marked_next : (v : declared-writers.Writers) (x : ℕ) (old new : declared-marks.Marks (Unit {0})) (list : List declared-write.Write) (k : ℕ) (d : declared-write.Write) → k < length list → ((p : ℕ) → mark_of old p ≢ None → mark_of new p ≢ None) → IsPlaceMarked v x new (get_or list k d) → All (IsPlaceMarked v x old) (take k list)
     → All (IsPlaceMarked v x new) (take (k + 1) list)
 marked_next v x old new list k d lt kept here all =
     All-more (IsPlaceMarked v x new) list k d lt (All-weaker (IsPlaceMarked v x old) (IsPlaceMarked v x new) (λ w was z at place shared. kept w.place (was z at place shared)) (take k list) all) here
 
-pub bare_next : (v : declared-writers.Writers) (x : ℕ) (old new : declared-marks.Marks) → ((p : ℕ) → mark_of new p ≢ 0 → (mark_of old p ≢ 0) ⊎ IsHomeWritten v x p) → AreBare v x old → AreBare v x new
+pub bare_next : (v : declared-writers.Writers) (x : ℕ) (old new : declared-marks.Marks (Unit {0})) → ((p : ℕ) → mark_of new p ≢ None → (mark_of old p ≢ None) ⊎ IsHomeWritten v x p) → AreBare v x old → AreBare v x new
 bare_next v x old new only was p some = elim (only p some) [ inl e ↦ was p e | inr is ↦ is ]
 
 module _ (c : declared-changes.Changes) (f : declared-function.Function) (variable : ℕ) (moved : List Change) where
-  own : f.scalar < length (graph_view f.writers.graph.now).scalars → AreFound c variable Moved moved → All (λ (d : Change). IsOwn f d.place.0) moved → (t : ℕ) → IsTemporaryOf (log_of c) (graph_view f.writers.graph.now) f.scalar variable t → mark_of f.own t ≢ 0
+  own : f.scalar < length (graph_view f.writers.graph.now).scalars → AreFound c variable Moved moved → All (λ (d : Change). IsOwn f d.place.0) moved → (t : ℕ) → IsTemporaryOf (log_of c) (graph_view f.writers.graph.now) f.scalar variable t → mark_of f.own t ≢ None
   own scalar found marked t temporary =
       let one = listed_by c temporary.change temporary.logged in
       let d : Change = one.1 in
@@ -78,7 +78,7 @@ module _ (c : declared-changes.Changes) (f : declared-function.Function) (variab
       let among : Contains moved d = found.all one.0 d one.2 (ap (λ (z : Logged). z.variable) same ∙ temporary.of) (ap (λ (z : Logged). hides_as z.kind) same ∙ ap hides_as temporary.moved) in
       All-contains (λ (d : Change). IsOwn f d.place.0) moved d marked among t scalar (ap (λ (z : Logged). first_copy z.place f.scalar (graph_view f.writers.graph.now).blocks) same ∙ temporary.copied) temporary.temporary
 
-  only : AreFound c variable Moved moved → AreOwnOnly f moved → (t : ℕ) → mark_of f.own t ≢ 0 → IsTemporaryOf (log_of c) (graph_view f.writers.graph.now) f.scalar variable t
+  only : AreFound c variable Moved moved → AreOwnOnly f moved → (t : ℕ) → mark_of f.own t ≢ None → IsTemporaryOf (log_of c) (graph_view f.writers.graph.now) f.scalar variable t
   only found marked t some =
       let one = marked t some in
       let is = All-contains (λ (d : Change). IsListed c d.number d × (d.var.0 ≡ variable) × (hides_as d.kind ≡ Moved)) moved one.0 found.each one.1 in
@@ -95,12 +95,12 @@ function_on f h writers copies is = record {
   graph = ap (λ (z : declared-copies.Copies). z.graph.now) copies ∙ is.graph ∙ sym (ap (λ (w : declared-writers.Writers). w.graph.now) writers);
 }
 
--- what is not marked has no number
-pub unmarked : (r : Bool) (n : ℕ) → (r ≡ true) ↔ (n ≢ 0) → r ≡ false → n ≡ 0
-unmarked r n is none = elim (eqb_tells n 0) [ inl e ↦ e.1 | inr e ↦ absurd (true≢false (sym (is.1 e.1) ∙ none)) ]
+-- what is not marked
+pub unmarked : {T : Type 0} (r : Bool) (o : Option T) → (r ≡ true) ↔ (o ≢ None) → r ≡ false → o ≡ None
+unmarked r o is none = elim (none_tells o) [ inl e ↦ e | inr e ↦ absurd (true≢false (sym (is.1 e) ∙ none)) ]
 
 -- a temporary stays marked as one more is
-pub own_kept : (old new : declared-function.Function) (p : ℕ) → new.writers ≡ old.writers → new.scalar ≡ old.scalar → ((q : ℕ) → mark_of old.own q ≢ 0 → mark_of new.own q ≢ 0) → IsOwn old p → IsOwn new p
+pub own_kept : (old new : declared-function.Function) (p : ℕ) → new.writers ≡ old.writers → new.scalar ≡ old.scalar → ((q : ℕ) → mark_of old.own q ≢ None → mark_of new.own q ≢ None) → IsOwn old p → IsOwn new p
 own_kept old new p writers scalar kept own t lt copied le =
     kept t (own t (subst (λ (x : ℕ). x < length (graph_view old.writers.graph.now).scalars) scalar (subst (λ (w : declared-writers.Writers). new.scalar < length (graph_view w.graph.now).scalars) writers lt))
     (subst (λ (x : ℕ). first_copy p x (graph_view old.writers.graph.now).blocks ≡ Some t) scalar (subst (λ (w : declared-writers.Writers). first_copy p new.scalar (graph_view w.graph.now).blocks ≡ Some t) writers copied))
@@ -113,12 +113,12 @@ copied_on old new p t writers scalar is = record {
 }
 
 -- the temporaries of one change more are marked
-pub owns_next : (old new : declared-function.Function) (list : List Change) (k : ℕ) (d : Change) → k < length list → new.writers ≡ old.writers → new.scalar ≡ old.scalar → ((q : ℕ) → mark_of old.own q ≢ 0 → mark_of new.own q ≢ 0) → IsOwn new (get_or list k d).place.0 → All (λ (e : Change). IsOwn old e.place.0) (take k list)
+pub owns_next : (old new : declared-function.Function) (list : List Change) (k : ℕ) (d : Change) → k < length list → new.writers ≡ old.writers → new.scalar ≡ old.scalar → ((q : ℕ) → mark_of old.own q ≢ None → mark_of new.own q ≢ None) → IsOwn new (get_or list k d).place.0 → All (λ (e : Change). IsOwn old e.place.0) (take k list)
     → All (λ (e : Change). IsOwn new e.place.0) (take (k + 1) list)
 owns_next old new list k d lt writers scalar kept here all =
     All-more (λ (e : Change). IsOwn new e.place.0) list k d lt (All-weaker (λ (e : Change). IsOwn old e.place.0) (λ (e : Change). IsOwn new e.place.0) (λ e was. own_kept old new e.place.0 writers scalar kept was) (take k list) all) here
 
-pub only_next : (old new : declared-function.Function) (list : List Change) (k : ℕ) (d : Change) → k < length list → new.writers ≡ old.writers → new.scalar ≡ old.scalar → ((t : ℕ) → mark_of new.own t ≢ 0 → (mark_of old.own t ≢ 0) ⊎ IsCopied new (get_or list k d).place.0 t) → AreOwnOnly old list → AreOwnOnly new list
+pub only_next : (old new : declared-function.Function) (list : List Change) (k : ℕ) (d : Change) → k < length list → new.writers ≡ old.writers → new.scalar ≡ old.scalar → ((t : ℕ) → mark_of new.own t ≢ None → (mark_of old.own t ≢ None) ⊎ IsCopied new (get_or list k d).place.0 t) → AreOwnOnly old list → AreOwnOnly new list
 only_next old new list k d lt writers scalar only was t some = elim (only t some) [
   | inl e ↦ (let one = was t e in (one.0, one.1, copied_on old new one.0.place.0 t writers scalar one.2))
   | inr is ↦ (get_or list k d, Contains-get_or list k d lt, is)
@@ -130,12 +130,12 @@ owns_done f list k le all = subst (λ (l : List Change). All (λ (e : Change). I
 
 -- the temporary of a place is marked, by the copies
 pub own_by : (f : declared-function.Function) (p : ℕ) → f.copies.graph.now ≡ f.writers.graph.now
-    → ((t : ℕ) → f.scalar < length (graph_view f.copies.graph.now).scalars → first_copy p f.scalar (graph_view f.copies.graph.now).blocks ≡ Some t → length (graph_view f.copies.graph.now).scalars ≤ t → mark_of f.own t ≢ 0) → IsOwn f p
+    → ((t : ℕ) → f.scalar < length (graph_view f.copies.graph.now).scalars → first_copy p f.scalar (graph_view f.copies.graph.now).blocks ≡ Some t → length (graph_view f.copies.graph.now).scalars ≤ t → mark_of f.own t ≢ None) → IsOwn f p
 own_by f p graph marked t lt copied le =
     marked t (subst (λ (g : declared-graph.Graph). f.scalar < length (graph_view g).scalars) (sym graph) lt) (subst (λ (g : declared-graph.Graph). first_copy p f.scalar (graph_view g).blocks ≡ Some t) (sym graph) copied) (subst (λ (g : declared-graph.Graph). length (graph_view g).scalars ≤ t) (sym graph) le)
 
-pub only_by : (f : declared-function.Function) (old : declared-marks.Marks) (p : ℕ) → f.copies.graph.now ≡ f.writers.graph.now
-    → ((t : ℕ) → mark_of f.own t ≢ 0 → (mark_of old t ≢ 0) ⊎ ((first_copy p f.scalar (graph_view f.copies.graph.now).blocks ≡ Some t) × (length (graph_view f.copies.graph.now).scalars ≤ t))) → (t : ℕ) → mark_of f.own t ≢ 0 → (mark_of old t ≢ 0) ⊎ IsCopied f p t
+pub only_by : (f : declared-function.Function) (old : declared-marks.Marks (Unit {0})) (p : ℕ) → f.copies.graph.now ≡ f.writers.graph.now
+    → ((t : ℕ) → mark_of f.own t ≢ None → (mark_of old t ≢ None) ⊎ ((first_copy p f.scalar (graph_view f.copies.graph.now).blocks ≡ Some t) × (length (graph_view f.copies.graph.now).scalars ≤ t))) → (t : ℕ) → mark_of f.own t ≢ None → (mark_of old t ≢ None) ⊎ IsCopied f p t
 only_by f old p graph only t some = elim (only t some) [
   | inl e ↦ inl e
   | inr is ↦ inr (record {
@@ -152,8 +152,8 @@ turned c first mid f scalar variable moved is lt writers copies same marked bare
     (subst (λ (x : ℕ). x < length (graph_view f.writers.graph.now).scalars) (sym (same2 ∙ same)) (subst (λ (w : declared-writers.Writers). scalar < length (graph_view w.graph.now).scalars) (sym (writers2 ∙ writers)) lt))
     found (on_all AreMarked marked) (on_all AreBare bare) own others
   where
-    on_all : (P : declared-writers.Writers → ℕ → declared-marks.Marks → Type 0) → P mid.writers mid.scalar mid.written → P f.writers f.scalar f.written
-    on_all P was = subst (λ (w : declared-writers.Writers). P w f.scalar f.written) (sym writers2) (subst (λ (x : ℕ). P mid.writers x f.written) (sym same2) (subst (λ (marks : declared-marks.Marks). P mid.writers mid.scalar marks) (sym written2) was))
+    on_all : (P : declared-writers.Writers → ℕ → declared-marks.Marks (Unit {0}) → Type 0) → P mid.writers mid.scalar mid.written → P f.writers f.scalar f.written
+    on_all P was = subst (λ (w : declared-writers.Writers). P w f.scalar f.written) (sym writers2) (subst (λ (x : ℕ). P mid.writers x f.written) (sym same2) (subst (λ (marks : declared-marks.Marks (Unit {0})). P mid.writers mid.scalar marks) (sym written2) was))
 
 -- a write was found, if it is for a foreign name
 abbrev pub IsForeignFound : declared-function.Function → List declared-write.Write → declared-write.Write → Type 0

@@ -1,6 +1,6 @@
 -- The first of all that may hide a scalar.
 use Rattle.std.proofs.Common.{◌≡◌, ◌≢◌, inl, inr, ℕ, ◌+◌, ◌-◌, ◌<◌, ◌≤◌, true, false, Option, Some, None, List, [], ◌∷◌, length, get_or, take, refl, sym, ap, subst, ◌∙◌, arith, true≢false}
-use Rattle.std.specs.Prelude.{slice_get, All, Contains, IfSome, is_some, ◌⊎◌}
+use Rattle.std.specs.Prelude.{slice_get, All, Contains, IfSome, IsSomeAnd, is_some, ◌⊎◌}
 use Rattle.std.proofs.lemmas.Bool.Decides.{eqb_tells}
 use Rattle.std.proofs.lemmas.List.Elements.{All-contains, All-more, All-weaker}
 use Rattle.std.specs.List.Sorted.{IsPermutation}
@@ -16,7 +16,7 @@ use Rattle.graph_homes.specs.Reused.{IsTemporaryOf, first_copy}
 use Rattle.currency_notes.specs.Homes.{home_in}
 use Rattle.currency_notes.proofs.Lists.{take_whole}
 use Rattle.currency_writers.specs.declared.search.Search as declared-search
-use Rattle.currency_writers.specs.Marks.{number_at}
+use Rattle.currency_writers.specs.Marks.{mark_at}
 use Rattle.currency_writers.specs.Flow.{ComesOn, assigned}
 use Rattle.currency_writers.specs.Starts.{HasNoStart, IsLeastStartBy, IsStartBy}
 use Rattle.currency_writers.proofs.Routes.{route_by, ways_by}
@@ -25,6 +25,7 @@ use Rattle.currency_writers.specs.declared.writers.Written as declared-written
 use Rattle.currency_writers.specs.declared.writers.Write as declared-write
 use Rattle.currency_writers.specs.Order.{IsNoLater, rank_of}
 use Rattle.currency_writers.specs.Writers.{AreWritesBy, HaveOneHome}
+use Rattle.currency_writers.proofs.Entering.{and_some, none_tells}
 use Rattle.currency_writers.proofs.Order.{no_later_on, no_later_same}
 use Rattle.currency_hiding.specs.declared.changes.Changes as declared-changes
 use Rattle.currency_hiding.specs.declared.function.Function as declared-function
@@ -128,39 +129,35 @@ module _ (l : declared-changes.Changes) (s : declared-search.Search) (f : declar
 
   module _ (c : declared-causes.Causes) (causes : AreCauses l s f c) (found : AreAllFound l s f c.found.items) (stop : ℕ) where
     -- where something may be told, something was found at some index, that is told no later
-    before : (d : declared-cause.Cause) (by : ℕ) → May stop by d → (k : ℕ) × (y : declared-found.Found) × (slice_get c.found.items k ≡ Some y) × (number_at c.told stop ≢ 0) × (number_at c.told stop ≤ k + 1) × IsNoLater (order_of y.cause y.via) (order_of d by)
+    before : (d : declared-cause.Cause) (by : ℕ) → May stop by d → (k : ℕ) × (y : declared-found.Found) × (slice_get c.found.items k ≡ Some y) × IsSomeAnd (mark_at c.told stop) (λ number. number ≤ k) × IsNoLater (order_of y.cause y.via) (order_of d by)
     before d by may =
         let from = may_from d by stop may in
         let one = covered c.found.items found d by from.0 in
         let at = member_at c.found.items one.one one.is in
         let first = causes.first at.0 stop one.one at.1 (subst (λ v. ComesOn s.flow v stop) (sym one.by) from.1) in
-        (at.0, one.one, at.1, first.0, first.1, one.before)
+        (at.0, one.one, at.1, first, one.before)
 
-    pub none_told : number_at c.told stop ≡ 0 → HasNoneAt l s f stop
-    none_told none d by may = (before d by may).3 none
+    pub none_told : mark_at c.told stop ≡ None → HasNoneAt l s f stop
+    none_told none d by may = (let other = before d by may in and_some (mark_at c.told stop) (λ number. number ≤ other.0) other.3 none)
 
-    pub first_told : (number : ℕ) (z d : declared-found.Found) → number ≡ number_at c.told stop → 1 ≤ number → number ≤ length c.found.items → z ≡ get_or c.found.items (number - 1) d → IsFirstAt l s f stop z.cause
-    first_told number z d same some le is =
-        let lt : number - 1 < length c.found.items = omega (arith, some, le) in
-        let at : slice_get c.found.items (number - 1) ≡ Some z = slice_get-get_or c.found.items (number - 1) d lt ∙ ap Some (sym is) in
-        let told : IsToldBy l s f c.found.items (number_at c.told stop) stop = causes.told stop (λ e. omega (arith, same, some, e)) in
-        let one : told.one ≡ z = same_Some told.one z (sym told.is ∙ ap (λ n. slice_get c.found.items (n - 1)) (sym same) ∙ at) in
+    pub first_told : (number : ℕ) (z d : declared-found.Found) → mark_at c.told stop ≡ Some number → number < length c.found.items → z ≡ get_or c.found.items number d → IsFirstAt l s f stop z.cause
+    first_told number z d told_at lt is =
+        let at : slice_get c.found.items number ≡ Some z = slice_get-get_or c.found.items number d lt ∙ ap Some (sym is) in
+        let told : IsToldBy l s f c.found.items number stop = causes.told stop number told_at in
+        let one : told.one ≡ z = same_Some told.one z (sym told.is ∙ at) in
         let comes : ComesOn s.flow z.via stop = subst (λ (y : declared-found.Found). ComesOn s.flow y.via stop) one told.comes in
-        let hides : HidesFrom l s f z.cause z.via = subst (λ (y : declared-found.Found). HidesFrom l s f y.cause y.via) (sym is) (causes.each (number - 1) d lt) in
+        let hides : HidesFrom l s f z.cause z.via = subst (λ (y : declared-found.Found). HidesFrom l s f y.cause y.via) (sym is) (causes.each number d lt) in
         record {
           via = z.via;
           is = may_be z.cause z.via stop hides comes;
           first = λ e by may. (let other = before e by may in
-              let below = other.4 in
-              no_later_on (order_of z.cause z.via) (order_of other.1.cause other.1.via) (order_of e by) (causes.ordered (number - 1) other.0 z other.1 (omega (arith, same, some, below)) at other.2) other.5);
+              let below : number ≤ other.0 = subst (λ (o : Option ℕ). IsSomeAnd o (λ n. n ≤ other.0)) told_at other.3 in
+              no_later_on (order_of z.cause z.via) (order_of other.1.cause other.1.via) (order_of e by) (causes.ordered number other.0 z other.1 below at other.2) other.4);
         }
 
-    pub none_by : (number : ℕ) → number ≡ number_at c.told stop → (number ≡ 0) ⊎ (length c.found.items < number) → HasNoneAt l s f stop
-    none_by number same (inl e) = none_told (sym same ∙ e)
-    none_by number same (inr lt) = elim (eqb_tells (number_at c.told stop) 0) [
-      | inl e ↦ none_told e.1
-      | inr e ↦ (let told = causes.told stop e.1 in let within : number_at c.told stop - 1 < length c.found.items = slice_get_within c.found.items (number_at c.told stop - 1) told.one told.is in let some = e.1 in absurd (omega (arith, within, same, lt, some)))
-    ]
+    -- what a place is told by was found
+    pub none_outside : (number : ℕ) → mark_at c.told stop ≡ Some number → length c.found.items ≤ number → ⊥
+    none_outside number at le = (let told = causes.told stop number at in let lt : number < length c.found.items = slice_get_within c.found.items number told.one told.is in omega (arith, lt, le))
 
   -- what was found stays so
   covered_kept : (old new : declared-causes.Causes) → AreMoreFound old new → (c : declared-cause.Cause) (via : ℕ) → IsCovered l s f old.found.items c via → IsCovered l s f new.found.items c via
@@ -205,9 +202,9 @@ module _ (l : declared-changes.Changes) (s : declared-search.Search) (f : declar
     pub removal_unassigned : assigned s.flow d.place.0 ≡ false → IsRemovalFound l s f all d.number
     removal_unassigned none start via hides = absurd (true≢false (sym hides.1.assigned ∙ ap (λ p. assigned s.flow p) (sym (removed_place start via hides)) ∙ none))
 
-    pub removal_written : IsAsked l s f → number_at f.written d.place.0 ≢ 0 → IsRemovalFound l s f all d.number
+    pub removal_written : IsAsked l s f → mark_at f.written d.place.0 ≢ None → IsRemovalFound l s f all d.number
     removal_written asked some start via hides =
-        (let is = asked.on.bare start (subst (λ p. number_at f.written p ≢ 0) (removed_place start via hides) some) in
+        (let is = asked.on.bare start (subst (λ p. mark_at f.written p ≢ None) (removed_place start via hides) some) in
         absurd (hides.1.bare is.y is.writer is.writes is.shared))
 
     pub removal_there : Contains all (record { cause = cause.Removed d.number d.place.0; via = d.place.0 }) → IsRemovalFound l s f all d.number
@@ -287,13 +284,13 @@ module _ (l : declared-changes.Changes) (s : declared-search.Search) (f : declar
       let y = hides.0.y in
       let z : declared-written.Written = record { place = via; name = y; writer = w } in
       let at = member_at f.writers.all.items z (asked.on.function.writers.all via y w hides.0.writes) in
-      let own : number_at f.own y ≡ 0 = unowned y hides.0.foreign in
+      let own : mark_at f.own y ≡ None = unowned y hides.0.foreign in
       let is : IsForeign f y = record { other = hides.0.other; foreign = own; shared = hides.0.shared } in
       let one = covered_by asked all (λ start w. cause.Reused change start w) vias writes found told start via at.0 z at.1 (foreign at.0 z at.1 is) hides.1 in
       record { one = record { cause = cause.Reused change one.0.start one.1.writer; via = one.0.place }; is = one.2; by = one.3; before = inr (refl, one.4) }
     where
-      unowned : (y : ℕ) → (IsTemporaryOf (log_of l) (graph_view f.writers.graph.now) f.scalar s.flow.var.0 y → ⊥) → number_at f.own y ≡ 0
-      unowned y none = elim (eqb_tells (number_at f.own y) 0) [ inl e ↦ e.1 | inr e ↦ absurd (none (asked.on.only y e.1)) ]
+      unowned : (y : ℕ) → (IsTemporaryOf (log_of l) (graph_view f.writers.graph.now) f.scalar s.flow.var.0 y → ⊥) → mark_at f.own y ≡ None
+      unowned y none = elim (none_tells (mark_at f.own y)) [ inl e ↦ e | inr e ↦ absurd (none (asked.on.only y e)) ]
 
   -- all was found, step by step
   pub all_by : (first mid last : declared-causes.Causes) → ((n : ℕ) → IsRemovalFound l s f first.found.items n) → AreMoreFound first mid → ((n : ℕ) → AreMovesFound l s f mid.found.items n) → AreMoreFound mid last → ((n : ℕ) → AreSharesFound l s f last.found.items n) → AreAllFound l s f last.found.items

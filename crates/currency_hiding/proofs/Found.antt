@@ -1,7 +1,6 @@
 -- What hides a scalar.
-use Rattle.std.proofs.Common.{◌≡◌, ◌≢◌, inl, inr, ℕ, ◌+◌, ◌-◌, ◌<◌, ◌≤◌, true, Some, List, [], ◌∷◌, ◌++◌, length, get_or, refl, sym, ap, subst, ◌∙◌, arith}
-use Rattle.std.specs.Prelude.{slice_get, All}
-use Rattle.std.proofs.lemmas.List.{length-append}
+use Rattle.std.proofs.Common.{◌≡◌, inl, inr, ℕ, ◌<◌, ◌≤◌, true, None, Option, Some, List, [], ◌∷◌, ◌++◌, length, get_or, refl, sym, ap, subst, ◌∙◌, arith}
+use Rattle.std.specs.Prelude.{slice_get, All, IsSomeAnd}
 use Rattle.std.proofs.lemmas.List.Elements.{All-nil, All-push}
 use Rattle.std.proofs.lemmas.Option.{none-some, same_Some, slice_get-get_or, slice_get_within}
 use Rattle.places.specs.Path.{quest_by}
@@ -12,7 +11,7 @@ use Rattle.graph_core.specs.Graphs.{Logged, graph_view, logged}
 use Rattle.graph_core.specs.declared.graph.Graph as declared-graph
 use Rattle.graph_homes.specs.Reused.{first_copy}
 use Rattle.currency_writers.specs.declared.search.Search as declared-search
-use Rattle.currency_writers.specs.Marks.{number_at}
+use Rattle.currency_writers.specs.Marks.{mark_at}
 use Rattle.currency_writers.specs.Flow.{AreTold, ComesOn, IsClosed, IsToldFrom, assigned}
 use Rattle.currency_writers.specs.Starts.{IsStartBy}
 use Rattle.currency_writers.proofs.Routes.{route_by}
@@ -27,6 +26,7 @@ use Rattle.debug_records.specs.Change.{letters}
 use Rattle.currency_notes.specs.Homes.{home_in}
 use Rattle.currency_writers.specs.Order.{IsNoLater}
 use Rattle.currency_writers.specs.Writers.{HaveOneHome, Writes}
+use Rattle.currency_writers.proofs.Entering.{and_some, some_and}
 use Rattle.currency_writers.proofs.Order.{no_later_same}
 use Rattle.currency_writers.proofs.Indexed.{get_cases, get_kept, get_last}
 use Rattle.currency_hiding.specs.Changes.{AreFound, IsLastSharing, IsSharing, log_of}
@@ -42,7 +42,7 @@ module _ (l : declared-changes.Changes) (s : declared-search.Search) (f : declar
   abbrev IsLastSharedBy : (number : ℕ) → Type 0
   IsLastSharedBy number = IsLastShared (log_of l) s.flow.table.now (home_in f.writers.homes.now) f.writers.function (graph_view f.writers.graph.now) f.scalar s.flow.var.0 number
 
-  pub removed_hides : IsAsked l s f → (d : Change) → IsOfKind l s f Removed d → assigned s.flow d.place.0 ≡ true → number_at f.written d.place.0 ≡ 0 → HidesFrom l s f (cause.Removed d.number d.place.0) d.place.0
+  pub removed_hides : IsAsked l s f → (d : Change) → IsOfKind l s f Removed d → assigned s.flow d.place.0 ≡ true → mark_at f.written d.place.0 ≡ None → HidesFrom l s f (cause.Removed d.number d.place.0) d.place.0
   removed_hides asked d is assigned none = (
     refl,
     record {
@@ -110,20 +110,20 @@ module _ (l : declared-changes.Changes) (s : declared-search.Search) (f : declar
   ]
 
   pub causes_more : (old new : declared-causes.Causes) (one : declared-found.Found) → AreCauses l s f old → HidesFrom l s f one.cause one.via → new.found.items ≡ old.found.items ++ (one ∷ [])
-      → ((k : ℕ) (z : declared-found.Found) → slice_get old.found.items k ≡ Some z → IsNoLater (order_of z.cause z.via) (order_of one.cause one.via)) → IsToldFrom s.flow one.via (length new.found.items) old.told new.told → IsClosed s.flow new.told → AreTold s.flow one.via new.told → AreCauses l s f new
+      → ((k : ℕ) (z : declared-found.Found) → slice_get old.found.items k ≡ Some z → IsNoLater (order_of z.cause z.via) (order_of one.cause one.via)) → IsToldFrom s.flow one.via (length old.found.items) old.told new.told → IsClosed s.flow new.told → AreTold s.flow one.via new.told → AreCauses l s f new
   causes_more old new one before hides found next told closed all = record {
     each = subst (λ (all : List declared-found.Found). All (λ (z : declared-found.Found). HidesFrom l s f z.cause z.via) all) (sym found) (All-push (λ (z : declared-found.Found). HidesFrom l s f z.cause z.via) old.found.items one before.each hides);
-    told = λ p some. elim (told p) [
-      | inl e ↦ (let was = before.told p (λ q. some (e ∙ q)) in
+    told = λ p number at. elim (told p) [
+      | inl e ↦ (let was = before.told p number (sym e ∙ at) in
           record {
             one = was.one;
-            is = ap (λ (all : List declared-found.Found). slice_get all (number_at new.told p - 1)) found ∙ get_kept old.found.items one was.one (number_at new.told p - 1) (ap (λ n. slice_get old.found.items (n - 1)) e ∙ was.is);
+            is = ap (λ (all : List declared-found.Found). slice_get all number) found ∙ get_kept old.found.items one was.one number was.is;
             comes = was.comes;
           })
-      | inr e ↦ (let number : number_at new.told p - 1 ≡ length old.found.items = (let same = e.1 in omega (arith, same, long)) in
+      | inr e ↦ (let same : length old.found.items ≡ number = same_Some (length old.found.items) number (sym e.1 ∙ at) in
           record {
             one = one;
-            is = ap (λ (all : List declared-found.Found). slice_get all (number_at new.told p - 1)) found ∙ ap (λ n. slice_get (old.found.items ++ (one ∷ [])) n) number ∙ get_last old.found.items one;
+            is = ap (λ (all : List declared-found.Found). slice_get all number) found ∙ ap (λ n. slice_get (old.found.items ++ (one ∷ [])) n) (sym same) ∙ get_last old.found.items one;
             comes = e.2;
           })
     ];
@@ -135,26 +135,19 @@ module _ (l : declared-changes.Changes) (s : declared-search.Search) (f : declar
     ordered = subst (λ (all : List declared-found.Found). AreInOrder all) (sym found) (ordered_more old.found.items one before.ordered next);
   }
     where
-      long : length new.found.items ≡ length old.found.items + 1
-      long = ap length found ∙ length-append old.found.items (one ∷ [])
-
-      kept : (k p : ℕ) → (number_at old.told p ≢ 0) × (number_at old.told p ≤ k + 1) → (number_at new.told p ≢ 0) × (number_at new.told p ≤ k + 1)
+      kept : (k p : ℕ) → IsSomeAnd (mark_at old.told p) (λ number. number ≤ k) → IsSomeAnd (mark_at new.told p) (λ number. number ≤ k)
       kept k p was = elim (told p) [
-        | inl e ↦ (λ q. was.0 (sym e ∙ q), subst (λ n. n ≤ k + 1) (sym e) was.1)
-        | inr r ↦ absurd (was.0 r.0)
+        | inl e ↦ subst (λ (o : Option ℕ). IsSomeAnd o (λ number. number ≤ k)) (sym e) was
+        | inr r ↦ absurd (and_some (mark_at old.told p) (λ number. number ≤ k) was r.0)
       ]
 
-      not_above : (p : ℕ) → number_at old.told p ≢ 0 → number_at old.told p ≤ length old.found.items
-      not_above p some = (let was = before.told p some in let lt : number_at old.told p - 1 < length old.found.items = slice_get_within old.found.items (number_at old.told p - 1) was.one was.is in omega (arith, lt))
-
-      last : (k p : ℕ) → k ≡ length old.found.items → ComesOn s.flow one.via p → (number_at new.told p ≢ 0) × (number_at new.told p ≤ k + 1)
-      last k p same comes = (
-        all p comes,
-        elim (told p) [
-          | inl e ↦ (let le = not_above p (λ q. all p comes (e ∙ q)) in omega (arith, e, le, same))
-          | inr r ↦ (let e = r.1 in omega (arith, e, long, same))
-        ],
-      )
+      last : (k p : ℕ) → k ≡ length old.found.items → ComesOn s.flow one.via p → IsSomeAnd (mark_at new.told p) (λ number. number ≤ k)
+      last k p same comes =
+          some_and (mark_at new.told p) (λ number. number ≤ k) (all p comes)
+          (λ number at. elim (told p) [
+            | inl e ↦ (let was = before.told p number (sym e ∙ at) in let lt : number < length old.found.items = slice_get_within old.found.items number was.one was.is in omega (arith, lt, same))
+            | inr r ↦ (let is : length old.found.items ≡ number = same_Some (length old.found.items) number (sym r.1 ∙ at) in omega (arith, is, same))
+          ])
 
   -- what hides the scalar on ways by a place hides it where execution comes from there
   pub hides_at : (c : declared-cause.Cause) (via stop : ℕ) → HidesFrom l s f c via → ComesOn s.flow via stop → HidesAt l s f stop c
@@ -170,20 +163,18 @@ module _ (l : declared-changes.Changes) (s : declared-search.Search) (f : declar
       record { via = via; is = hides.0; assigned = hides.1.assigns; route = record { path = way.0; route = way.1 } })
 
   -- what is told at a place hides the scalar there
-  pub told_hides : (c : declared-causes.Causes) (p : ℕ) (z d : declared-found.Found) → AreCauses l s f c → number_at c.told p ≢ 0 → number_at c.told p ≤ length c.found.items → z ≡ get_or c.found.items (number_at c.told p - 1) d → HidesAt l s f p z.cause
-  told_hides c p z d causes some le is =
-      let told = causes.told p some in
-      let lt : number_at c.told p - 1 < length c.found.items = slice_get_within c.found.items (number_at c.told p - 1) told.one told.is in
-      let one : told.one ≡ z = same_Some told.one z (sym told.is ∙ slice_get-get_or c.found.items (number_at c.told p - 1) d lt ∙ ap Some (sym is)) in
-      let hides : HidesFrom l s f told.one.cause told.one.via =
-      subst (λ (y : declared-found.Found). HidesFrom l s f y.cause y.via) (same_Some (get_or c.found.items (number_at c.told p - 1) d) told.one (sym (slice_get-get_or c.found.items (number_at c.told p - 1) d lt) ∙ told.is)) (causes.each (number_at c.told p - 1) d lt) in
-      subst (λ (y : declared-found.Found). HidesAt l s f p y.cause) one (hides_at told.one.cause told.one.via p hides told.comes)
+  pub told_hides : (c : declared-causes.Causes) (p number : ℕ) (z d : declared-found.Found) → AreCauses l s f c → mark_at c.told p ≡ Some number → number < length c.found.items → z ≡ get_or c.found.items number d → HidesAt l s f p z.cause
+  told_hides c p number z d causes at lt is =
+      let told = causes.told p number at in
+      let one : told.one ≡ z = same_Some told.one z (sym told.is ∙ slice_get-get_or c.found.items number d lt ∙ ap Some (sym is)) in
+      let hides : HidesFrom l s f z.cause z.via = subst (λ (y : declared-found.Found). HidesFrom l s f y.cause y.via) (sym is) (causes.each number d lt) in
+      hides_at z.cause z.via p hides (subst (λ (y : declared-found.Found). ComesOn s.flow y.via p) one told.comes)
 
   -- nothing is found at first
-  pub causes_none : (c : declared-causes.Causes) → c.found.items ≡ [] → ((p : ℕ) → number_at c.told p ≡ 0) → AreCauses l s f c
+  pub causes_none : (c : declared-causes.Causes) → c.found.items ≡ [] → ((p : ℕ) → mark_at c.told p ≡ None) → AreCauses l s f c
   causes_none c found told = record {
     each = subst (λ (all : List declared-found.Found). All (λ (z : declared-found.Found). HidesFrom l s f z.cause z.via) all) (sym found) (All-nil (λ (z : declared-found.Found). HidesFrom l s f z.cause z.via));
-    told = λ p some. absurd (some (told p));
+    told = λ p number at. absurd (none-some number (sym (told p) ∙ at));
     closed = λ q some. absurd (some (told q));
     first = λ k p z at. absurd (none-some z (sym (ap (λ (all : List declared-found.Found). slice_get all k) found) ∙ at));
     ordered = λ j k z y le at. absurd (none-some z (sym (ap (λ (all : List declared-found.Found). slice_get all j) found) ∙ at));
@@ -203,8 +194,3 @@ module _ (l : declared-changes.Changes) (s : declared-search.Search) (f : declar
         temporary = subst (λ (g : declared-graph.Graph). length (graph_view g).scalars ≤ t) graph temporary;
         shared = shared;
       })
-
-  -- the same by a number that was read
-  pub told_by : (c : declared-causes.Causes) (p number : ℕ) (z d : declared-found.Found) → AreCauses l s f c → number ≡ number_at c.told p → 1 ≤ number → number ≤ length c.found.items → z ≡ get_or c.found.items (number - 1) d → HidesAt l s f p z.cause
-  told_by c p number z d causes same some le is =
-      told_hides c p z d causes (λ e. omega (arith, same, some, e)) (omega (arith, same, le)) (is ∙ ap (λ n. get_or c.found.items (n - 1) d) same)

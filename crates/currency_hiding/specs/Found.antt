@@ -1,12 +1,12 @@
 -- What is asked of a function for one of its scalars, and what is found to hide it.
-use Rattle.std.specs.Prelude.{◌≡◌, ◌≢◌, ℕ, ◌+◌, ◌-◌, ◌<◌, ◌≤◌, Some, List, All, Contains, length, slice_get}
+use Rattle.std.specs.Prelude.{◌≡◌, ◌≢◌, ℕ, ◌<◌, ◌≤◌, IsSomeAnd, None, Some, List, All, Contains, length, slice_get}
 use Rattle.debug_records.specs.declared.change.Change.{Change}
 use Rattle.debug_records.specs.declared.change.Kind.{Kind}
 use Rattle.debug_records.specs.declared.change.Kind.TheVariants.{Moved}
 use Rattle.graph_homes.specs.Reused.{IsTemporaryOf, first_copy}
 use Rattle.graph_core.specs.Graphs.{Logged, graph_view}
 use Rattle.currency_notes.specs.Homes.{home_in}
-use Rattle.currency_writers.specs.Marks.{number_at}
+use Rattle.currency_writers.specs.Marks.{mark_at}
 use Rattle.currency_writers.specs.Flow.{ComesOn, IsClosed, IsFlow}
 use Rattle.currency_writers.specs.Starts.{IsLeastStartBy, IsStartBy, IsTurned}
 use Rattle.currency_writers.specs.declared.writers.Writer as declared-writer
@@ -46,15 +46,15 @@ pub record IsHomeWritten (v : declared-writers.Writers) (x p : ℕ) : Type 0 whe
 pub record IsOn (log : List Logged) (f : declared-function.Function) (variable : ℕ) : Type 0 where
   pub function : IsFunction f
   pub scalar : f.scalar < length (graph_view f.writers.graph.now).scalars
-  pub written : (p y : ℕ) (w : declared-writer.Writer) → Writes f.writers p y w → HaveOneHome f.writers y f.scalar → number_at f.written p ≢ 0
-  pub bare : (p : ℕ) → number_at f.written p ≢ 0 → IsHomeWritten f.writers f.scalar p
-  pub own : (t : ℕ) → IsTemporaryOf log (graph_view f.writers.graph.now) f.scalar variable t → number_at f.own t ≢ 0
-  pub only : (t : ℕ) → number_at f.own t ≢ 0 → IsTemporaryOf log (graph_view f.writers.graph.now) f.scalar variable t
+  pub written : (p y : ℕ) (w : declared-writer.Writer) → Writes f.writers p y w → HaveOneHome f.writers y f.scalar → mark_at f.written p ≢ None
+  pub bare : (p : ℕ) → mark_at f.written p ≢ None → IsHomeWritten f.writers f.scalar p
+  pub own : (t : ℕ) → IsTemporaryOf log (graph_view f.writers.graph.now) f.scalar variable t → mark_at f.own t ≢ None
+  pub only : (t : ℕ) → mark_at f.own t ≢ None → IsTemporaryOf log (graph_view f.writers.graph.now) f.scalar variable t
 
 -- The temporary of which the first copy to the scalar in a place is, is marked.
 abbrev pub IsOwn : declared-function.Function → (p : ℕ) → Type 0
 IsOwn f p =
-    (t : ℕ) → f.scalar < length (graph_view f.writers.graph.now).scalars → first_copy p f.scalar (graph_view f.writers.graph.now).blocks ≡ Some t → length (graph_view f.writers.graph.now).scalars ≤ t → number_at f.own t ≢ 0
+    (t : ℕ) → f.scalar < length (graph_view f.writers.graph.now).scalars → first_copy p f.scalar (graph_view f.writers.graph.now).blocks ≡ Some t → length (graph_view f.writers.graph.now).scalars ≤ t → mark_at f.own t ≢ None
 
 -- A name is that of the first copy to the scalar in a place, and no scalar.
 pub record IsCopied (f : declared-function.Function) (p t : ℕ) : Type 0 where
@@ -64,7 +64,7 @@ pub record IsCopied (f : declared-function.Function) (p t : ℕ) : Type 0 where
 -- A name has the home of the scalar, and is neither it nor a marked temporary.
 pub record IsForeign (f : declared-function.Function) (y : ℕ) : Type 0 where
   pub other : y ≢ f.scalar
-  pub foreign : number_at f.own y ≡ 0
+  pub foreign : mark_at f.own y ≡ None
   pub shared : HaveOneHome f.writers y f.scalar
 
 -- All writes of names that are so are among these.
@@ -144,16 +144,16 @@ module _ (l : declared-changes.Changes) (s : declared-search.Search) (f : declar
   -- A cause of this number was found, and execution may come to the place from where it hides the scalar.
   pub record IsToldBy (all : List declared-found.Found) (number p : ℕ) : Type 0 where
     pub one : declared-found.Found
-    pub is : slice_get all (number - 1) ≡ Some one
+    pub is : slice_get all number ≡ Some one
     pub comes : ComesOn s.flow one.via p
 
   -- What is found hides the scalar, and is in the order in which it is told; and each place to which execution may come from where something hides the scalar is told of by the first
   -- such cause.
   pub record AreCauses (c : declared-causes.Causes) : Type 0 where
     pub each : All (λ (z : declared-found.Found). HidesFrom z.cause z.via) c.found.items
-    pub told : (p : ℕ) → number_at c.told p ≢ 0 → IsToldBy c.found.items (number_at c.told p) p
+    pub told : (p number : ℕ) → mark_at c.told p ≡ Some number → IsToldBy c.found.items number p
     pub closed : IsClosed s.flow c.told
-    pub first : (k p : ℕ) (z : declared-found.Found) → slice_get c.found.items k ≡ Some z → ComesOn s.flow z.via p → (number_at c.told p ≢ 0) × (number_at c.told p ≤ k + 1)
+    pub first : (k p : ℕ) (z : declared-found.Found) → slice_get c.found.items k ≡ Some z → ComesOn s.flow z.via p → IsSomeAnd (mark_at c.told p) (λ number. number ≤ k)
     pub ordered : AreInOrder c.found.items
 
   -- A cause was found for ways by a place, or one that is told no later for ways by the same place.

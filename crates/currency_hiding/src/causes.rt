@@ -1,7 +1,7 @@
 //! What hides a scalar: the changes and the writes on which the ways lie that its value does not come along.
 
-ghost use Rattle.std.specs.Prelude.{◌≡◌, ℕ, ◌≤◌, List, [], ◌∷◌, All, Contains, IfOk, IfSome, MatchOption, OnOk, Some, is_some, slice_get, true};
-ghost use Rattle.currency_writers.specs.Marks.{number_at};
+ghost use Rattle.std.specs.Prelude.{◌≡◌, ℕ, ◌≤◌, List, [], ◌∷◌, All, Contains, IfOk, IfSome, MatchOption, None, OnOk, Some, is_some, slice_get, true};
+ghost use Rattle.currency_writers.specs.Marks.{mark_at};
 ghost use Rattle.currency_writers.specs.Starts.{IsTurned};
 ghost use Rattle.currency_writers.specs.declared.writers.Write as declared-write;
 ghost use Rattle.currency_writers.specs.Order.{IsNoLater, rank_of};
@@ -54,15 +54,15 @@ struct Via {
     start: u32,
     place: u32,
     /// What writes the home, by its number.
-    writer: u32,
+    writer: usize,
 }
 
 /// What hides one scalar, in the order in which it is told.
 #[derive(Drop)]
 pub struct Causes {
     pub found: Vec<Found>,
-    /// For each place the number of the first of these by which it was come to, from 1 on.
-    pub told: Marks,
+    /// For each place the index of the first of these by which it was come to.
+    pub told: Marks<usize>,
 }
 
 /// Whether a write is in the place of the last one that was looked at, and not before it.
@@ -240,18 +240,18 @@ impl Causes {
     /// Nothing hides a scalar.
     pub fn new(alloc: Global, places: usize) -> Result<Causes, AllocError>
         ensures found { IfOk result (λ made. made.found.items ≡ []) }
-        ensures told { IfOk result (λ made. (p : ℕ) → number_at made.told p ≡ 0) }
+        ensures told { IfOk result (λ made. (p : ℕ) → mark_at made.told p ≡ None) }
     {
         Ok(Causes {
             found: Vec::new(alloc),
-            told: Marks::new(alloc, places)?,
+            told: Marks::new(alloc, places, 0)?,
         })
     }
 
     /// Nothing is known of a scalar.
     pub fn forget(&mut self)
         ensures found { self.new.found.items ≡ [] }
-        ensures told { (p : ℕ) → number_at self.new.told p ≡ 0 }
+        ensures told { (p : ℕ) → mark_at self.new.told p ≡ None }
     {
         self.found.clear();
         self.told.forget();
@@ -269,7 +269,7 @@ impl Causes {
         is_no_later(self.found[count - 1], one)
     }
 
-    /// This hides the scalar on ways by a place. Tells whether it is told no earlier than what was found so far, and the places that such ways lead to have numbers.
+    /// This hides the scalar on ways by a place. Tells whether it is told no earlier than what was found so far, and the places that such ways lead to are marked.
     fn add(
         &mut self,
         alloc: Global,
@@ -288,11 +288,8 @@ impl Causes {
         if !self.is_next(one) {
             return Ok(false);
         }
+        let number = self.found.len();
         self.found.push(one)?;
-        if self.found.len() > 0xffff_ffff {
-            return Ok(false);
-        }
-        let number = self.found.len() as u32;
         Ok(
             question
                 .search
@@ -483,10 +480,12 @@ impl Causes {
         ensures hides { IfSome result (λ cause. HidesAt question.entry.changes.now question.entry.search.now question.entry.function.now place cause) }
         ensures first { MatchOption result (HasNoneAt question.entry.changes.now question.entry.search.now question.entry.function.now place) (λ cause. IsFirstAt question.entry.changes.now question.entry.search.now question.entry.function.now place cause) }
     {
-        let number = self.told.at(place);
-        if number == 0 || number as usize > self.found.len() {
+        let Some(number) = self.told.at(place) else {
+            return None;
+        };
+        if number >= self.found.len() {
             return None;
         }
-        Some(self.found[number as usize - 1].cause)
+        Some(self.found[number].cause)
     }
 }

@@ -1,9 +1,9 @@
 //! A function, of which it is asked what hides its scalars.
 
-ghost use Rattle.std.specs.Prelude.{◌≡◌, ◌≢◌, ◌⊎◌, ◌↔◌, ℕ, ◌<◌, ◌≤◌, All, Contains, IfOk, IfSome, OnOk, Some, length, slice_get, true};
+ghost use Rattle.std.specs.Prelude.{◌≡◌, ◌≢◌, ◌⊎◌, ◌↔◌, ℕ, ◌<◌, ◌≤◌, All, Contains, IfOk, IfSome, None, OnOk, Some, length, slice_get, true};
 ghost use Rattle.debug_records.specs.declared.change.Change as declared-change;
 ghost use Rattle.graph_core.specs.Graphs.{graph_view};
-ghost use Rattle.currency_writers.specs.Marks.{number_at};
+ghost use Rattle.currency_writers.specs.Marks.{mark_at};
 ghost use Rattle.graph_homes.specs.Reused.{first_copy};
 ghost use Rattle.currency_writers.specs.declared.writers.Writer as declared-writer;
 ghost use Rattle.currency_writers.specs.declared.writers.Written as declared-written;
@@ -28,19 +28,18 @@ pub struct Function<'a> {
     /// The scalar in question.
     pub scalar: u32,
     /// The places where its home is written.
-    pub written: Marks,
+    pub written: Marks<()>,
     /// The temporaries that keep moved computations of its value.
-    pub own: Marks,
+    pub own: Marks<()>,
 }
 
-/// A place or name has a number from here on. Tells whether it is one of those that have.
-fn mark_one(marks: &mut Marks, place: u32) -> bool
-    ensures only { (p : ℕ) → number_at marks.new p ≢ 0 → (number_at marks.old p ≢ 0) ⊎ (p ≡ place) }
-    ensures kept { (p : ℕ) → number_at marks.old p ≢ 0 → number_at marks.new p ≢ 0 }
-    ensures there { result ≡ true → number_at marks.new place ≢ 0 }
+/// A place or name is marked from here on. Tells whether it is one of those that may be.
+fn mark_one(marks: &mut Marks<()>, place: u32) -> bool
+    ensures only { (p : ℕ) → mark_at marks.new p ≢ None → (mark_at marks.old p ≢ None) ⊎ (p ≡ place) }
+    ensures kept { (p : ℕ) → mark_at marks.old p ≢ None → mark_at marks.new p ≢ None }
+    ensures there { result ≡ true → mark_at marks.new place ≢ None }
 {
-    marks.put(place, 1);
-    marks.has(place)
+    marks.put(place, ())
 }
 
 /// Whether a write is one of the home of a scalar.
@@ -56,11 +55,11 @@ fn is_of_home(writers: &Writers<'_>, scalar: u32, write: Write) -> bool
 }
 
 /// The place of a write is marked, if it is one of the home of a scalar. Tells whether it is a place of the program then.
-fn mark_home(writers: &Writers<'_>, scalar: u32, write: Write, marks: &mut Marks) -> bool
+fn mark_home(writers: &Writers<'_>, scalar: u32, write: Write, marks: &mut Marks<()>) -> bool
     requires { AreWriters writers.now }
-    ensures only { (p : ℕ) → number_at marks.new p ≢ 0 → (number_at marks.old p ≢ 0) ⊎ IsHomeWritten writers.entry.now scalar p }
-    ensures kept { (p : ℕ) → number_at marks.old p ≢ 0 → number_at marks.new p ≢ 0 }
-    ensures there { result ≡ true → (z : declared-written.Written) → slice_get writers.entry.now.all.items write.number ≡ Some z → z.place ≡ write.place → HaveOneHome writers.entry.now z.name scalar → number_at marks.new write.place ≢ 0 }
+    ensures only { (p : ℕ) → mark_at marks.new p ≢ None → (mark_at marks.old p ≢ None) ⊎ IsHomeWritten writers.entry.now scalar p }
+    ensures kept { (p : ℕ) → mark_at marks.old p ≢ None → mark_at marks.new p ≢ None }
+    ensures there { result ≡ true → (z : declared-written.Written) → slice_get writers.entry.now.all.items write.number ≡ Some z → z.place ≡ write.place → HaveOneHome writers.entry.now z.name scalar → mark_at marks.new write.place ≢ None }
 {
     if !is_of_home(writers, scalar, write) {
         return true;
@@ -69,11 +68,11 @@ fn mark_home(writers: &Writers<'_>, scalar: u32, write: Write, marks: &mut Marks
 }
 
 /// The places are marked where the home of a scalar is written. Tells whether all are places of the program.
-fn mark_homes(writers: &Writers<'_>, scalar: u32, marks: &mut Marks) -> bool
+fn mark_homes(writers: &Writers<'_>, scalar: u32, marks: &mut Marks<()>) -> bool
     requires writers { AreWriters writers.now }
-    requires none { (p : ℕ) → number_at marks.old p ≡ 0 }
-    ensures only { (p : ℕ) → number_at marks.new p ≢ 0 → IsHomeWritten writers.entry.now scalar p }
-    ensures marked { result ≡ true → (p y : ℕ) (w : declared-writer.Writer) → Writes writers.entry.now p y w → HaveOneHome writers.entry.now y scalar → number_at marks.new p ≢ 0 }
+    requires none { (p : ℕ) → mark_at marks.old p ≡ None }
+    ensures only { (p : ℕ) → mark_at marks.new p ≢ None → IsHomeWritten writers.entry.now scalar p }
+    ensures marked { result ≡ true → (p y : ℕ) (w : declared-writer.Writer) → Writes writers.entry.now p y w → HaveOneHome writers.entry.now y scalar → mark_at marks.new p ≢ None }
 {
     for write in writers.of_home(scalar) {
         if !mark_home(writers, scalar, *write, marks) {
@@ -84,11 +83,11 @@ fn mark_homes(writers: &Writers<'_>, scalar: u32, marks: &mut Marks) -> bool
 }
 
 /// The temporary of which the first copy to a scalar in a place is, is marked, if there is one. Tells whether it is a name of the function then.
-fn mark_copy(copies: &Copies<'_>, scalar: u32, place: Place, marks: &mut Marks) -> bool
+fn mark_copy(copies: &Copies<'_>, scalar: u32, place: Place, marks: &mut Marks<()>) -> bool
     requires { AreCopies copies.now }
-    ensures only { (t : ℕ) → number_at marks.new t ≢ 0 → (number_at marks.old t ≢ 0) ⊎ ((first_copy place.0 scalar (graph_view copies.entry.now.graph.now).blocks ≡ Some t) × (length (graph_view copies.entry.now.graph.now).scalars ≤ t)) }
-    ensures kept { (p : ℕ) → number_at marks.old p ≢ 0 → number_at marks.new p ≢ 0 }
-    ensures there { result ≡ true → (t : ℕ) → scalar < length (graph_view copies.entry.now.graph.now).scalars → first_copy place.0 scalar (graph_view copies.entry.now.graph.now).blocks ≡ Some t → length (graph_view copies.entry.now.graph.now).scalars ≤ t → number_at marks.new t ≢ 0 }
+    ensures only { (t : ℕ) → mark_at marks.new t ≢ None → (mark_at marks.old t ≢ None) ⊎ ((first_copy place.0 scalar (graph_view copies.entry.now.graph.now).blocks ≡ Some t) × (length (graph_view copies.entry.now.graph.now).scalars ≤ t)) }
+    ensures kept { (p : ℕ) → mark_at marks.old p ≢ None → mark_at marks.new p ≢ None }
+    ensures there { result ≡ true → (t : ℕ) → scalar < length (graph_view copies.entry.now.graph.now).scalars → first_copy place.0 scalar (graph_view copies.entry.now.graph.now).blocks ≡ Some t → length (graph_view copies.entry.now.graph.now).scalars ≤ t → mark_at marks.new t ≢ None }
 {
     match copies.temporary(place, scalar) {
         Some(name) => mark_one(marks, name),
@@ -117,8 +116,8 @@ impl<'a> Function<'a> {
             writers,
             copies: Copies::new(alloc, graph)?,
             scalar: 0,
-            written: Marks::new(alloc, places)?,
-            own: Marks::new(alloc, homes.len())?,
+            written: Marks::new(alloc, places, ())?,
+            own: Marks::new(alloc, homes.len(), ())?,
         }))
     }
 
@@ -129,8 +128,8 @@ impl<'a> Function<'a> {
         ensures copies { self.new.copies ≡ self.old.copies }
         ensures scalar { self.new.scalar ≡ self.old.scalar }
         ensures own { self.new.own ≡ self.old.own }
-        ensures marked { result ≡ true → (p y : ℕ) (w : declared-writer.Writer) → Writes self.new.writers p y w → HaveOneHome self.new.writers y self.new.scalar → number_at self.new.written p ≢ 0 }
-        ensures only { (p : ℕ) → number_at self.new.written p ≢ 0 → IsHomeWritten self.new.writers self.new.scalar p }
+        ensures marked { result ≡ true → (p y : ℕ) (w : declared-writer.Writer) → Writes self.new.writers p y w → HaveOneHome self.new.writers y self.new.scalar → mark_at self.new.written p ≢ None }
+        ensures only { (p : ℕ) → mark_at self.new.written p ≢ None → IsHomeWritten self.new.writers self.new.scalar p }
     {
         self.written.forget();
         mark_homes(&self.writers, self.scalar, &mut self.written)
@@ -144,7 +143,7 @@ impl<'a> Function<'a> {
         ensures scalar { self.new.scalar ≡ self.old.scalar }
         ensures written { self.new.written ≡ self.old.written }
         ensures marked { result ≡ true → All (λ (c : declared-change.Change). IsOwn self.new c.place.0) moved.now }
-        ensures only { (t : ℕ) → number_at self.new.own t ≢ 0 → (c : declared-change.Change) × Contains moved.now c × IsCopied self.new c.place.0 t }
+        ensures only { (t : ℕ) → mark_at self.new.own t ≢ None → (c : declared-change.Change) × Contains moved.now c × IsCopied self.new c.place.0 t }
     {
         self.own.forget();
         for change in moved {

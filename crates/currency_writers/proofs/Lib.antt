@@ -1,5 +1,5 @@
 mod Pushing
-mod Numbers
+pub mod Entering
 mod Going
 mod Marking
 mod Telling

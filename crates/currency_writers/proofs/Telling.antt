@@ -1,44 +1,46 @@
 -- Places that get numbers.
-use Rattle.std.proofs.Common.{◌≡◌, ◌≢◌, inl, inr, ℕ, ◌<◌, true, List, [], ◌∷◌, ◌++◌, length, get_or, refl, sym, ap, subst, ◌∙◌}
+use Rattle.std.proofs.Common.{◌≡◌, ◌≢◌, inl, inr, ℕ, ◌<◌, true, None, Option, Some, List, [], ◌∷◌, ◌++◌, length, get_or, refl, sym, ap, subst, ◌∙◌}
 use Rattle.std.specs.Prelude.{All, Contains, ◌⊎◌}
-use Rattle.std.proofs.lemmas.Bool.Decides.{eqb_tells}
 use Rattle.std.proofs.lemmas.List.Elements.{All-contains, All-push, Contains-get_or}
+use Rattle.std.proofs.lemmas.Option.{same_Some}
 use Rattle.currency_writers.specs.declared.flow.Flow as declared-flow
 use Rattle.currency_writers.specs.declared.marks.Marks as declared-marks
 use Rattle.currency_writers.specs.Lists.{entries_of}
-use Rattle.currency_writers.specs.Marks.{number_at}
+use Rattle.currency_writers.specs.Marks.{mark_at}
 use Rattle.currency_writers.specs.Flow.{AreStarts, assigned, ComesOn, IsAhead, IsBlocked, IsFlow, IsToldFrom}
+use Rattle.currency_writers.proofs.Entering.{none_tells}
 use Rattle.currency_writers.proofs.Going.{come_next}
 use Rattle.base_laws.proofs.Booleans.{by_bool}
 
-is_none : (n : ℕ) → (n ≢ 0 → ⊥) → n ≡ 0
-is_none n none = elim (eqb_tells n 0) [ inl e ↦ e.1 | inr e ↦ absurd (none e.1) ]
+is_none : {A : Type 0} (o : Option A) → (o ≢ None → ⊥) → o ≡ None
+is_none o none = elim (none_tells o) [ inl e ↦ e | inr e ↦ absurd (none e) ]
 
-module _ (f : declared-flow.Flow) (from number : ℕ) where
-  pub told_same : (m : declared-marks.Marks) → IsToldFrom f from number m m
+module _ {T : Type 0} (f : declared-flow.Flow) (from : ℕ) (value : T) where
+  pub told_same : (m : declared-marks.Marks T) → IsToldFrom f from value m m
   told_same m p = inl refl
 
-  pub told_on : (a b c : declared-marks.Marks) → IsToldFrom f from number a b → IsToldFrom f from number b c → IsToldFrom f from number a c
+  pub told_on : (a b c : declared-marks.Marks T) → IsToldFrom f from value a b → IsToldFrom f from value b c → IsToldFrom f from value a c
   told_on a b c one two p = elim (two p) [
     | inl e ↦ elim (one p) [ inl g ↦ inl (e ∙ g) | inr r ↦ inr (r.0, e ∙ r.1, r.2) ]
     | inr r ↦ elim (one p) [ inl g ↦ inr (sym g ∙ r.0, r.1, r.2) | inr q ↦ inr (q.0, r.1, r.2) ]
   ]
 
-  pub told_put : (old new : declared-marks.Marks) (place : ℕ) → ComesOn f from place → (number_at old place ≢ 0 → ⊥) → ((p : ℕ) → (number_at new p ≡ number_at old p) ⊎ ((p ≡ place) × (number_at new p ≡ number))) → IsToldFrom f from number old new
+  pub told_put : (old new : declared-marks.Marks T) (place : ℕ) → ComesOn f from place → (mark_at old place ≢ None → ⊥) → ((p : ℕ) → (mark_at new p ≡ mark_at old p) ⊎ ((p ≡ place) × (mark_at new p ≡ Some value))) → IsToldFrom f from value old new
   told_put old new place comes none put p = elim (put p) [
     | inl e ↦ inl e
-    | inr r ↦ inr (ap (λ q. number_at old q) r.0 ∙ is_none (number_at old place) none, r.1, subst (λ q. ComesOn f from q) (sym r.0) comes)
+    | inr r ↦ inr (ap (λ q. mark_at old q) r.0 ∙ is_none (mark_at old place) none, r.1, subst (λ q. ComesOn f from q) (sym r.0) comes)
   ]
 
   -- a place that has a number keeps it
-  pub told_kept : (old new : declared-marks.Marks) → IsToldFrom f from number old new → (p : ℕ) → number_at old p ≢ 0 → number_at new p ≡ number_at old p
+  pub told_kept : (old new : declared-marks.Marks T) → IsToldFrom f from value old new → (p : ℕ) → mark_at old p ≢ None → mark_at new p ≡ mark_at old p
   told_kept old new told p some = elim (told p) [ inl e ↦ e | inr r ↦ absurd (some r.0) ]
 
-  pub some_kept : (old new : declared-marks.Marks) → IsToldFrom f from number old new → (p : ℕ) → number_at old p ≢ 0 → number_at new p ≢ 0
+  pub some_kept : (old new : declared-marks.Marks T) → IsToldFrom f from value old new → (p : ℕ) → mark_at old p ≢ None → mark_at new p ≢ None
   some_kept old new told p some e = some (sym (told_kept old new told p some) ∙ e)
 
+module _ (f : declared-flow.Flow) (from : ℕ) where
   -- a place that is not marked does not assign the variable
-  pub ahead_more : (ahead : List ℕ) (place : ℕ) → IsBlocked f → ComesOn f from place → (number_at f.assigns place ≢ 0 → ⊥) → All (λ q. IsAhead f from q) ahead → All (λ q. IsAhead f from q) (ahead ++ (place ∷ []))
+  pub ahead_more : (ahead : List ℕ) (place : ℕ) → IsBlocked f → ComesOn f from place → (mark_at f.assigns place ≢ None → ⊥) → All (λ q. IsAhead f from q) ahead → All (λ q. IsAhead f from q) (ahead ++ (place ∷ []))
   ahead_more ahead place blocked comes free all =
       All-push (λ q. IsAhead f from q) ahead place all (inr (comes, by_bool (assigned f place) (λ e. absurd (free (blocked.all place e))) (λ e. e)))
 
@@ -48,17 +50,19 @@ module _ (f : declared-flow.Flow) (from number : ℕ) where
       come_next f from next (get_or list k d) ahead (flow.after.sound next (get_or list k d) (subst (λ xs. Contains xs (get_or list k d)) is (Contains-get_or list k d lt)))
 
 -- one start more
-pub starts_next : (f : declared-flow.Flow) (old new : declared-marks.Marks) (list : List ℕ) (k d : ℕ) → IsFlow f → list ≡ entries_of f.assigning f.var.0 → k < length list → AreStarts f old → IsToldFrom f (get_or list k d) (get_or list k d) old new → AreStarts f new
-starts_next f old new list k d flow is lt before told p some = elim (told p) [
-  | inl e ↦ (let was = before p (λ q. some (e ∙ q)) in (subst (λ n. assigned f n ≡ true) (sym e) was.0, subst (λ n. ComesOn f n p) (sym e) was.1))
-  | inr r ↦ (let assigning : assigned f (get_or list k d) ≡ true = flow.assigning.sound f.var.0 (get_or list k d) (subst (λ xs. Contains xs (get_or list k d)) is (Contains-get_or list k d lt)) in
-      (subst (λ n. assigned f n ≡ true) (sym r.1) assigning, subst (λ n. ComesOn f n p) (sym r.1) r.2))
+pub starts_next : (f : declared-flow.Flow) (old new : declared-marks.Marks ℕ) (list : List ℕ) (k d : ℕ) → IsFlow f → list ≡ entries_of f.assigning f.var.0 → k < length list → AreStarts f old → IsToldFrom f (get_or list k d) (get_or list k d) old new → AreStarts f new
+starts_next f old new list k d flow is lt before told p start at = elim (told p) [
+  | inl e ↦ before p start (sym e ∙ at)
+  | inr r ↦ (let one = get_or list k d in
+      let same : one ≡ start = same_Some one start (sym r.1 ∙ at) in
+      let assigning : assigned f one ≡ true = flow.assigning.sound f.var.0 one (subst (λ xs. Contains xs one) is (Contains-get_or list k d lt)) in
+      (subst (λ n. assigned f n ≡ true) same assigning, subst (λ n. ComesOn f n p) same r.2))
 ]
 
 -- the places that assign the variable are marked
-pub blocked_by : (f : declared-flow.Flow) (old : declared-marks.Marks) (list : List ℕ) → IsFlow f → list ≡ entries_of f.assigning f.var.0 → ((p : ℕ) → number_at old p ≡ 0) → ((p : ℕ) → number_at f.assigns p ≢ 0 → (number_at old p ≢ 0) ⊎ Contains list p)
-    → All (λ p. number_at f.assigns p ≢ 0) list → IsBlocked f
+pub blocked_by : (f : declared-flow.Flow) (old : declared-marks.Marks (Unit {0})) (list : List ℕ) → IsFlow f → list ≡ entries_of f.assigning f.var.0 → ((p : ℕ) → mark_at old p ≡ None) → ((p : ℕ) → mark_at f.assigns p ≢ None → (mark_at old p ≢ None) ⊎ Contains list p)
+    → All (λ p. mark_at f.assigns p ≢ None) list → IsBlocked f
 blocked_by f old list flow is none only all = record {
   marked = λ p some. elim (only p some) [ inl e ↦ absurd (e (none p)) | inr there ↦ flow.assigning.sound f.var.0 p (subst (λ xs. Contains xs p) is there) ];
-  all = λ p e. All-contains (λ q. number_at f.assigns q ≢ 0) list p all (subst (λ xs. Contains xs p) (sym is) (flow.assigning.all f.var.0 p e));
+  all = λ p e. All-contains (λ q. mark_at f.assigns q ≢ None) list p all (subst (λ xs. Contains xs p) (sym is) (flow.assigning.all f.var.0 p e));
 }

@@ -1,5 +1,5 @@
 -- The flow of a program as a search has it, for one variable.
-use Rattle.std.specs.Prelude.{◌≡◌, ◌≢◌, ◌⊎◌, ℕ, ◌≤◌, Bool, true, false, List, ◌++◌, Contains}
+use Rattle.std.specs.Prelude.{◌≡◌, ◌≢◌, ◌⊎◌, ℕ, ◌≤◌, Bool, true, false, List, ◌++◌, Contains, IsSomeAnd, None, Some}
 use Rattle.places.specs.declared.flow.FlowStep.{FlowStep}
 use Rattle.places.specs.declared.flow.Assignment.{Assignment}
 use Rattle.places.specs.Flow.{can_go, assigns}
@@ -7,7 +7,7 @@ use Rattle.currency_writers.specs.declared.lists.Lists as declared-lists
 use Rattle.currency_writers.specs.declared.marks.Marks as declared-marks
 use Rattle.currency_writers.specs.declared.flow.Flow as declared-flow
 use Rattle.currency_writers.specs.Lists.{entries_of}
-use Rattle.currency_writers.specs.Marks.{number_at}
+use Rattle.currency_writers.specs.Marks.{mark_at}
 use Rattle.currency_writers.specs.Ways.{Comes}
 
 -- The list of a place has the places to which execution may go from it.
@@ -36,39 +36,39 @@ module _ (f : declared-flow.Flow) where
 
   -- The places that assign the variable in question are marked, and no others.
   pub record IsBlocked : Type 0 where
-    pub marked : (p : ℕ) → number_at f.assigns p ≢ 0 → assigned p ≡ true
-    pub all : (p : ℕ) → assigned p ≡ true → number_at f.assigns p ≢ 0
+    pub marked : (p : ℕ) → mark_at f.assigns p ≢ None → assigned p ≡ true
+    pub all : (p : ℕ) → assigned p ≡ true → mark_at f.assigns p ≢ None
 
   -- Execution may go on from a place: it is the one from which the ways begin, or they come to it and it does not assign the variable.
   abbrev pub IsAhead : (from q : ℕ) → Type 0
   IsAhead from q = (q ≡ from) ⊎ (ComesOn from q × (assigned q ≡ false))
 
-  -- The number of a place, if it has one, is that of a place that assigns the variable, and from which execution may come there.
-  abbrev pub AreStarts : declared-marks.Marks → Type 0
-  AreStarts starts = (p : ℕ) → number_at starts p ≢ 0 → (assigned (number_at starts p) ≡ true) × ComesOn (number_at starts p) p
+  -- A place that is marked is so with one that assigns the variable, and from which execution may come there.
+  abbrev pub AreStarts : declared-marks.Marks ℕ → Type 0
+  AreStarts starts = (p start : ℕ) → mark_at starts p ≡ Some start → (assigned start ≡ true) × ComesOn start p
 
-  -- Each place to which execution may come from one that assigns the variable has a number, and that is not above the one of that place.
-  abbrev pub AreLeast : declared-marks.Marks → Type 0
-  AreLeast starts = (start p : ℕ) → assigned start ≡ true → ComesOn start p → (number_at starts p ≢ 0) × (number_at starts p ≤ start)
+  -- Each place to which execution may come from one that assigns the variable is marked, and not with one above that place.
+  abbrev pub AreLeast : declared-marks.Marks ℕ → Type 0
+  AreLeast starts = (start p : ℕ) → assigned start ≡ true → ComesOn start p → IsSomeAnd (mark_at starts p) (λ least. least ≤ start)
 
-  -- Places keep what they have; or they had no number, have this one, and execution may come to them.
-  abbrev pub IsToldFrom : (from number : ℕ) → (old new : declared-marks.Marks) → Type 0
-  IsToldFrom from number old new = (p : ℕ) → (number_at new p ≡ number_at old p) ⊎ ((number_at old p ≡ 0) × (number_at new p ≡ number) × ComesOn from p)
+  -- Places keep what they were marked with; or they were not marked, are so with this, and execution may come to them.
+  abbrev pub IsToldFrom : {T : Type 0} → (from : ℕ) (value : T) (old new : declared-marks.Marks T) → Type 0
+  IsToldFrom from value old new = (p : ℕ) → (mark_at new p ≡ mark_at old p) ⊎ ((mark_at old p ≡ None) × (mark_at new p ≡ Some value) × ComesOn from p)
 
-  -- Each place to which execution may come from a place has a number.
-  abbrev pub AreTold : (from : ℕ) → declared-marks.Marks → Type 0
-  AreTold from told = (p : ℕ) → ComesOn from p → number_at told p ≢ 0
+  -- Each place to which execution may come from a place is marked.
+  abbrev pub AreTold : {T : Type 0} → (from : ℕ) → declared-marks.Marks T → Type 0
+  AreTold from told = (p : ℕ) → ComesOn from p → mark_at told p ≢ None
 
-  -- Each place to which execution may go directly from a place has a number.
-  abbrev pub AreNextTold : (from : ℕ) → declared-marks.Marks → Type 0
-  AreNextTold from told = (p : ℕ) → can_go f.table.now.steps.items from p ≡ true → number_at told p ≢ 0
+  -- Each place to which execution may go directly from a place is marked.
+  abbrev pub AreNextTold : {T : Type 0} → (from : ℕ) → declared-marks.Marks T → Type 0
+  AreNextTold from told = (p : ℕ) → can_go f.table.now.steps.items from p ≡ true → mark_at told p ≢ None
 
-  -- From a place that has a number and does not assign the variable execution may go on to such alone as have one.
-  abbrev pub IsClosed : declared-marks.Marks → Type 0
-  IsClosed told = (q : ℕ) → number_at told q ≢ 0 → assigned q ≡ false → AreNextTold q told
+  -- From a place that is marked and does not assign the variable execution may go on to such alone as are marked.
+  abbrev pub IsClosed : {T : Type 0} → declared-marks.Marks T → Type 0
+  IsClosed told = (q : ℕ) → mark_at told q ≢ None → assigned q ≡ false → AreNextTold q told
 
-  -- Places to go on from were added behind the others: all that got numbers and do not assign the variable are among them.
-  pub record AreMoreAhead (old new : declared-marks.Marks) (before after : List ℕ) : Type 0 where
+  -- Places to go on from were added behind the others: all that were marked and do not assign the variable are among them.
+  pub record AreMoreAhead {T : Type 0} (old new : declared-marks.Marks T) (before after : List ℕ) : Type 0 where
     pub rest : List ℕ
     pub is : after ≡ before ++ rest
-    pub all : (p : ℕ) → number_at old p ≡ 0 → number_at new p ≢ 0 → assigned p ≡ false → Contains after p
+    pub all : (p : ℕ) → mark_at old p ≡ None → mark_at new p ≢ None → assigned p ≡ false → Contains after p

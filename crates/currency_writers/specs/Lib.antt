@@ -1,4 +1,5 @@
 pub mod Lists
+pub mod Entries
 pub mod Marks
 pub mod Ways
 pub mod Flow

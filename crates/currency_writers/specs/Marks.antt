@@ -1,7 +1,8 @@
--- A number for each place.
-use Rattle.std.specs.Prelude.{ℕ, ◌-◌, get_or}
+-- What places are marked with.
+use Rattle.std.specs.Prelude.{ℕ, Option, slice_get}
 use Rattle.currency_writers.specs.declared.marks.Marks as declared-marks
+use Rattle.currency_writers.specs.Entries.{said_in}
 
--- the number of a place; 0 where it has none
-abbrev pub number_at : declared-marks.Marks → (p : ℕ) → ℕ
-number_at m p = get_or m.entries.items p 0 - m.forgotten
+-- what a place is marked with, if it is
+abbrev pub mark_at : {T : Type 0} → declared-marks.Marks T → (p : ℕ) → Option T
+mark_at m p = said_in m.round (slice_get m.entries.items p)

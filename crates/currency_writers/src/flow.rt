@@ -1,8 +1,8 @@
 //! The flow of a program, and the places that assign a variable.
 
-ghost use Rattle.std.specs.Prelude.{◌≡◌, ◌≢◌, ◌⊎◌, ◌↔◌, ℕ, All, IfOk, IfSome, OnOk, true};
+ghost use Rattle.std.specs.Prelude.{◌≡◌, ◌≢◌, ℕ, All, IfOk, IfSome, None, OnOk, true};
 ghost use Rattle.places.specs.Flow.{assigns};
-ghost use Rattle.currency_writers.specs.Marks.{number_at};
+ghost use Rattle.currency_writers.specs.Marks.{mark_at};
 ghost use Rattle.currency_writers.specs.Flow.{AreAssigning, AreFollowing, AreLeast, AreMoreAhead, AreNextTold, AreStarts, AreTold, ComesOn, IsAhead, IsBlocked, IsClosed, IsFlow, IsToldFrom};
 
 use crate::lists::Lists;
@@ -22,7 +22,7 @@ pub struct Flow<'a> {
     /// The variable in question.
     pub var: Var,
     /// The places that assign it.
-    pub assigns: Marks,
+    pub assigns: Marks<()>,
 }
 
 /// For each place those to which execution may go from it. None where a step leads from no place.
@@ -76,32 +76,31 @@ impl<'a> Flow<'a> {
         self.var = var;
         self.assigns.forget();
         let places = self.assigning.get(var.0);
-        self.assigns.mark(places)
+        self.assigns.mark(places, ())
     }
 
-    /// A place to which execution may come gets this number, if it has none yet. It is gone on from later, if it does not assign the variable. Tells whether it has a
-    /// number then.
-    fn come_to(
+    /// A place to which execution may come is marked with this, if it is not marked yet. It is gone on from later, if it does not assign the variable. Tells whether it is
+    /// marked then.
+    fn come_to<T: Copy>(
         &self,
         from: u32,
         place: u32,
-        number: u32,
-        told: &mut Marks,
+        value: T,
+        told: &mut Marks<T>,
         ahead: &mut Vec<u32>,
     ) -> Result<bool, AllocError>
         requires blocked { IsBlocked self.now }
         requires comes { ComesOn self.now from place }
         requires ahead { All (λ q. IsAhead self.now from q) ahead.old.items }
-        ensures told { OnOk result (IsToldFrom self.now from number told.old told.new) }
+        ensures told { OnOk result (IsToldFrom self.now from value told.old told.new) }
         ensures ahead { OnOk result (All (λ q. IsAhead self.now from q) ahead.new.items) }
         ensures more { OnOk result (AreMoreAhead self.now told.old told.new ahead.old.items ahead.new.items) }
-        ensures there { IfOk result (λ b. b ≡ true → number_at told.new place ≢ 0) }
+        ensures there { IfOk result (λ b. b ≡ true → mark_at told.new place ≢ None) }
     {
         if told.has(place) {
             return Ok(true);
         }
-        told.put(place, number);
-        if !told.has(place) {
+        if !told.put(place, value) {
             return Ok(false);
         }
         if self.assigns.has(place) {
@@ -111,46 +110,46 @@ impl<'a> Flow<'a> {
         Ok(true)
     }
 
-    /// The places to which execution may go on from one that have no number yet get this one. Those of them that do not assign the variable are gone on from later.
-    /// Tells whether all have numbers then.
-    fn go_on(
+    /// The places to which execution may go on from one that are not marked yet are marked with this. Those of them that do not assign the variable are gone on from
+    /// later. Tells whether all are marked then.
+    fn go_on<T: Copy>(
         &self,
         from: u32,
         next: u32,
-        number: u32,
-        told: &mut Marks,
+        value: T,
+        told: &mut Marks<T>,
         ahead: &mut Vec<u32>,
     ) -> Result<bool, AllocError>
         requires flow { IsFlow self.now }
         requires blocked { IsBlocked self.now }
         requires next { IsAhead self.now from next }
         requires ahead { All (λ q. IsAhead self.now from q) ahead.old.items }
-        ensures told { OnOk result (IsToldFrom self.now from number told.old told.new) }
+        ensures told { OnOk result (IsToldFrom self.now from value told.old told.new) }
         ensures ahead { OnOk result (All (λ q. IsAhead self.now from q) ahead.new.items) }
         ensures more { OnOk result (AreMoreAhead self.now told.old told.new ahead.old.items ahead.new.items) }
         ensures next { IfOk result (λ b. b ≡ true → AreNextTold self.now next told.new) }
     {
         for place in self.after.get(next) {
-            if !self.come_to(from, *place, number, told, ahead)? {
+            if !self.come_to(from, *place, value, told, ahead)? {
                 return Ok(false);
             }
         }
         Ok(true)
     }
 
-    /// Each place gets this number that has none yet, and to which execution may come from a place, by one step at least, with nothing between that assigns the
-    /// variable. Tells whether all have numbers then.
-    pub fn flood(
+    /// Each place is marked with this that is not marked yet, and to which execution may come from a place, by one step at least, with nothing between that assigns the
+    /// variable. Tells whether all are marked then.
+    pub fn flood<T: Copy>(
         &self,
         alloc: Global,
         from: u32,
-        number: u32,
-        told: &mut Marks,
+        value: T,
+        told: &mut Marks<T>,
     ) -> Result<bool, AllocError>
         requires flow { IsFlow self.now }
         requires blocked { IsBlocked self.now }
         requires closed { IsClosed self.now told.old }
-        ensures told { OnOk result (IsToldFrom self.now from number told.old told.new) }
+        ensures told { OnOk result (IsToldFrom self.now from value told.old told.new) }
         ensures closed { IfOk result (λ b. b ≡ true → IsClosed self.now told.new) }
         ensures all { IfOk result (λ b. b ≡ true → AreTold self.now from told.new) }
     {
@@ -161,19 +160,19 @@ impl<'a> Flow<'a> {
                 return Ok(true);
             }
             let next = ahead[at];
-            if !self.go_on(from, next, number, told, &mut ahead)? {
+            if !self.go_on(from, next, value, told, &mut ahead)? {
                 return Ok(false);
             }
         }
         Ok(false)
     }
 
-    /// Each place gets the number of the least place that assigns the variable and from which execution may come there, if there is one. Tells whether all have
-    /// numbers then; they do where the places that assign it stand in order.
-    pub fn find_starts(&self, alloc: Global, starts: &mut Marks) -> Result<bool, AllocError>
+    /// Each place is marked with the least place that assigns the variable and from which execution may come there, if there is one. Tells whether all such places are
+    /// marked then; they are where the places that assign it stand in order.
+    pub fn find_starts(&self, alloc: Global, starts: &mut Marks<u32>) -> Result<bool, AllocError>
         requires flow { IsFlow self.now }
         requires blocked { IsBlocked self.now }
-        requires none { (p : ℕ) → number_at starts.old p ≡ 0 }
+        requires none { (p : ℕ) → mark_at starts.old p ≡ None }
         ensures starts { OnOk result (AreStarts self.now starts.new) }
         ensures least { IfOk result (λ b. b ≡ true → AreLeast self.now starts.new) }
     {

@@ -1,81 +1,104 @@
-//! A number for each place, for many questions.
+//! What places are marked with, for many questions.
+
+ghost use Rattle.std.specs.Prelude.{ℕ, IfOk};
+ghost use Rattle.currency_writers.specs.Entries.{AreUpTo};
 
 use std::alloc::{AllocError, Global};
 
-/// A number for each place, 0 at first. All are forgotten at once.
+/// For each place the round in which it was marked last, and with what. The marks of earlier rounds are forgotten.
 #[derive(Drop)]
-pub struct Marks {
-    entries: Vec<u32>,
-    /// What is not above this is forgotten.
-    forgotten: u32,
-    most: u32,
-    ghost below: { (p : ℕ) → get_or entries.items p 0 ≤ most },
+pub struct Marks<T: Copy> {
+    entries: Vec<(u64, T)>,
+    round: u64,
+    ghost up_to: { AreUpTo round entries.items },
 }
 
-ghost use Rattle.std.specs.Prelude.{ℕ, ◌≤◌, get_or};
+/// So many entries that are of no round.
+fn no_entries<T: Copy>(alloc: Global, count: usize, value: T) -> Result<Vec<(u64, T)>, AllocError>
+    ensures { IfOk result (λ made. AreUpTo 0 made.items) }
+{
+    let mut entries = Vec::with_capacity(alloc, count)?;
+    for _made in 0..count {
+        entries.push((0, value))?;
+    }
+    Ok(entries)
+}
 
-impl Marks {
-    ghost use Rattle.std.specs.Prelude.{◌≡◌, ◌≢◌, ◌⊎◌, ◌↔◌, All, Contains, IfOk, true};
-    ghost use Rattle.currency_writers.specs.Marks.{number_at};
+/// All entries are of no round from here on.
+fn clear<T: Copy>(entries: &mut Vec<(u64, T)>)
+    ensures { AreUpTo 0 entries.new.items }
+{
+    for k in 0..entries.len() {
+        entries[k].0 = 0;
+    }
+}
 
-    /// The places below a number have none.
-    pub fn new(alloc: Global, places: usize) -> Result<Marks, AllocError>
-        ensures { IfOk result (λ made. (p : ℕ) → number_at made p ≡ 0) }
+impl<T: Copy> Marks<T> {
+    ghost use Rattle.std.specs.Prelude.{◌≡◌, ◌≢◌, ◌⊎◌, ◌↔◌, All, Contains, None, Some, false, true};
+    ghost use Rattle.currency_writers.specs.Marks.{mark_at};
+
+    /// No place below a number is marked. Until one is, its entry holds this.
+    pub fn new(alloc: Global, places: usize, value: T) -> Result<Marks<T>, AllocError>
+        ensures { IfOk result (λ made. (p : ℕ) → mark_at made p ≡ None) }
     {
         Ok(Marks {
-            entries: vec![in alloc; 0u32; places]?,
-            forgotten: 0,
-            most: 0,
+            entries: no_entries(alloc, places, value)?,
+            round: 1,
         })
     }
 
-    /// No place has a number any more.
+    /// No place is marked any more.
     pub fn forget(&mut self)
-        ensures { (p : ℕ) → number_at self.new p ≡ 0 }
+        ensures { (p : ℕ) → mark_at self.new p ≡ None }
     {
-        self.forgotten = self.most;
+        if self.round < u64::MAX {
+            self.round += 1;
+            return;
+        }
+        clear(&mut self.entries);
+        self.round = 1;
     }
 
-    /// The number of a place; 0 where it has none.
-    pub fn at(&self, place: u32) -> u32
-        ensures { result ≡ number_at self.now place }
+    /// What a place is marked with, if it is.
+    pub fn at(&self, place: u32) -> Option<T>
+        ensures { result ≡ mark_at self.now place }
     {
         match self.entries.get(place as usize) {
-            Some(entry) => entry.saturating_sub(self.forgotten),
-            None => 0,
+            Some(entry) if entry.0 == self.round => Some(entry.1),
+            _ => None,
         }
     }
 
-    /// Whether a place has a number.
+    /// Whether a place is marked.
     pub fn has(&self, place: u32) -> bool
-        ensures { (result ≡ true) ↔ (number_at self.now place ≢ 0) }
+        ensures { (result ≡ true) ↔ (mark_at self.now place ≢ None) }
     {
-        self.at(place) != 0
+        self.at(place).is_some()
     }
 
-    /// These places have the number 1 from here on. Tells whether all are places.
-    pub fn mark(&mut self, places: &[u32]) -> bool
-        ensures only { (p : ℕ) → number_at self.new p ≢ 0 → (number_at self.old p ≢ 0) ⊎ Contains places.now p }
-        ensures all { result ≡ true → All (λ p. number_at self.new p ≢ 0) places.now }
+    /// These places are marked with this from here on. Tells whether all are places.
+    pub fn mark(&mut self, places: &[u32], value: T) -> bool
+        ensures only { (p : ℕ) → mark_at self.new p ≢ None → (mark_at self.old p ≢ None) ⊎ Contains places.now p }
+        ensures all { result ≡ true → All (λ p. mark_at self.new p ≢ None) places.now }
     {
         for place in places {
-            self.put(*place, 1);
-            if !self.has(*place) {
+            if !self.put(*place, value) {
                 return false;
             }
         }
         true
     }
 
-    /// A place has this number from here on, or the one that it had, where there is no such place or the numbers are used up.
-    pub fn put(&mut self, place: u32, number: u32)
-        ensures { (p : ℕ) → (number_at self.new p ≡ number_at self.old p) ⊎ ((p ≡ place) × (number_at self.new p ≡ number)) }
+    /// A place is marked with this from here on. Tells whether it is one; where it is none, nothing is changed.
+    pub fn put(&mut self, place: u32, value: T) -> bool
+        ensures put { (p : ℕ) → (mark_at self.new p ≡ mark_at self.old p) ⊎ ((p ≡ place) × (mark_at self.new p ≡ Some value)) }
+        ensures there { result ≡ true → mark_at self.new place ≡ Some value }
+        ensures kept { result ≡ false → (p : ℕ) → mark_at self.new p ≡ mark_at self.old p }
     {
-        if place as usize >= self.entries.len() || number > u32::MAX - self.forgotten {
-            return;
+        if place as usize >= self.entries.len() {
+            return false;
         }
-        let value = self.forgotten + number;
-        self.most = self.most.max(value);
-        self.entries[place as usize] = value;
+        self.entries[place as usize] = (self.round, value);
+        true
     }
 }

@@ -15,7 +15,7 @@ use std::alloc::{AllocError, Global};
 pub struct Search<'a> {
     flow: Flow<'a>,
     /// For each place the least one that assigns the variable and from which execution may come there, by at least one step, with nothing between that assigns it.
-    starts: Marks,
+    starts: Marks<u32>,
 }
 
 impl<'a> Search<'a> {
@@ -39,9 +39,9 @@ impl<'a> Search<'a> {
             after,
             assigning,
             var: Var(0),
-            assigns: Marks::new(alloc, places)?,
+            assigns: Marks::new(alloc, places, ())?,
         };
-        let starts = Marks::new(alloc, places)?;
+        let starts = Marks::new(alloc, places, 0)?;
         Ok(Some(Search { flow, starts }))
     }
 
@@ -83,27 +83,24 @@ impl<'a> Search<'a> {
         if self.assigns(place) {
             return Some(place);
         }
-        match self.starts.at(place) {
-            0 => None,
-            start => Some(start),
-        }
+        self.starts.at(place)
     }
 
-    /// Tells by this number each place of which nothing is told yet, and to which execution may come from a place, by one step at least, with nothing between that
-    /// assigns the variable. Tells whether all are told of then.
-    pub fn tell_from(
+    /// Marks with this each place that is not marked yet, and to which execution may come from a place, by one step at least, with nothing between that assigns the
+    /// variable. Tells whether all are marked then.
+    pub fn tell_from<T: Copy>(
         &self,
         alloc: Global,
         place: u32,
-        number: u32,
-        told: &mut Marks,
+        value: T,
+        told: &mut Marks<T>,
     ) -> Result<bool, AllocError>
         requires turned { IsTurned self.now }
         requires closed { IsClosed self.now.flow told.old }
-        ensures told { OnOk result (IsToldFrom self.now.flow place number told.old told.new) }
+        ensures told { OnOk result (IsToldFrom self.now.flow place value told.old told.new) }
         ensures closed { IfOk result (λ b. b ≡ true → IsClosed self.now.flow told.new) }
         ensures all { IfOk result (λ b. b ≡ true → AreTold self.now.flow place told.new) }
     {
-        self.flow.flood(alloc, place, number, told)
+        self.flow.flood(alloc, place, value, told)
     }
 }

@@ -23,13 +23,13 @@ pub enum Writer {
     /// An instruction, by its function, its block there and how many instructions stand before it in the block.
     Instruction {
         function: u32,
-        block: u32,
-        index: u32,
+        block: usize,
+        index: usize,
     },
     /// The binding of a parameter as its function is called.
     Binding {
         function: u32,
-        parameter: u32,
+        parameter: usize,
     },
 }
 
@@ -48,7 +48,7 @@ impl Writer {
 }
 
 /// Whether the binding of a parameter comes no later than what writes a name.
-fn is_binding_no_later(parameter: u32, other: Writer) -> bool
+fn is_binding_no_later(parameter: usize, other: Writer) -> bool
     ensures { result ≡ true → IsNoLater (0 ∷ parameter ∷ []) (rank_of other) }
 {
     match other {
@@ -61,7 +61,7 @@ fn is_binding_no_later(parameter: u32, other: Writer) -> bool
 }
 
 /// Whether an instruction comes no later than what writes a name.
-fn is_instruction_no_later(block: u32, index: u32, other: Writer) -> bool
+fn is_instruction_no_later(block: usize, index: usize, other: Writer) -> bool
     ensures { result ≡ true → IsNoLater (1 ∷ block ∷ index ∷ []) (rank_of other) }
 {
     match other {
@@ -75,7 +75,7 @@ fn is_instruction_no_later(block: u32, index: u32, other: Writer) -> bool
 }
 
 /// Whether an index in a block comes no later than another in a block.
-fn is_index_no_later(block: u32, index: u32, next: u32, behind: u32) -> bool
+fn is_index_no_later(block: usize, index: usize, next: usize, behind: usize) -> bool
     ensures { result ≡ true → IsNoLater (block ∷ index ∷ []) (next ∷ behind ∷ []) }
 {
     if block != next {
@@ -97,7 +97,7 @@ pub struct Written {
 #[derive(Clone, Copy, PartialEq, Eq, PartialOrd, Ord)]
 pub struct Write {
     pub place: u32,
-    pub number: u32,
+    pub number: usize,
 }
 
 /// What writes the names of a function.
@@ -191,7 +191,7 @@ impl<'a> Writers<'a> {
     }
 
     /// The write of a name in a place, of this number. Tells whether it has a home.
-    fn push(&mut self, number: u32, written: Written) -> Result<bool, AllocError>
+    fn push(&mut self, number: usize, written: Written) -> Result<bool, AllocError>
         requires sound { AreSound self.old }
         requires writes { Writes self.old written.place written.name written.writer }
         requires indexed { IsIndexed self.old }
@@ -227,13 +227,10 @@ impl<'a> Writers<'a> {
         let Some(place) = place else {
             return Ok(true);
         };
-        if self.all.len() > 0xffff_ffff {
-            return Ok(false);
-        }
         if !self.is_next(writer) {
             return Ok(false);
         }
-        let number = self.all.len() as u32;
+        let number = self.all.len();
         let written = Written {
             place: place.0,
             name,
@@ -243,7 +240,7 @@ impl<'a> Writers<'a> {
     }
 
     /// The binding of a parameter. Tells whether it has a home, if it is a scalar.
-    fn add_binding(&mut self, parameter: u32, binding: &Binding) -> Result<bool, AllocError>
+    fn add_binding(&mut self, parameter: usize, binding: &Binding) -> Result<bool, AllocError>
         requires sound { AreSound self.old }
         requires indexed { IsIndexed self.old }
         requires binding { slice_get (graph_view self.old.graph.now).parameters parameter ≡ Some (binding_view binding.now) }
@@ -274,15 +271,10 @@ impl<'a> Writers<'a> {
         ensures all { IfOk result (λ b. b ≡ true → AreBindings self.new (length self.new.graph.now.parameters.items)) }
     {
         let bindings = &self.graph.parameters;
-        let mut parameter = 0u32;
         for k in 0..bindings.len() {
-            if parameter as usize != k {
+            if !self.add_binding(k, &bindings[k])? {
                 return Ok(false);
             }
-            if !self.add_binding(parameter, &bindings[k])? {
-                return Ok(false);
-            }
-            parameter = parameter.saturating_add(1);
         }
         Ok(true)
     }
@@ -309,7 +301,7 @@ impl<'a> Writers<'a> {
     }
 
     /// The instructions of a block. Tells whether each name that they write has a home.
-    fn add_block(&mut self, number: u32, block: &Block) -> Result<bool, AllocError>
+    fn add_block(&mut self, number: usize, block: &Block) -> Result<bool, AllocError>
         requires sound { AreSound self.old }
         requires indexed { IsIndexed self.old }
         requires block { slice_get self.old.graph.now.blocks.items number ≡ Some block.now }
@@ -319,22 +311,17 @@ impl<'a> Writers<'a> {
         ensures all { IfOk result (λ b. b ≡ true → AreInstructions self.new number (map instruction_view block.now.instructions.items) (placed block.now.place) (length block.now.instructions.items)) }
     {
         let mut place = block.place;
-        let mut index = 0u32;
         for k in 0..block.instructions.len() {
-            if index as usize != k {
-                return Ok(false);
-            }
             let instruction = &block.instructions[k];
             let writer = Writer::Instruction {
                 function: self.function,
                 block: number,
-                index,
+                index: k,
             };
             if !self.add_instruction(place, instruction, writer)? {
                 return Ok(false);
             }
             place = instruction.marker().or(place);
-            index = index.saturating_add(1);
         }
         Ok(true)
     }
@@ -349,15 +336,10 @@ impl<'a> Writers<'a> {
         ensures all { IfOk result (λ b. b ≡ true → AreBlocks self.new (length self.new.graph.now.blocks.items)) }
     {
         let blocks = &self.graph.blocks;
-        let mut number = 0u32;
         for n in 0..blocks.len() {
-            if number as usize != n {
+            if !self.add_block(n, &blocks[n])? {
                 return Ok(false);
             }
-            if !self.add_block(number, &blocks[n])? {
-                return Ok(false);
-            }
-            number = number.saturating_add(1);
         }
         Ok(true)
     }
@@ -407,16 +389,16 @@ impl<'a> Writers<'a> {
     }
 
     /// What writes a name in a place, by its number; none where that is another place.
-    pub fn at(&self, number: u32, place: u32) -> Option<Written>
+    pub fn at(&self, number: usize, place: u32) -> Option<Written>
         requires { AreSound self.now }
         ensures writes { IfSome result (λ z. Writes self.now place z.name z.writer) }
         ensures some { IfSome result (λ z. (slice_get self.now.all.items number ≡ Some z) × (z.place ≡ place)) }
         ensures all { (z : declared-written.Written) → slice_get self.now.all.items number ≡ Some z → z.place ≡ place → result ≡ Some z }
     {
-        if number as usize >= self.all.len() {
+        if number >= self.all.len() {
             return None;
         }
-        let written = self.all[number as usize];
+        let written = self.all[number];
         if written.place == place {
             Some(written)
         } else {

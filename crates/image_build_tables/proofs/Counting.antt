@@ -47,6 +47,10 @@ pub firsts_there : (graphs : List declared-graph.Graph) (known : List (List ℕ)
     → option_map (λ (firsts : List ℕ). get_or firsts block 0) (slice_get known f) ≡ option_map (λ (g : Graph). get_or (firsts_from 0 g.blocks) block 0) (slice_get (map graph_view graphs) f)
 firsts_there graphs known f block is = ap (λ l. option_map (λ (firsts : List ℕ). get_or firsts block 0) (slice_get l f)) is ∙ there graphs f block
 
+-- the number of an instruction
+pub number_sum : (number sum n index : ℕ) → number ≡ counted sum → sum ≡ min (n + index) 18446744073709551615 → number ≡ min (n + index) 4294967295
+number_sum number sum n index is added = omega (arith, is, added)
+
 -- where a graph is none, no word writes a home of its function
 pub none_writes : (o : Option Graph) (block : ℕ) (of : Graph → Option ℕ) (first : Option ℕ) → first ≡ option_map (λ (g : Graph). get_or (firsts_from 0 g.blocks) block 0) o → first ≡ None → None ≡ option_and_then of o
 none_writes None block of first is none = refl

@@ -149,7 +149,7 @@ impl Naming<'_> {
             Operand::Name(name) => self.name_node(name.0),
             Operand::Constant(word) => Node::Constant(word),
             Operand::StaticAddress { object, offset } => {
-                Node::Constant(entry(self.statics, object).wrapping_add(offset))
+                Node::Constant(entry(self.statics, object as usize).wrapping_add(offset))
             }
         }
     }

@@ -15,10 +15,10 @@ pub fn number_of(count: usize) -> u32
 }
 
 /// The entry of this number; 0 where there is none.
-pub fn entry(entries: &[u32], number: u32) -> u32
+pub fn entry(entries: &[u32], number: usize) -> u32
     ensures { result ≡ get_or entries.now number 0 }
 {
-    match entries.get(number as usize) {
+    match entries.get(number) {
         Some(entry) => *entry,
         None => 0,
     }

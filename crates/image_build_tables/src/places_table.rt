@@ -53,7 +53,7 @@ pub fn places_of(
         let address = if row.is_entry {
             first_of(code, row.function)
         } else {
-            entry(&addresses, number)
+            entry(&addresses, number as usize)
         };
         places.push(Place {
             position: row.position,

@@ -45,15 +45,15 @@ fn all_before(alloc: Global, graphs: &[Graph]) -> Result<Vec<Vec<u32>>, AllocErr
 }
 
 /// The word of this number; none where there is no such word.
-fn word_at(words: &[u32], number: u32) -> Option<u32>
+fn word_at(words: &[u32], number: usize) -> Option<u32>
     ensures { result ≡ slice_get words.now number }
 {
-    let word = words.get(number as usize)?;
+    let word = words.get(number)?;
     Some(*word)
 }
 
 /// How many instructions stand before a block of a function; none where there is no such function.
-fn first_at(before: &[Vec<u32>], function: u32, block: u32) -> Option<u32>
+fn first_at(before: &[Vec<u32>], function: u32, block: usize) -> Option<u32>
     ensures { result ≡ option_map (λ firsts. get_or firsts block 0) (slice_get (map (λ firsts. firsts.items) before.now) function) }
 {
     let firsts = before.get(function as usize)?;
@@ -102,11 +102,11 @@ impl<'a> Telling<'a> {
     fn writing(&self, function: u32, number: u32) -> Option<u32>
         ensures { result ≡ option_and_then (λ (c : FunctionCode). slice_get c.writers number) (slice_get (telling_view self.now).codes function) }
     {
-        word_at(&self.code.get(function as usize)?.writers, number)
+        word_at(&self.code.get(function as usize)?.writers, number as usize)
     }
 
     /// The word of this number among those of a function that bind its parameters.
-    fn binding(&self, function: u32, parameter: u32) -> Option<u32>
+    fn binding(&self, function: u32, parameter: usize) -> Option<u32>
         ensures { result ≡ option_and_then (λ (c : FunctionCode). slice_get c.bindings parameter) (slice_get (telling_view self.now).codes function) }
     {
         word_at(&self.code.get(function as usize)?.bindings, parameter)
@@ -124,7 +124,7 @@ impl<'a> Telling<'a> {
                 index,
             } => {
                 let first = first_at(before, function, block)?;
-                self.writing(function, first.saturating_add(index))
+                self.writing(function, number_of((first as usize).saturating_add(index)))
             }
             Writer::Binding {
                 function,

@@ -11,7 +11,7 @@ returns-clause-causes c = λ e.
     (let q = c.args.question in
     let one : declared-found.Found = record { cause = c.args.cause; via = c.args.via } in
     let said = c.in_ok-tell_from.ensures in
-    let number : c.len-number.result ≡ length c.push.new.self.items = omega arith in
+    let number : c.len-number.result ≡ length c.args.self.now.found.items = omega arith in
     causes_more q.changes.now q.search.now q.function.now c.args.self.now _ one c.requires.causes c.requires.hides c.in_ok-push.ensures.items (c.is_next.ensures c.if-not-is_next.false)
     (subst (λ n. IsToldFrom q.search.now.flow c.args.via n c.args.self.now.told c.tell_from.new.told) number said.told) (said.closed e) (said.all e))
 

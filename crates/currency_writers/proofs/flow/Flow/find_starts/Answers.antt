@@ -1,13 +1,14 @@
-use Rattle.std.proofs.Common.{arith, get_or, refl}
+use Rattle.std.proofs.Common.{◌∙◌, arith, get_or, refl, sym}
+use Rattle.std.proofs.lemmas.Option.{none-some}
 use Rattle.currency_writers.proofs.Telling.{starts_next}
 use Rattle.currency_writers.proofs.Closing.{below_next, least_done, least_next}
 use Rattle.currency_writers.proofs.flow.Flow.find_starts.Goals as goal
 
 pub loop-place-init : goal.loop-place-init
 loop-place-init c = record {
-  starts = λ p some. absurd (some (c.requires.none p));
+  starts = λ p start at. absurd (none-some start (sym (c.requires.none p) ∙ at));
   closed = λ q some. absurd (some (c.requires.none q));
-  below = λ p. (let none = c.requires.none p in omega (arith, none));
+  below = λ p start at. absurd (none-some start (sym (c.requires.none p) ∙ at));
   least = λ k d lt. absurd (omega (arith, lt));
 }
 

@@ -1,14 +1,13 @@
-use Rattle.std.proofs.Common.{ℕ, ◌≤◌, take}
+use Rattle.std.proofs.Common.{take}
 use Rattle.std.specs.Prelude.{All}
-use Rattle.currency_writers.specs.Marks.{number_at}
 use Rattle.currency_writers.specs.Flow.{AreStarts, IsClosed}
-use Rattle.currency_writers.proofs.Closing.{IsLeastOf}
+use Rattle.currency_writers.proofs.Closing.{AreBelow, IsLeastOf}
 use Rattle.currency_writers.proofs.flow.Flow.find_starts.Given as goal
 
 abbrev pub invariant-loop-place : goal.invariant-loop-place
 invariant-loop-place l = record {
   starts : AreStarts l.self l.starts;
   closed : IsClosed l.self l.starts;
-  below : (p : ℕ) → number_at l.starts p ≤ l.last;
+  below : AreBelow l.self l.starts l.last;
   least : All (λ s. IsLeastOf l.self l.starts s) (take l.place-index l.place-items);
 }

@@ -5,22 +5,22 @@ use Rattle.currency_writers.proofs.Closing.{closed_new, done_more, more_on, told
 use Rattle.currency_writers.proofs.flow.Flow.flood.Goals as goal
 
 pub returns-then-at-len-clause-closed : goal.returns-then-at-len-clause-closed
-returns-then-at-len-clause-closed c = λ e. (let le : length c.loop-at.ahead.items ≤ c.loop-at.at = omega arith in
-    closed_new c.args.self.now c.args.from c.args.number c.args.told.now c.loop-at.told c.loop-at.ahead.items c.loop-at.at le c.loop-at.invariant.told c.requires.closed c.loop-at.invariant.more c.loop-at.invariant.done)
+returns-then-at-len-clause-closed g c = λ e. (let le : length c.loop-at.ahead.items ≤ c.loop-at.at = omega arith in
+    closed_new c.args.self.now c.args.from c.args.value c.args.told.now c.loop-at.told c.loop-at.ahead.items c.loop-at.at le c.loop-at.invariant.told c.requires.closed c.loop-at.invariant.more c.loop-at.invariant.done)
 
 pub returns-then-at-len-clause-all : goal.returns-then-at-len-clause-all
-returns-then-at-len-clause-all c = λ e. (let le : length c.loop-at.ahead.items ≤ c.loop-at.at = omega arith in
-    told_all c.args.self.now c.args.from c.args.number c.args.told.now c.loop-at.told c.loop-at.ahead.items c.loop-at.at le c.loop-at.invariant.told c.requires.closed c.loop-at.invariant.more c.loop-at.invariant.done)
+returns-then-at-len-clause-all g c = λ e. (let le : length c.loop-at.ahead.items ≤ c.loop-at.at = omega arith in
+    told_all c.args.self.now c.args.from c.args.value c.args.told.now c.loop-at.told c.loop-at.ahead.items c.loop-at.at le c.loop-at.invariant.told c.requires.closed c.loop-at.invariant.more c.loop-at.invariant.done)
 
 pub loop-at-preserved : goal.loop-at-preserved
-loop-at-preserved c =
+loop-at-preserved g c =
     (let f = c.args.self.now in
     let said = c.in_ok-go_on.ensures in
     let lt : c.loop-at.at < length c.loop-at.ahead.items = omega arith in
     record {
-      told = told_on f c.args.from c.args.number c.args.told.now c.loop-at.told c.go_on.new.told c.loop-at.invariant.told said.told;
+      told = told_on f c.args.from c.args.value c.args.told.now c.loop-at.told c.go_on.new.told c.loop-at.invariant.told said.told;
       ahead = said.ahead;
       more = more_on f c.args.told.now c.loop-at.told c.go_on.new.told _ c.loop-at.ahead.items c.go_on.new.ahead.items c.loop-at.invariant.more said.more;
-      done = done_more f c.args.from c.args.number c.loop-at.told c.go_on.new.told c.loop-at.ahead.items c.go_on.new.ahead.items c.loop-at.at c.index-next.result.now lt said.told said.more c.loop-at.invariant.done
+      done = done_more f c.args.from c.args.value c.loop-at.told c.go_on.new.told c.loop-at.ahead.items c.go_on.new.ahead.items c.loop-at.at c.index-next.result.now lt said.told said.more c.loop-at.invariant.done
           (subst (λ n. AreNextTold f n c.go_on.new.told) c.index-next.ensures (said.next c.if-not-branch.false));
     })

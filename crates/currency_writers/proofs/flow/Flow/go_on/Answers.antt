@@ -4,33 +4,33 @@ use Rattle.currency_writers.proofs.Closing.{more_none, more_on, next_told, told_
 use Rattle.currency_writers.proofs.flow.Flow.go_on.Goals as goal
 
 pub loop-place-init : goal.loop-place-init
-loop-place-init c = record {
-  told = told_same c.args.self.now c.args.from c.args.number c.args.told.now;
+loop-place-init g c = record {
+  told = told_same c.args.self.now c.args.from c.args.value c.args.told.now;
   ahead = c.requires.ahead;
   more = more_none c.args.self.now c.args.told.now c.args.ahead.now.items;
   next = λ k d lt. absurd (omega (arith, lt));
 }
 
 pub come_to-requires : goal.come_to-requires
-come_to-requires c = record {
+come_to-requires g c = record {
   blocked = c.requires.blocked;
-  comes = come_on c.args.self.now c.args.from c.args.number c.args.next c.get-place-items.result.now c.loop-place.place-index _ c.requires.flow c.requires.next c.get-place-items.ensures c.loop-place-test.true;
+  comes = come_on c.args.self.now c.args.from c.args.next c.get-place-items.result.now c.loop-place.place-index _ c.requires.flow c.requires.next c.get-place-items.ensures c.loop-place-test.true;
   ahead = c.loop-place.invariant.ahead;
 }
 
 pub loop-place-preserved : goal.loop-place-preserved
-loop-place-preserved c = record {
-  told = told_on c.args.self.now c.args.from c.args.number c.args.told.now c.loop-place.told c.come_to.new.told c.loop-place.invariant.told c.in_ok-come_to.ensures.told;
+loop-place-preserved g c = record {
+  told = told_on c.args.self.now c.args.from c.args.value c.args.told.now c.loop-place.told c.come_to.new.told c.loop-place.invariant.told c.in_ok-come_to.ensures.told;
   ahead = c.in_ok-come_to.ensures.ahead;
   more = more_on c.args.self.now c.args.told.now c.loop-place.told c.come_to.new.told c.args.ahead.now.items c.loop-place.ahead.items c.come_to.new.ahead.items c.loop-place.invariant.more c.in_ok-come_to.ensures.more;
-  next = told_more c.args.self.now c.args.from c.args.number c.loop-place.told c.come_to.new.told c.get-place-items.result.now c.loop-place.place-index _ c.loop-place-test.true c.in_ok-come_to.ensures.told c.loop-place.invariant.next (c.in_ok-come_to.ensures.there c.if-not-branch.false);
+  next = told_more c.args.self.now c.args.from c.args.value c.loop-place.told c.come_to.new.told c.get-place-items.result.now c.loop-place.place-index _ c.loop-place-test.true c.in_ok-come_to.ensures.told c.loop-place.invariant.next (c.in_ok-come_to.ensures.there c.if-not-branch.false);
 }
 
 pub returns-then-not-branch-clause-told : goal.returns-then-not-branch-clause-told
-returns-then-not-branch-clause-told c = told_on c.args.self.now c.args.from c.args.number c.args.told.now c.loop-place.told c.come_to.new.told c.loop-place.invariant.told c.in_ok-come_to.ensures.told
+returns-then-not-branch-clause-told g c = told_on c.args.self.now c.args.from c.args.value c.args.told.now c.loop-place.told c.come_to.new.told c.loop-place.invariant.told c.in_ok-come_to.ensures.told
 
 pub returns-then-not-branch-clause-more : goal.returns-then-not-branch-clause-more
-returns-then-not-branch-clause-more c = more_on c.args.self.now c.args.told.now c.loop-place.told c.come_to.new.told c.args.ahead.now.items c.loop-place.ahead.items c.come_to.new.ahead.items c.loop-place.invariant.more c.in_ok-come_to.ensures.more
+returns-then-not-branch-clause-more g c = more_on c.args.self.now c.args.told.now c.loop-place.told c.come_to.new.told c.args.ahead.now.items c.loop-place.ahead.items c.come_to.new.ahead.items c.loop-place.invariant.more c.in_ok-come_to.ensures.more
 
 pub returns-clause-next : goal.returns-clause-next
-returns-clause-next c = λ e. next_told c.args.self.now c.args.next c.loop-place.told c.get-place-items.result.now c.loop-place.place-index c.requires.flow c.get-place-items.ensures (omega arith) c.loop-place.invariant.next
+returns-clause-next g c = λ e. next_told c.args.self.now c.args.next c.loop-place.told c.get-place-items.result.now c.loop-place.place-index c.requires.flow c.get-place-items.ensures (omega arith) c.loop-place.invariant.next

@@ -1,10 +1,8 @@
-use Rattle.std.proofs.Common.{◌≡◌, ◌∙◌, ◌<◌, ap, arith, length, refl, subst, sym}
+use Rattle.std.proofs.Common.{◌∙◌, ◌<◌, ap, arith, length, refl, sym}
 use Rattle.std.specs.Prelude.{slice_get}
 use Rattle.std.proofs.lemmas.Option.{same_Some}
 use Rattle.graph_core.specs.declared.graph.Graph as declared-graph
 use Rattle.graph_core.specs.Graphs.{ToScalar, binding_view, graph_view}
-use Rattle.currency_writers.specs.declared.writers.Writer.TheVariants as writer
-use Rattle.currency_writers.specs.Writers.{IsKnown}
 use Rattle.currency_writers.proofs.Written.{binding_at, bindings_more, bindings_on, more_on}
 use Rattle.currency_writers.proofs.writers.Writers.add_bindings.Goals as goal
 
@@ -18,11 +16,10 @@ loop-k-preserved c =
     let known = c.loop-k.invariant in
     let said = c.in_ok-add_binding.ensures in
     let lt : k < length old.graph.now.parameters.items = omega arith in
-    let same : k ≡ c.loop-k.parameter = omega arith in
     record {
       more = more_on old mid new known.more said.more;
       sound = said.sound;
       indexed = said.indexed c.if-not-branch.false;
       all = bindings_more new k (bindings_on mid new k said.more known.all)
-          (λ x at. subst (λ j. IsKnown new (graph_view new.graph.now).entry x (writer.Binding new.function j)) (sym same) (said.there c.if-not-branch.false x (same_Some (binding_view b) (ToScalar x) (sym (binding_at old.graph.now k k b b refl lt c.index.ensures) ∙ ap (λ (g : declared-graph.Graph). slice_get (graph_view g).parameters k) (sym (said.more.graph ∙ known.more.graph)) ∙ at))));
+          (λ x at. said.there c.if-not-branch.false x (same_Some (binding_view b) (ToScalar x) (sym (binding_at old.graph.now k k b b refl lt c.index.ensures) ∙ ap (λ (g : declared-graph.Graph). slice_get (graph_view g).parameters k) (sym (said.more.graph ∙ known.more.graph)) ∙ at)));
     })

@@ -1,7 +1,5 @@
-use Rattle.std.proofs.Common.{◌≡◌, Some, ◌∙◌, ◌<◌, ap, arith, length, map, subst, sym}
+use Rattle.std.proofs.Common.{Some, ◌∙◌, ◌<◌, ap, arith, length, sym}
 use Rattle.std.proofs.lemmas.Option.{slice_get-get_or}
-use Rattle.graph_core.specs.Graphs.{instruction_view}
-use Rattle.currency_writers.specs.Writers.{AreInstructions, placed}
 use Rattle.currency_writers.proofs.Written.{block_still, blocks_more, blocks_on, more_on}
 use Rattle.currency_writers.proofs.writers.Writers.add_blocks.Goals as goal
 
@@ -15,11 +13,10 @@ loop-n-preserved c =
     let known = c.loop-n.invariant in
     let said = c.in_ok-add_block.ensures in
     let lt : n < length old.graph.now.blocks.items = omega arith in
-    let same : n ≡ c.loop-n.number = omega arith in
     let more = more_on old mid new known.more said.more in
     record {
       more = more;
       sound = said.sound;
       indexed = said.indexed c.if-not-branch.false;
-      all = blocks_more new n b (block_still old new n b more (slice_get-get_or old.graph.now.blocks.items n b lt ∙ ap Some (sym c.index.ensures))) (blocks_on mid new n said.more known.all) (subst (λ j. AreInstructions new j (map instruction_view b.instructions.items) (placed b.place) (length b.instructions.items)) (sym same) (said.all c.if-not-branch.false));
+      all = blocks_more new n b (block_still old new n b more (slice_get-get_or old.graph.now.blocks.items n b lt ∙ ap Some (sym c.index.ensures))) (blocks_on mid new n said.more known.all) (said.all c.if-not-branch.false);
     })

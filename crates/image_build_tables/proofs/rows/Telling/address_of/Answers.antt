@@ -3,7 +3,7 @@ use Rattle.std.specs.Prelude.{option_and_then}
 use Rattle.rv_emit_tables.specs.Emitted.{FunctionCode, function_view}
 use Rattle.graph_core.specs.Graphs.{Graph, graph_view}
 use Rattle.image_build_tables.specs.Rows.{address_of_writer, instruction_number}
-use Rattle.image_build_tables.proofs.Counting.{firsts_there, none_writes, some_writes}
+use Rattle.image_build_tables.proofs.Counting.{firsts_there, none_writes, number_sum, some_writes}
 use Rattle.image_build_tables.proofs.rows.Telling.address_of.Goals as goal
 
 pub returns-in_err-first-in-Instruction : goal.returns-in_err-first-in-Instruction
@@ -25,6 +25,7 @@ returns-in_ok-first-in-Instruction c =
     let block = c.in-Instruction.block in
     let n = c.in_ok-first-in-Instruction.first in
     let told = c.in_ok-first-in-Instruction.ensures ∙ firsts_there graphs _ f block c.requires in
+    let number = number_sum c.number_of.result c.saturating_add.result n c.in-Instruction.index c.number_of.ensures c.saturating_add.ensures in
     c.writing.ensures
-    ∙ some_writes (slice_get (map graph_view graphs) f) block c.in-Instruction.index (λ (k : ℕ). option_and_then (λ (d : FunctionCode). slice_get d.writers k) (slice_get codes f)) (Some n) n c.saturating_add.result told refl c.saturating_add.ensures
+    ∙ some_writes (slice_get (map graph_view graphs) f) block c.in-Instruction.index (λ (k : ℕ). option_and_then (λ (d : FunctionCode). slice_get d.writers k) (slice_get codes f)) (Some n) n c.number_of.result told refl number
     ∙ ap (address_of_writer (map graph_view graphs) codes) (sym c.in-Instruction.is)
