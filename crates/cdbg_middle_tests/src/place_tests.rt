@@ -65,6 +65,26 @@ fn a_route_goes_by_a_place(rt: HostRuntime) -> Result<(), Fail> {
     Ok(())
 }
 
+/// Steps from 1 to 4, by 2 and by 3.
+static BY_TWO: [FlowStep; 4] = [
+    FlowStep {
+        from: Place(1),
+        to: Place(2),
+    },
+    FlowStep {
+        from: Place(1),
+        to: Place(3),
+    },
+    FlowStep {
+        from: Place(2),
+        to: Place(4),
+    },
+    FlowStep {
+        from: Place(3),
+        to: Place(4),
+    },
+];
+
 /// Flags of places, and the least way from 1 by 1 to 4 past those that are set: by 2, or else by 3, or else none.
 static PAST: [(&[bool], &[Place]); 4] = [
     (&[], &[Place(1), Place(2), Place(4)]),
@@ -78,9 +98,8 @@ static PAST: [(&[bool], &[Place]); 4] = [
 
 #[test]
 fn a_route_goes_past_blocked_places(rt: HostRuntime) -> Result<(), Fail> {
-    let steps = vec![in rt.alloc(); step(1, 2), step(1, 3), step(2, 4), step(3, 4)]?;
     for (flags, wanted) in &PAST {
-        let found = route_past(rt.alloc(), &steps, *flags, Place(1), Place(1), Place(4))?;
+        let found = route_past(rt.alloc(), &BY_TWO, *flags, Place(1), Place(1), Place(4))?;
         match found {
             Some(found) => assert!(rt; found.places.as_slice() == *wanted),
             None => assert!(rt; wanted.is_empty()),
