@@ -1,6 +1,6 @@
 -- The lines of a session, by what its engine answers.
-use Rattle.std.proofs.Common.{map, ◌⊎◌, inl, inr, Result, Ok, Err, IfOk, OnOk, OnErr, ◌≡◌, ℕ, ◌+◌, ◌||◌, true, false, Option, Some, None, List, [], ◌∷◌, ◌++◌, if◌then◌else◌, subst, refl, sym, ap, ◌∙◌, arith}
-use Rattle.std.specs.Prelude.{Vec}
+use Rattle.std.proofs.Common.{map, ◌⊎◌, inl, inr, Result, Ok, Err, IfOk, OnOk, OnErr, ◌≡◌, ℕ, zero, suc, ◌+◌, ◌||◌, true, false, Option, Some, None, List, [], ◌∷◌, ◌++◌, if◌then◌else◌, subst, refl, sym, ap, ◌∙◌, arith}
+use Rattle.std.specs.Prelude.{Vec, nat_le}
 use Rattle.std.specs.Global.{Global}
 use Rattle.std.proofs.lemmas.List.{map-append}
 use Rattle.std.specs.Option.{option_map_or}
@@ -10,7 +10,7 @@ use Rattle.image_form.specs.RulesOfFunctions.{IsPlaceNumber}
 use Rattle.line_form.specs.Lines.{no_stop_line, out_lines}
 use Rattle.rv_machine.specs.Run.{MachineEvent, Byte, Arrival, Exit, TooDeep, Faulted}
 use Rattle.rv_machine.specs.State.{State}
-use Rattle.script_form.specs.Script.{Order, Break, Step, Continue, Print, Locals, Where, Quit, Mark}
+use Rattle.script_form.specs.Script.{Order, Break, Step, Continue, Next, Finish, Print, Locals, Where, Quit, Mark}
 use Rattle.stop_engine.specs.declared.halt.Halt.{Halt}
 use Rattle.stop_engine.specs.declared.halt.Halt.TheVariants.{At, Exited, Depth, Fault}
 use Rattle.stop_engine.specs.declared.halt.Halt.TheVariants.{Limit as Limited}
@@ -23,7 +23,7 @@ use Rattle.stop_engine.specs.EngineState.{Answers, EngineState, HasMarked, HasRu
 use Rattle.stop_engine.specs.Halting.{IsHaltOf, halt_at, halt_line, halt_of}
 use Rattle.stop_engine_view.specs.Reading.{depth, place_at}
 use Rattle.stop_engine.specs.Stopping.{IsAtNoStop, IsStopOf}
-use Rattle.stop_engine.specs.Transcript.{Aim, AnyStop, OneOf, Ending, Exits, NestsTooDeep, Faults, Limit, Position, Fresh, Standing, Over, Reach, Session, after, aims_at, at_stop, ending_line, is_aim, is_among, is_quit, lines_from, marked_line, position_line, ran, reached, run_lines, run_of, said, with_output}
+use Rattle.stop_engine.specs.Transcript.{Aim, AnyStop, OneOf, Within, Ending, Exits, NestsTooDeep, Faults, Limit, Position, Fresh, Standing, Over, Reach, Session, after, aims_at, at_stop, behind, below, ending_line, finish_aim, is_aim, is_among, is_quit, lines_from, marked_line, next_aim, position_line, ran, reached, run_lines, run_of, said, with_output}
 use Rattle.stop_engine.proofs.MarkLaws.{among-append}
 use Rattle.stop_engine_view.proofs.PlacesByAddress.{place_from-found}
 
@@ -115,21 +115,44 @@ record SameSession (s t : Session) : Type 0 where
   position : s.position ≡ t.position
   events : s.events ≡ t.events
 
-same_aim : (m : Form) (a b : List ℕ) (o : Option ℕ) → ((place : ℕ) → is_among a place ≡ is_among b place) → option_map_or (aims_at (OneOf a)) o false ≡ option_map_or (aims_at (OneOf b)) o false
-same_aim m a b None same = refl
-same_aim m a b (Some place) same = same place
+-- the same places are marked
+abbrev SameMarks : List ℕ → List ℕ → Type 0
+SameMarks a b = (place : ℕ) → is_among a place ≡ is_among b place
 
-reached-same : (m : Form) (a b : List ℕ) (events : List MachineEvent) → ((place : ℕ) → is_among a place ≡ is_among b place) → reached m (OneOf a) events ≡ reached m (OneOf b) events
+-- two aims are at the same stops
+abbrev AreAlike : Aim → Aim → Type 0
+AreAlike a b = (deep place : ℕ) → aims_at a deep place ≡ aims_at b deep place
+
+marks-alike : (a b : List ℕ) → SameMarks a b → AreAlike (OneOf a) (OneOf b)
+marks-alike a b same deep place = same place
+
+within-alike : (most : ℕ) (a b : List ℕ) → SameMarks a b → AreAlike (Within most a) (Within most b)
+within-alike most a b same deep place = ap (λ is. is || nat_le deep most) (same place)
+
+below-alike : (deep : ℕ) (a b : List ℕ) → SameMarks a b → AreAlike (below deep a) (below deep b)
+below-alike zero a b same = marks-alike a b same
+below-alike (suc deep) a b same = within-alike deep a b same
+
+next-alike : (p : Position) (a b : List ℕ) → SameMarks a b → AreAlike (next_aim a p) (next_aim b p)
+next-alike Fresh a b same deep place = refl
+next-alike (Standing s) a b same deep place = within-alike (depth s) a b same deep place
+next-alike (Over e) a b same deep place = refl
+
+same_aim : (a b : Aim) (deep : ℕ) (o : Option ℕ) → AreAlike a b → option_map_or (aims_at a deep) o false ≡ option_map_or (aims_at b deep) o false
+same_aim a b deep None same = refl
+same_aim a b deep (Some place) same = same deep place
+
+reached-same : (m : Form) (a b : Aim) (events : List MachineEvent) → AreAlike a b → reached m a events ≡ reached m b events
 reached-same m a b [] same = refl
 reached-same m a b (Byte c ∷ events) same = ap (with_output c) (reached-same m a b events same)
 reached-same m a b (Arrival s ∷ events) same =
-    ap (λ t. if t then (record { output = []; position = Standing s; rest = events }) else reached m (OneOf a) events) (same_aim m a b (place_at m s.pc) same)
-    ∙ ap (λ r. if is_aim m (OneOf b) s then (record { output = []; position = Standing s; rest = events }) else r) (reached-same m a b events same)
+    ap (λ t. if t then (record { output = []; position = Standing s; rest = events }) else reached m a events) (same_aim a b (depth s) (place_at m s.pc) same)
+    ∙ ap (λ r. if is_aim m b s then (record { output = []; position = Standing s; rest = events }) else r) (reached-same m a b events same)
 reached-same m a b (Exit v ∷ events) same = refl
 reached-same m a b (TooDeep ∷ events) same = refl
 reached-same m a b (Faulted x ∷ events) same = refl
 
-ran-same : (m : Form) (a b : List ℕ) (p : Position) (events : List MachineEvent) → ((place : ℕ) → is_among a place ≡ is_among b place) → ran m (OneOf a) p events ≡ ran m (OneOf b) p events
+ran-same : (m : Form) (a b : Aim) (p : Position) (events : List MachineEvent) → AreAlike a b → ran m a p events ≡ ran m b p events
 ran-same m a b Fresh events same = reached-same m a b events same
 ran-same m a b (Standing s) events same = reached-same m a b events same
 ran-same m a b (Over e) events same = refl
@@ -139,8 +162,35 @@ record SameAnswer (m : Form) (limit : ℕ) (s t : Session) (o : Order) : Type 0 
   lines : said m limit s o ≡ said m limit t o
   next : SameSession (after m s o) (after m t o)
 
-same_run : (m : Form) (s t : Session) (a b : Aim) (r q : Reach) → r ≡ q → SameSession s t → SameSession (record { marks = s.marks; position = r.position; events = r.rest }) (record { marks = t.marks; position = q.position; events = q.rest })
-same_run m s t a b r q e same = record { marks = same.marks; position = ap (λ (x : Reach). x.position) e; events = ap (λ (x : Reach). x.rest) e }
+same_run : (s t : Session) (r q : Reach) → r ≡ q → SameSession s t → SameSession (behind s r) (behind t q)
+same_run s t r q e same = record { marks = same.marks; position = ap (λ (x : Reach). x.position) e; events = ap (λ (x : Reach). x.rest) e }
+
+finish-ran : (m : Form) (limit : ℕ) (s t : Session) (a b : Aim) → finish_aim s.marks s.position ≡ Some a → finish_aim t.marks t.position ≡ Some b
+    → run_of m s a ≡ run_of m t b → SameSession s t → SameAnswer m limit s t Finish
+finish-ran m limit s t a b mine other e same = record {
+  lines = ap (λ o. option_map_or (λ aim. run_lines m limit (run_of m s aim)) o (no_stop_line ∷ [])) mine
+      ∙ (ap (run_lines m limit) e ∙ sym (ap (λ o. option_map_or (λ aim. run_lines m limit (run_of m t aim)) o (no_stop_line ∷ [])) other));
+  next = subst (λ u. SameSession u (after m t Finish)) (sym (ap (λ o. option_map_or (λ aim. behind s (run_of m s aim)) o s) mine))
+      (subst (SameSession (behind s (run_of m s a))) (sym (ap (λ o. option_map_or (λ aim. behind t (run_of m t aim)) o t) other))
+      (same_run s t (run_of m s a) (run_of m t b) e same));
+}
+
+-- runs with alike aims
+runs-same : (m : Form) (s t : Session) (a b : Aim) → SameSession s t → AreAlike a b → run_of m s a ≡ run_of m t b
+runs-same m s t a b same alike = rw (same.position, same.events) (ran-same m a b t.position t.events alike)
+
+finish-same : (m : Form) (limit : ℕ) (s t : Session) (p : Position) → s.position ≡ p → t.position ≡ p → SameSession s t → SameAnswer m limit s t Finish
+finish-same m limit s t Fresh es et same = record { lines = rw (es, et) refl; next = rw (es, et) same }
+finish-same m limit s t (Standing x) es et same =
+    let e : run_of m s (below (depth x) s.marks) ≡ run_of m t (below (depth x) t.marks) =
+    runs-same m s t (below (depth x) s.marks) (below (depth x) t.marks) same (below-alike (depth x) s.marks t.marks same.marks) in
+    let mine : finish_aim s.marks s.position ≡ Some (below (depth x) s.marks) = ap (finish_aim s.marks) es in
+    let other : finish_aim t.marks t.position ≡ Some (below (depth x) t.marks) = ap (finish_aim t.marks) et in
+    finish-ran m limit s t (below (depth x) s.marks) (below (depth x) t.marks) mine other e same
+finish-same m limit s t (Over y) es et same =
+    let e : run_of m s (OneOf s.marks) ≡ run_of m t (OneOf t.marks) =
+    runs-same m s t (OneOf s.marks) (OneOf t.marks) same (marks-alike s.marks t.marks same.marks) in
+    finish-ran m limit s t (OneOf s.marks) (OneOf t.marks) (ap (finish_aim s.marks) es) (ap (finish_aim t.marks) et) e same
 
 answer-same : (m : Form) (limit : ℕ) (s t : Session) (o : Order) → SameSession s t → SameAnswer m limit s t o
 answer-same m limit s t (Break mark) same = record {
@@ -153,10 +203,18 @@ answer-same m limit s t (Break mark) same = record {
 }
 answer-same m limit s t Step same =
     let e : run_of m s AnyStop ≡ run_of m t AnyStop = rw (same.position, same.events) refl in
-    record { lines = ap (run_lines m limit) e; next = same_run m s t AnyStop AnyStop (run_of m s AnyStop) (run_of m t AnyStop) e same }
+    record { lines = ap (run_lines m limit) e; next = same_run s t (run_of m s AnyStop) (run_of m t AnyStop) e same }
 answer-same m limit s t Continue same =
-    let e : run_of m s (OneOf s.marks) ≡ run_of m t (OneOf t.marks) = rw (same.position, same.events) (ran-same m s.marks t.marks t.position t.events same.marks) in
-    record { lines = ap (run_lines m limit) e; next = same_run m s t AnyStop AnyStop (run_of m s (OneOf s.marks)) (run_of m t (OneOf t.marks)) e same }
+    let e : run_of m s (OneOf s.marks) ≡ run_of m t (OneOf t.marks) =
+    runs-same m s t (OneOf s.marks) (OneOf t.marks) same (marks-alike s.marks t.marks same.marks) in
+    record { lines = ap (run_lines m limit) e; next = same_run s t (run_of m s (OneOf s.marks)) (run_of m t (OneOf t.marks)) e same }
+answer-same m limit s t Next same =
+    let a = next_aim s.marks s.position in
+    let b = next_aim t.marks t.position in
+    let alike : AreAlike a b = subst (λ p. AreAlike (next_aim s.marks p) b) (sym same.position) (next-alike t.position s.marks t.marks same.marks) in
+    let e : run_of m s a ≡ run_of m t b = runs-same m s t a b same alike in
+    record { lines = ap (run_lines m limit) e; next = same_run s t (run_of m s a) (run_of m t b) e same }
+answer-same m limit s t Finish same = finish-same m limit s t t.position same.position refl same
 answer-same m limit s t (Print name) same = record { lines = rw same.position refl; next = same }
 answer-same m limit s t Locals same = record { lines = rw same.position refl; next = same }
 answer-same m limit s t Where same = record { lines = rw same.position refl; next = same }
@@ -178,6 +236,54 @@ answers-break e f mark lines unquit h is more =
     let there : lines_of f more ≡ lines_from e.run.form e.run.limit (session_of f) more = rw (h.quit, unquit, h.run) refl in
     ap (λ b. if b then [] else lines_from e.run.form e.run.limit (session_of e) (Break mark ∷ more)) unquit
     ∙ (ap (λ l. l ++ lines_from e.run.form e.run.limit (after e.run.form (session_of e) (Break mark)) more) (sym is) ∙ ap (λ l. lines ++ l) (rest ∙ sym there))
+
+-- the answer to an order that runs
+answers-run : (e : EngineState) (run : RunState) (o : Order) (aim : Aim) (lines : List (List ℕ)) → e.has_quit ≡ false → HasRun aim e.run run
+    → lines ≡ run_lines e.run.form e.run.limit (ran e.run.form aim e.run.position e.run.events)
+    → said e.run.form e.run.limit (session_of e) o ≡ run_lines e.run.form e.run.limit (run_of e.run.form (session_of e) aim)
+    → after e.run.form (session_of e) o ≡ behind (session_of e) (run_of e.run.form (session_of e) aim)
+    → is_quit o ≡ false → Answers e (with_run e run) o lines
+answers-run e run o aim lines unquit h is says goes stays more =
+    let m = e.run.form in
+    let limit = e.run.limit in
+    let reach : Reach = record { output = run.output; position = run.position; rest = run.events } in
+    let there : lines_of (with_run e run) more ≡ lines_from m limit (behind (session_of e) reach) more = rw (unquit, h.image, h.limit) refl in
+    ap (λ b. if b then [] else lines_from m limit (session_of e) (o ∷ more)) unquit
+    ∙ (ap (λ l. l ++ (if is_quit o then [] else lines_from m limit (after m (session_of e) o) more)) (says ∙ sym is)
+    ∙ (ap (λ b. lines ++ (if b then [] else lines_from m limit (after m (session_of e) o) more)) stays
+    ∙ (ap (λ s. lines ++ lines_from m limit s more) (goes ∙ ap (behind (session_of e)) h.reach) ∙ ap (λ l. lines ++ l) (sym there))))
+
+pub answers-next : (e : EngineState) (run : RunState) (aim : Aim) (lines : List (List ℕ)) → e.has_quit ≡ false → aim ≡ next_aim e.marks e.run.position
+    → HasRun aim e.run run → lines ≡ run_lines e.run.form e.run.limit (ran e.run.form aim e.run.position e.run.events)
+    → Answers e (with_run e run) Next lines
+answers-next e run aim lines unquit aimed h is =
+    let m = e.run.form in
+    answers-run e run Next aim lines unquit h is (ap (λ a. run_lines m e.run.limit (run_of m (session_of e) a)) (sym aimed))
+    (ap (λ a. behind (session_of e) (run_of m (session_of e) a)) (sym aimed)) refl
+
+pub answers-finish : (e : EngineState) (run : RunState) (aim : Aim) (lines : List (List ℕ)) → e.has_quit ≡ false
+    → Some aim ≡ finish_aim e.marks e.run.position → HasRun aim e.run run
+    → lines ≡ run_lines e.run.form e.run.limit (ran e.run.form aim e.run.position e.run.events) → Answers e (with_run e run) Finish lines
+answers-finish e run aim lines unquit aimed h is =
+    let m = e.run.form in
+    answers-run e run Finish aim lines unquit h is
+    (ap (λ o. option_map_or (λ a. run_lines m e.run.limit (run_of m (session_of e) a)) o (no_stop_line ∷ [])) (sym aimed))
+    (ap (λ o. option_map_or (λ a. behind (session_of e) (run_of m (session_of e) a)) o (session_of e)) (sym aimed)) refl
+
+-- the answer to `finish` before the first instruction
+pub answers-no_stop : (e : EngineState) (lines : List (List ℕ)) → e.has_quit ≡ false → None ≡ finish_aim e.marks e.run.position
+    → lines ≡ no_stop_line ∷ [] → Answers e e Finish lines
+answers-no_stop e lines unquit none is more =
+    let m = e.run.form in
+    let limit = e.run.limit in
+    let says : said m limit (session_of e) Finish ≡ no_stop_line ∷ [] =
+    ap (λ o. option_map_or (λ a. run_lines m limit (run_of m (session_of e) a)) o (no_stop_line ∷ [])) (sym none) in
+    let stays : after m (session_of e) Finish ≡ session_of e =
+    ap (λ o. option_map_or (λ a. behind (session_of e) (run_of m (session_of e) a)) o (session_of e)) (sym none) in
+    let there : lines_of e more ≡ lines_from m limit (session_of e) more = rw unquit refl in
+    ap (λ b. if b then [] else lines_from m limit (session_of e) (Finish ∷ more)) unquit
+    ∙ (ap (λ l. l ++ lines_from m limit (after m (session_of e) Finish) more) (says ∙ sym is)
+    ∙ (ap (λ s. lines ++ lines_from m limit s more) stays ∙ ap (λ l. lines ++ l) (sym there)))
 
 -- what holds of a value where a fact holds, and another of the value
 pub if_ok-with : {T E : Type 0} (r : Result T E) (P : Type 0) (Q R : T → Type 0) → OnOk r P → IfOk r Q → ((x : T) → P → Q x → R x) → IfOk r R

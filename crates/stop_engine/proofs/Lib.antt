@@ -1,4 +1,5 @@
 mod Answering
+mod ByDepth
 mod Followers
 mod Called
 mod MarkBounds

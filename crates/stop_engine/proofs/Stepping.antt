@@ -9,7 +9,7 @@ use Rattle.rv_machine.specs.Run.{MachineEvent, Byte, Arrival, Exit, TooDeep, Fau
 use Rattle.rv_machine.specs.declared.event.Event.{Event}
 use Rattle.rv_machine.specs.declared.event.Event.TheVariants as event
 use Rattle.stop_engine.specs.EngineState.{Wants, run_state}
-use Rattle.stop_engine_view.specs.Reading.{place_at}
+use Rattle.stop_engine_view.specs.Reading.{depth, place_at}
 use Rattle.stop_engine_view.specs.Run.{stop_addresses}
 use Rattle.stop_engine.specs.declared.course.TheConstants.{ROOM}
 use Rattle.stop_engine.specs.declared.halt.Standing.{Standing}
@@ -76,11 +76,12 @@ pub passes-there : (m : Form) (aim : Aim) (stops : List ℕ) (events : List Mach
 passes-there m aim stops events output s rest some p = rw some at p
 
 -- a stop at which the run arrives is none of the aim
-pub passes-arrived : (m : Form) (aim : Aim) (stops : List ℕ) (events : List MachineEvent) (output : List ℕ) (s : State) (rest : List MachineEvent) (pc place : ℕ) → pc ≡ s.pc → is_stop stops pc ≡ true → place_at m pc ≡ Some place
-    → aims_at aim place ≡ false → PassesBy m aim events output (arrival stops s ++ rest) → PassesBy m aim events output rest
-passes-arrived m aim stops events output s rest pc place at stop here none p =
+pub passes-arrived : (m : Form) (aim : Aim) (stops : List ℕ) (events : List MachineEvent) (output : List ℕ) (s : State) (rest : List MachineEvent) (pc deep place : ℕ) → pc ≡ s.pc → deep ≡ depth s → is_stop stops pc ≡ true → place_at m pc ≡ Some place
+    → aims_at aim deep place ≡ false → PassesBy m aim events output (arrival stops s ++ rest) → PassesBy m aim events output rest
+passes-arrived m aim stops events output s rest pc deep place at depth_is stop here none p =
     let there : place_at m s.pc ≡ Some place = ap (place_at m) (sym at) ∙ here in
-    let not_aimed : is_aim m aim s ≡ false = ap (λ o. option_map_or (aims_at aim) o false) there ∙ none in
+    let not_aimed : is_aim m aim s ≡ false =
+    ap (λ o. option_map_or (aims_at aim (depth s)) o false) there ∙ (ap (λ d. aims_at aim d place) (sym depth_is) ∙ none) in
     passes-stop m aim events output s rest not_aimed (passes-there m aim stops events output s rest (ap (is_stop stops) (sym at) ∙ stop) p)
 
 -- an instruction that puts out a byte

@@ -1,5 +1,5 @@
 -- The transcript of a script over an image: its lines are made of the image and of the events of its run alone.
-use Rattle.std.specs.Prelude.{ℕ, ◌==◌, ℤ, Bool, true, false, if◌then◌else◌, List, [], ◌∷◌, ◌++◌}
+use Rattle.std.specs.Prelude.{ℕ, zero, suc, ◌==◌, ◌||◌, nat_le, ℤ, Option, Some, None, Bool, true, false, if◌then◌else◌, List, [], ◌∷◌, ◌++◌}
 use Rattle.std.specs.Option.{option_map_or}
 use Rattle.std.specs.List.{flat_map, list_any}
 use Rattle.image_form.specs.Form.{Form, numbered}
@@ -8,7 +8,7 @@ use Rattle.image_form.specs.declared.tables.Place.{Place}
 use Rattle.rv_machine.specs.State.{State}
 use Rattle.rv_machine.specs.Run.{MachineEvent, Byte, Arrival, Exit, TooDeep, Faulted}
 use Rattle.line_form.specs.Lines.{line, out_lines, stop_line, exit_line, depth_line, fault_line, limit_line, no_stop_line, break_line, no_place_line, no_function_line}
-use Rattle.script_form.specs.Script.{Order, Break, Step, Continue, Print, Locals, Where, Quit, Mark, OnLine, InFunction}
+use Rattle.script_form.specs.Script.{Order, Break, Step, Continue, Next, Finish, Print, Locals, Where, Quit, Mark, OnLine, InFunction}
 use Rattle.stop_engine.specs.Breaks.{break_places}
 use Rattle.stop_engine.specs.Shown.{locals_lines, where_lines}
 use Rattle.stop_engine_texts.specs.Shown.{name_sight}
@@ -29,23 +29,25 @@ pub data Position : Type 0 where
   Standing : State → Position
   Over : Ending → Position
 
--- where a run is to halt: at any stop, or at one of these places
+-- where a run is to halt: at any stop; at one of these places; or at one of these places and where the depth is at most so
 pub data Aim : Type 0 where
   AnyStop : Aim
   OneOf : List ℕ → Aim
+  Within : (most : ℕ) → List ℕ → Aim
 
 -- whether a place is one of some
 abbrev pub is_among : List ℕ → (place : ℕ) → Bool
 is_among places place = list_any (λ p. p == place) places
 
--- whether a run with this aim halts at a stop, by its place
-abbrev pub aims_at : Aim → (place : ℕ) → Bool
-aims_at AnyStop place = true
-aims_at (OneOf places) place = is_among places place
+-- whether a run with this aim halts at a stop, by its depth and its place
+abbrev pub aims_at : Aim → (deep place : ℕ) → Bool
+aims_at AnyStop deep place = true
+aims_at (OneOf places) deep place = is_among places place
+aims_at (Within most places) deep place = is_among places place || nat_le deep most
 
 -- whether it halts where it arrives at a stop in this state
 abbrev pub is_aim : Form → Aim → State → Bool
-is_aim m aim s = option_map_or (aims_at aim) (place_at m s.pc) false
+is_aim m aim s = option_map_or (aims_at aim (depth s)) (place_at m s.pc) false
 
 -- what a run to a halt gives: the output before it, where it stands then, and the events that are left
 pub record Reach : Type 0 where
@@ -116,6 +118,23 @@ sight m Fresh name = NoStop
 sight m (Standing s) name = option_map_or (λ place. name_sight m s place name) (place_at m s.pc) NoStop
 sight m (Over e) name = NoStop
 
+-- `next` runs to a marked place, or to a stop that is no deeper than the present one; at no stop it is a `step`
+abbrev pub next_aim : (marks : List ℕ) → Position → Aim
+next_aim marks Fresh = AnyStop
+next_aim marks (Standing s) = Within (depth s) marks
+next_aim marks (Over e) = AnyStop
+
+-- marked places, and where the depth is below this one; nothing is less deep than 0
+abbrev pub below : (deep : ℕ) → (marks : List ℕ) → Aim
+below zero marks = OneOf marks
+below (suc deep) marks = Within deep marks
+
+-- `finish` runs to a marked place, or to a stop that is less deep than the present one; before the first instruction it runs nowhere
+abbrev pub finish_aim : (marks : List ℕ) → Position → Option Aim
+finish_aim marks Fresh = None
+finish_aim marks (Standing s) = Some (below (depth s) marks)
+finish_aim marks (Over e) = Some (OneOf marks)
+
 -- A session: the places that are marked, where it stands, and the events that are left.
 pub record Session : Type 0 where
   pub marks : List ℕ
@@ -131,6 +150,8 @@ abbrev pub said : Form → (limit : ℕ) → Session → Order → List (List �
 said m limit s (Break mark) = marked_line mark (break_places m mark) ∷ []
 said m limit s Step = run_lines m limit (run_of m s AnyStop)
 said m limit s Continue = run_lines m limit (run_of m s (OneOf s.marks))
+said m limit s Next = run_lines m limit (run_of m s (next_aim s.marks s.position))
+said m limit s Finish = option_map_or (λ aim. run_lines m limit (run_of m s aim)) (finish_aim s.marks s.position) (no_stop_line ∷ [])
 said m limit s (Print name) = sight_line name (sight m s.position name) ∷ []
 said m limit s Locals = at_stop m s.position (locals_lines m)
 said m limit s Where = at_stop m s.position (where_lines m)
@@ -145,6 +166,8 @@ abbrev pub after : Form → Session → Order → Session
 after m s (Break mark) = record s { marks = s.marks ++ break_places m mark }
 after m s Step = behind s (run_of m s AnyStop)
 after m s Continue = behind s (run_of m s (OneOf s.marks))
+after m s Next = behind s (run_of m s (next_aim s.marks s.position))
+after m s Finish = option_map_or (λ aim. behind s (run_of m s aim)) (finish_aim s.marks s.position) s
 after m s (Print name) = s
 after m s Locals = s
 after m s Where = s
@@ -155,6 +178,8 @@ abbrev pub is_quit : Order → Bool
 is_quit (Break mark) = false
 is_quit Step = false
 is_quit Continue = false
+is_quit Next = false
+is_quit Finish = false
 is_quit (Print name) = false
 is_quit Locals = false
 is_quit Where = false

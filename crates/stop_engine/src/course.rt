@@ -28,10 +28,10 @@ fn arrived(table: &StopTable, aim: &Stops, machine: &Machine) -> Option<Halt>
     ensures aimed { IfSome result (λ halt. IsAimed table.now (aim_of aim.now) halt machine.now) }
 {
     let place = table.stop_at(machine.pc())?;
-    if !aim.has(place) {
+    let depth = depth(machine);
+    if !aim.has(depth, place) {
         return None;
     }
-    let depth = depth(machine);
     Some(Halt::At { place, depth })
 }
 

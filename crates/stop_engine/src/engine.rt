@@ -20,6 +20,7 @@ ghost use Rattle.stop_engine_texts.specs.Sight.{sight_line, sight_of};
 
 use crate::activations::{Frame, activation_lines, activations};
 use crate::breaks::{break_places, marked_line};
+use crate::depths::{finish_stops, next_stops};
 use crate::function_names::{FunctionNames, function_names};
 use crate::halt::Halt;
 use crate::lines::halt_line;
@@ -161,6 +162,14 @@ impl<'a> Engine<'a> {
                 &self.tables,
                 &Stops::At(&self.marks),
             ),
+            Command::Next => {
+                let stops = next_stops(&self.run, &self.marks);
+                run_lines(alloc, &mut self.run, &self.tables, &stops)
+            }
+            Command::Finish => match finish_stops(&self.run, &self.marks) {
+                Some(stops) => run_lines(alloc, &mut self.run, &self.tables, &stops),
+                None => no_stop(alloc),
+            },
             Command::Print(name) => self.print(alloc, name),
             Command::Locals => self.locals_lines(alloc),
             Command::Where => self.where_lines(alloc),

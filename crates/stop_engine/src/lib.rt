@@ -4,6 +4,7 @@
 mod activations;
 mod breaks;
 mod course;
+mod depths;
 mod engine;
 mod function_names;
 mod halt;

@@ -8,7 +8,7 @@ ghost use Rattle.stop_engine.specs.EngineState.{HasExecuted, HasRun, RunState, W
 ghost use Rattle.stop_engine.specs.Halting.{halt_at};
 ghost use Rattle.stop_engine.specs.Marking.{aim_of};
 ghost use Rattle.stop_engine.specs.Standing.{ending_of, not_answered, place_of};
-ghost use Rattle.stop_engine.specs.Stopping.{IsAtNoStop, IsStopOf};
+ghost use Rattle.stop_engine.specs.Stopping.{IsAtNoStop, IsStopOf, depth_at, is_fresh};
 
 use crate::course::{ROOM, run_on};
 use crate::halt::{Halt, Standing};
@@ -18,6 +18,7 @@ use image_form::View;
 use rv_machine::Machine;
 use std::alloc::{AllocError, Global};
 use std::marker::Model;
+use stop_engine_tables::depth;
 
 /// A run of an image from halt to halt.
 #[derive(Drop)]
@@ -119,6 +120,26 @@ impl<'a> Run<'a> {
             machine: &self.machine,
             place,
         })
+    }
+
+    /// The depth of the stop at which the run stands, if it stands at one.
+    #[tactic(auto, using(crate::proofs::ByDepth::stop_depth, crate::proofs::ByDepth::no_depth))]
+    pub fn depth(&self) -> Option<u32>
+        ensures { result ≡ depth_at self.now.position }
+    {
+        let stop = self.stop()?;
+        Some(depth(stop.machine))
+    }
+
+    /// Whether the run has come to no halt yet.
+    #[tactic(auto, using(crate::proofs::ByDepth::halted_once))]
+    pub fn is_fresh(&self) -> bool
+        ensures { result ≡ is_fresh self.now.position }
+    {
+        match self.standing {
+            Standing::Fresh | Standing::UnderWay => true,
+            Standing::Halted(_) => false,
+        }
     }
 
     /// The image and its stop places.

@@ -70,16 +70,19 @@ pub enum Stops<'m> {
     Any,
     /// At the next stop of these.
     At(&'m Marks),
+    /// At the next stop of these, or whose depth is at most this.
+    Within(u32, &'m Marks),
 }
 
 impl<'m> Stops<'m> {
-    /// Whether a stop at this place is one of them.
-    pub fn has(&self, place: u32) -> bool
-        ensures { result ≡ aims_at (aim_of self.now) place }
+    /// Whether a stop of this depth, at this place, is one of them.
+    pub fn has(&self, depth: u32, place: u32) -> bool
+        ensures { result ≡ aims_at (aim_of self.now) depth place }
     {
         match self {
             Stops::Any => true,
             Stops::At(marks) => marks.has(place),
+            Stops::Within(most, marks) => marks.has(place) || depth <= *most,
         }
     }
 }

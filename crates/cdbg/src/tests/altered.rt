@@ -189,6 +189,64 @@ fn a_jump_to_itself_meets_the_limit(rt: HostRuntime) -> Result<(), Fail> {
     Ok(())
 }
 
+/// A program that calls.
+const CALLING: &[u8] = b"int f(void){return 3;}\nint main(void){\nint x=f();\nreturn x;\n}\n";
+
+/// The calling program's image, with a machine whose count of calls begins with 1024 and a number, which is less than
+/// 16. A stop is less deep by that number.
+fn image_that_begins(rt: &impl Abort, alloc: Global, above: u8) -> Result<Vec<u8>, AllocError> {
+    let ended = session_ends(alloc, CALLING, b"".as_slice(), [].as_slice())?;
+    let mut image = ended.image;
+    set(rt, &mut image, 70, above.wrapping_mul(16));
+    Ok(image)
+}
+
+/// What scripts print over the calling program, by the number that is added to the count of calls: depths are words
+/// without a sign.
+static DEPTHS: [(u8, &[u8], &[u8]); 6] = [
+    (
+        0,
+        b"step\nnext\nnext\n",
+        b"at 4 line 3 main depth 1\nat 5 line 4 main depth 1\nexit 3\n",
+    ),
+    (
+        1,
+        b"step\nnext\nnext\n",
+        b"at 4 line 3 main depth 0\nat 5 line 4 main depth 0\nexit 3\n",
+    ),
+    (1, b"step\nfinish\n", b"at 4 line 3 main depth 0\nexit 3\n"),
+    (
+        1,
+        b"break f\nstep\nfinish\nfinish\n",
+        b"break at 2\nat 4 line 3 main depth 0\nat 2 line 1 f depth 1\nat 5 line 4 main depth 0\n",
+    ),
+    (
+        2,
+        b"step\nnext\nnext\n",
+        b"at 4 line 3 main depth 4294967295\nat 2 line 1 f depth 0\nexit 3\n",
+    ),
+    (
+        2,
+        b"step\nfinish\nfinish\n",
+        b"at 4 line 3 main depth 4294967295\nat 2 line 1 f depth 0\nexit 3\n",
+    ),
+];
+
+fn depths() -> &'static [(u8, &'static [u8], &'static [u8])] {
+    &DEPTHS
+}
+
+#[test]
+fn depths_have_no_sign(rt: HostRuntime) -> Result<(), Fail> {
+    let words = "cdbg attach image script input";
+    for (above, script, lines) in depths() {
+        let image = image_that_begins(&rt, rt.alloc(), *above)?;
+        let said = printed(rt.alloc(), words, &image, *script)?;
+        assert!(rt; said.as_slice() == *lines, "{above}: {script:?}");
+    }
+    Ok(())
+}
+
 #[test]
 fn an_image_may_be_absent(rt: HostRuntime) -> Result<(), Fail> {
     let mut shelf = MemShelf::new(rt.alloc(), [].as_slice())?;

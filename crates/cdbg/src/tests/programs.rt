@@ -21,8 +21,16 @@ const COMPILED: &str = "cdbg compile --passes none program.c image";
 pub(super) const DIVISION: &[u8] =
     b"#include <stdio.h>\n#include <stdlib.h>\nvoid g(int b){if(b==0)exit(3);}\nint main(void){\nint a=8;\nint b=getchar()-48;\nint x=0;\nint i=0;\ndo{\ng(b);\nx=a/b;\nputchar(48+x);\ni=i+1;\n}while(i<2);\nreturn x;\n}\n";
 
+/// Two calls in one expression.
+const TWO_CALLS: &[u8] =
+    b"#include <stdio.h>\nint g(int a){return a+1;}\nint h(int a){return a*2;}\nint main(void){\nint x=g(1)+h(2);\nputchar(64+x);\nreturn x;\n}\n";
+
+/// A function that calls itself.
+const RECURSION: &[u8] =
+    b"int f(int n){\nif(n==0)\nreturn 0;\nint r=f(n-1);\nreturn r+n;\n}\nint main(void){\nreturn f(2);\n}\n";
+
 /// What sessions print with variables in slots and in registers, by passes and without, alike.
-static IN_EACH: [Session; 5] = [
+static IN_EACH: [Session; 10] = [
     Session {
         shows: "an empty main ends with zero",
         source: b"int main(){}\n",
@@ -50,6 +58,41 @@ static IN_EACH: [Session; 5] = [
         script: b"continue\n",
         input: b"",
         printed: b"depth\n",
+    },
+    Session {
+        shows: "next stays where a call goes in, and finish comes out of it",
+        source: TWO_CALLS,
+        script: b"finish\nnext\nnext\nfinish\nnext\nfinish\n",
+        input: b"",
+        printed: b"no stop\nat 6 line 5 main depth 1\nat 7 line 6 main depth 1\nout \"F\"\nexit 6\nexit 6\nexit 6\n",
+    },
+    Session {
+        shows: "what is called behind a call is no deeper than it",
+        source: TWO_CALLS,
+        script: b"step\nstep\nnext\nfinish\nnext\nnext\n",
+        input: b"",
+        printed: b"at 6 line 5 main depth 1\nat 2 line 2 g depth 2\nat 4 line 3 h depth 2\nat 7 line 6 main depth 1\nout \"F\"\nat 8 line 7 main depth 1\nexit 6\n",
+    },
+    Session {
+        shows: "finish leaves out what is called behind a call",
+        source: TWO_CALLS,
+        script: b"break g\ncontinue\nfinish\n",
+        input: b"",
+        printed: b"break at 2\nat 2 line 2 g depth 2\nat 7 line 6 main depth 1\n",
+    },
+    Session {
+        shows: "next runs past the calls of a function to itself",
+        source: RECURSION,
+        script: b"next\nstep\nnext\nnext\nnext\n",
+        input: b"",
+        printed: b"at 7 line 8 main depth 1\nat 2 line 2 f depth 2\nat 4 line 4 f depth 2\nat 5 line 5 f depth 2\nexit 3\n",
+    },
+    Session {
+        shows: "next and finish halt at a mark in a call of the same function",
+        source: RECURSION,
+        script: b"break f\ncontinue\nnext\nnext\nfinish\nfinish\nnext\nfinish\n",
+        input: b"",
+        printed: b"break at 2\nat 2 line 2 f depth 2\nat 4 line 4 f depth 2\nat 2 line 2 f depth 3\nat 2 line 2 f depth 4\nat 5 line 5 f depth 3\nat 5 line 5 f depth 2\nexit 3\n",
     },
     Session {
         shows: "unsigned constants are compared as unsigned",

@@ -1,8 +1,9 @@
 use Rattle.std.proofs.Common.{◌≡◌, false, ap, sym, refl, ◌∙◌}
 use Rattle.script_form.specs.Script.{mark}
 use Rattle.stop_engine.specs.EngineState.{EngineState}
+use Rattle.stop_engine.specs.Marking.{aim_of}
 use Rattle.stop_engine.specs.Transcript.{AnyStop, OneOf}
-use Rattle.stop_engine.proofs.Answering.{answers-break, if_ok-with, leaves-off}
+use Rattle.stop_engine.proofs.Answering.{answers-break, answers-finish, answers-next, answers-no_stop, if_ok-with, leaves-off}
 use Rattle.stop_engine.proofs.Executions.{executes-none}
 use Rattle.stop_engine.proofs.engine.Engine.answer.Goals as goal
 
@@ -10,6 +11,13 @@ pub returns-in-Break-clause-answered : goal.returns-in-Break-clause-answered
 returns-in-Break-clause-answered c =
     let unquit : c.args.self.now.has_quit ≡ false = ap (λ (e : EngineState). e.has_quit) (sym c.self.view_is) ∙ c.if-self.false in
     rw c.in-Break.is (if_ok-with c.set_marks.result _ _ _ c.set_marks.ensures.marked c.set_marks.ensures.lines (λ lines marked is. answers-break c.args.self.now c.set_marks.new.self (mark c.in-Break.target) _ unquit marked is))
+
+pub returns-in-Next-clause-answered : goal.returns-in-Next-clause-answered
+returns-in-Next-clause-answered c =
+    let e : EngineState = record { run = c.self.inside.run; marks = c.self.inside.marks.places; has_quit = c.self.inside.has_quit } in
+    let run = c.run_lines-in-Next in
+    rw (c.in-Next.is, ← c.self.view_is) (if_ok-with run.result _ _ _ run.ensures.ran run.ensures.lines
+    (λ lines ran is. answers-next e run.new.run (aim_of c.next_stops-stops.result) _ c.if-self.false c.next_stops-stops.ensures ran is))
 
 pub returns-in-Step-clause-wanting : goal.returns-in-Step-clause-wanting
 returns-in-Step-clause-wanting c =
