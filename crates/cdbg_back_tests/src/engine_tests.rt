@@ -285,7 +285,6 @@ static SESSIONS: [Session; 27] = [
             "limit 29",
         ],
     },
-
     Session {
         shows: "prints before, at and behind stops",
         count: 2,
