@@ -6,4 +6,3 @@ mod HiddenPlaces
 mod LeastPlaces
 mod Chaining
 mod Reaching
-mod Leading

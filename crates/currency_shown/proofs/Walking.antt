@@ -4,7 +4,7 @@ use Rattle.std.specs.Global.{Vec}
 use Rattle.std.proofs.lemmas.Bool.Decides.{eqb_tells}
 use Rattle.std.proofs.lemmas.List.{get_or-set_other}
 use Rattle.graph_core.specs.Paths.{Among, front, behind}
-use Rattle.currency_notes.proofs.Lists.{drop_end, drop_more_any}
+use Rattle.currency_notes.proofs.Lists.{among_one, drop_end, drop_more_any}
 use Rattle.std.specs.Prelude.{slice_get, slice_set, ◌⊎◌}
 use Rattle.graph_core.specs.declared.block.Block as declared-block
 use Rattle.graph_core.specs.declared.instruction.Instr as declared-instr
@@ -27,6 +27,10 @@ take_back xs ys n e = subst (λ k. take k (xs ++ ys) ≡ xs) (sym e) (take_all_o
 -- one chain more
 pub first_more : (chains : List (Vec ℕ)) (old new : List Bool) (c : Vec ℕ) → Among c chains → AreFirst chains old → ((l : ℕ) → get_or new l false ≡ true → (get_or old l false ≡ true) ⊎ BeginsWith c.items l) → AreFirst chains new
 first_more chains old new c among before one l e = elim (one l e) [ inl f ↦ before l f | inr f ↦ (c, f.0, among, f.1) ]
+
+pub among_two : {l a b : ℕ} → Among l (a ∷ b ∷ []) → (l ≡ a) ⊎ (l ≡ b)
+among_two front = inl refl
+among_two (behind there) = inr (among_one there)
 
 module _ (v : declared-survey.Survey) (f : declared-found.Found) where
   -- one instruction before what is left

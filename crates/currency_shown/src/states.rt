@@ -128,11 +128,22 @@ impl<'a> States<'a> {
     ) -> Result<(), AllocError>
         ensures { OnOk result (AreFull function.now self.old → ((l : ℕ) → Among l (targets_of (end_view end.now)) → IsFullAtStart function.now state.now l) → AreFull function.now self.new) }
     {
-        let targets = end.targets();
-        for label in targets.as_slice() {
-            self.arrive(alloc, function, label.0, state)?;
+        match end {
+            End::Jump(label) => {
+                self.arrive(alloc, function, label.0, state)?;
+                Ok(())
+            }
+            End::Branch {
+                then,
+                otherwise,
+                ..
+            } => {
+                self.arrive(alloc, function, then.0, state)?;
+                self.arrive(alloc, function, otherwise.0, state)?;
+                Ok(())
+            }
+            End::Return(_) => Ok(()),
         }
-        Ok(())
     }
 
     /// Leaves a chain with what is so where it begins.

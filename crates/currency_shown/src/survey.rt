@@ -76,13 +76,15 @@ impl<'a> Survey<'a, '_> {
     fn is_within_next(&self, end: &End, state: &State<'a>) -> bool
         ensures { result ≡ true → IsWithinNext self.now (end_view end.now) state.now }
     {
-        let targets = end.targets();
-        for label in targets.as_slice() {
-            if !self.is_within(label.0, state) {
-                return false;
-            }
+        match end {
+            End::Jump(label) => self.is_within(label.0, state),
+            End::Branch {
+                then,
+                otherwise,
+                ..
+            } => self.is_within(then.0, state) && self.is_within(otherwise.0, state),
+            End::Return(_) => true,
         }
-        true
     }
 
     /// Looks at the place that an instruction begins, if it begins one. Tells whether it is one of the function, and was not met before.
