@@ -28,7 +28,12 @@ returns-clause-changes c =
     let before = map graph_view c.args.unit.now.graphs.items in
     let after = map graph_view c.in-Some-4.graphs.items in
     let left : EachFunction (IsReduced (unit_view c.args.unit.now).assignments) before after = search rules in
-    let are : AreCasesOf (λ g h. IsRemovedWrite (unit_view c.args.unit.now).assignments g) before before c.in-Some-2.cases.items = search rules in
+    let u = unit_view c.args.unit.now in
+    let of : AllByRecursion (IsOf u.assignments) c.deref-2.result.now = subst (λ (xs : List IdleGraph). AllByRecursion (IsOf u.assignments) xs) (sym c.deref-2.ensures.value) (search rules) in
+    let was : map graph_of c.in-Some.idle.items ≡ before = search rules in
+    let cases = some_of _ _ _ c.in-Some-2.is c.in_ok-cases.ensures u.assignments of in
+    let are : AreCasesOf (λ g h. IsRemovedWrite u.assignments g) before before c.in-Some-2.cases.items = subst (λ gs. AreCasesOf (λ g h. IsRemovedWrite u.assignments g) gs gs c.in-Some-2.cases.items) was
+    (subst (λ (xs : List IdleGraph). AreCasesOf (λ g h. IsRemovedWrite u.assignments g) (map graph_of xs) (map graph_of xs) c.in-Some-2.cases.items) c.deref-2.ensures.value cases) in
     changes_of_cases c.dead_name.result _ Removed (λ g h. IsRemovedWrite (unit_view c.args.unit.now).assignments g) c.in_ok-left.left _ _ _ _ _ _ refl (c.in_ok-log_cases.ensures.logged c.if-not-branch.false) c.in_ok-left.ensures c.dead_name.ensures
     (subst (AreCasesOf (λ g h. IsRemovedWrite (unit_view c.args.unit.now).assignments g) before after) (sym c.deref_mut.ensures.value) (cases_before (IsRemovedWrite (unit_view c.args.unit.now).assignments) before after (each_count (IsReduced (unit_view c.args.unit.now).assignments) before after left) _ are))
     (c.in_ok-log_cases.ensures.same c.if-not-branch.false) (c.in_ok-log_cases.ensures.in_order c.if-not-branch.false)
