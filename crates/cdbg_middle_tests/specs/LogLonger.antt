@@ -85,7 +85,7 @@ module _ (u : UnitForm) (added : List Logged) where
     may_stand p x variable (inr h) = inr (was_sunk h.0, h.1)
 
     reads_across : (hist : paths.History) (i : Instruction) → ReadsAcross u g hist i → ReadsAcross longer g hist i
-    reads_across hist i (moved t is late) = moved t is late
+    reads_across hist i (moved t is late computed) = moved t is late computed
     reads_across hist i (sunk x variable p is of at none) = sunk x variable p is of at none
 
     well_marked : IsWellMarked u g → IsWellMarked longer g
