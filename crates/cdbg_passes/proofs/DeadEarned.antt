@@ -13,13 +13,14 @@ use Rattle.dead_pass_rule.specs.Removing.{IsReduced}
 use Rattle.dead_pass_notes.specs.Said.{IsDropped, SaysWhatItShall}
 use Rattle.dead_pass_notes.specs.Writes.{IsRemovedWrite}
 use Rattle.dead_pass_laws.proofs.Came.{reduced_graph, IsTaken, path_passes}
+use Rattle.dead_pass_laws.proofs.Entry.{variable_scalar}
 use Rattle.dead_pass_laws.proofs.Followed.{IsFollowed}
 use Rattle.dead_pass_laws.proofs.Instructions.{left_note}
 use Rattle.dead_pass_laws.proofs.Lags.{Lags, lags_behind}
 use Rattle.dead_pass_laws.proofs.Values.{writes_target}
 use Rattle.dead_pass_laws.proofs.Ways.{path_next}
 use Rattle.dead_pass_laws.proofs.Whole.{function_made}
-use Rattle.dead_pass_laws.proofs.Written.{dropped_none, goes_dropped, variable_scalar, written_stays}
+use Rattle.dead_pass_laws.proofs.Written.{dropped_none, goes_dropped, written_stays}
 use Rattle.cdbg_passes.specs.Earned.{AreEarned}
 use Rattle.cdbg_passes.specs.Steps.{RemovesDead}
 use Rattle.cdbg_passes.proofs.Functions.{made_of}

@@ -113,8 +113,8 @@ module _ (u : UnitForm) (g h : Graph) (made : IsReduced u.assignments g h) where
 
   -- No dead write is left.
   no_dead : (v : UnitForm) → v.assignments ≡ u.assignments → HasNoDead v h
-  no_dead v same n p x i rest e reached stands target may unread =
-      no_dead_before u g h made n p x i rest e reached stands target (may_go_before p x (subst (λ all. MayGo all h p x) same may)) unread
+  no_dead v shared n p x i rest e reached stands target may unread =
+      no_dead_before u g h made n p x i rest e reached stands target (may_go_before p x (subst (λ all. MayGo all h p x) shared may)) unread
 
 -- NO DEAD WRITE IS LEFT by a step of the removal of dead assignments.
 pub no_dead_left : (u v : UnitForm) → RemovesDead u v → AllByRecursion (HasNoDead v) v.graphs
