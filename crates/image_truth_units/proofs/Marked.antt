@@ -1,7 +1,7 @@
 -- What is left to be shown of a unit that is built of its program for it to be well marked: how its places write, note and call.
-use Rattle.std.proofs.Common.{◌≡◌, ◌≢◌, ℕ, ◌≤◌, inl, true, false, Option, Some, List, [], ◌∷◌, map, slice_get, sym, subst}
+use Rattle.std.proofs.Common.{◌≡◌, ◌≢◌, ℕ, ◌≤◌, inl, true, false, Option, Some, List, [], ◌∷◌, map, slice_get}
 use Rattle.places.specs.Flow.{assigns}
-use Rattle.graph_core.specs.Graphs.{Operand, Name, Of, Scalar, NoteValue, Is, Instruction, Marker, Note, Zero, CopyWords, End, Return, Graph, Logged, UnitForm}
+use Rattle.graph_core.specs.Graphs.{Operand, Name, Of, Scalar, NoteValue, Is, Instruction, Marker, Note, Zero, CopyWords, End, Return, Graph, UnitForm}
 use Rattle.graph_core.specs.Uses.{reads_of, reads_of_end}
 use Rattle.graph_core.specs.Paths.{History, Among, Path, place_of, is_call, called, written, unnoted, owed}
 use Rattle.graph_core.specs.Bounds.{most_words}

@@ -1,15 +1,11 @@
 -- The unit of a well-formed program keeps notes.
-use Rattle.std.proofs.Common.{◌≡◌, ℕ, zero, suc, false, Some, List, [], ◌∷◌, slice_get, refl, sym, subst, arith}
-use Rattle.std.specs.Prelude.{◌↔◌}
-use Rattle.std.specs.List.{Contains}
-use Rattle.places.specs.declared.flow.Assignment.{Assignment}
+use Rattle.std.proofs.Common.{◌≡◌, ℕ, false, Some, List, ◌∷◌, slice_get, sym, subst}
 use Rattle.places.specs.Flow.{assigns}
 use Rattle.c_tree.specs.Programs.{ProgramTree}
-use Rattle.c_flow.specs.Assigns.{assignments_of_program}
 use Rattle.c_type_laws.specs.Laws.{IsWellFormed}
 use Rattle.graph_core.specs.Graphs.{Instruction, Marker, End, Graph, UnitForm}
 use Rattle.graph_core.specs.Graphs as unit
-use Rattle.graph_core.specs.Paths.{History, Among, front, behind, Path, owed}
+use Rattle.graph_core.specs.Paths.{History, Path, owed}
 use Rattle.graph_core.specs.Validity.{IsGraph, IsValid}
 use Rattle.graph_core.specs.WellMarked.{IsVariable}
 use Rattle.graph_build.specs.Units.{IsUnitOf, scalars_among, variables_in, function_coding, graph_of}
