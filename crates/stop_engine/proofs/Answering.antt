@@ -165,6 +165,15 @@ record SameAnswer (m : Form) (limit : ℕ) (s t : Session) (o : Order) : Type 0 
 same_run : (s t : Session) (r q : Reach) → r ≡ q → SameSession s t → SameSession (behind s r) (behind t q)
 same_run s t r q e same = record { marks = same.marks; position = ap (λ (x : Reach). x.position) e; events = ap (λ (x : Reach). x.rest) e }
 
+finish-none : (m : Form) (limit : ℕ) (s t : Session) → finish_aim s.marks s.position ≡ None → finish_aim t.marks t.position ≡ None
+    → SameSession s t → SameAnswer m limit s t Finish
+finish-none m limit s t mine other same = record {
+  lines = ap (λ o. option_map_or (λ aim. run_lines m limit (run_of m s aim)) o (no_stop_line ∷ [])) mine
+      ∙ sym (ap (λ o. option_map_or (λ aim. run_lines m limit (run_of m t aim)) o (no_stop_line ∷ [])) other);
+  next = subst (λ u. SameSession u (after m t Finish)) (sym (ap (λ o. option_map_or (λ aim. behind s (run_of m s aim)) o s) mine))
+      (subst (SameSession s) (sym (ap (λ o. option_map_or (λ aim. behind t (run_of m t aim)) o t) other)) same);
+}
+
 finish-ran : (m : Form) (limit : ℕ) (s t : Session) (a b : Aim) → finish_aim s.marks s.position ≡ Some a → finish_aim t.marks t.position ≡ Some b
     → run_of m s a ≡ run_of m t b → SameSession s t → SameAnswer m limit s t Finish
 finish-ran m limit s t a b mine other e same = record {
@@ -180,7 +189,7 @@ runs-same : (m : Form) (s t : Session) (a b : Aim) → SameSession s t → AreAl
 runs-same m s t a b same alike = rw (same.position, same.events) (ran-same m a b t.position t.events alike)
 
 finish-same : (m : Form) (limit : ℕ) (s t : Session) (p : Position) → s.position ≡ p → t.position ≡ p → SameSession s t → SameAnswer m limit s t Finish
-finish-same m limit s t Fresh es et same = record { lines = rw (es, et) refl; next = rw (es, et) same }
+finish-same m limit s t Fresh es et same = finish-none m limit s t (ap (finish_aim s.marks) es) (ap (finish_aim t.marks) et) same
 finish-same m limit s t (Standing x) es et same =
     let e : run_of m s (below (depth x) s.marks) ≡ run_of m t (below (depth x) t.marks) =
     runs-same m s t (below (depth x) s.marks) (below (depth x) t.marks) same (below-alike (depth x) s.marks t.marks same.marks) in
@@ -236,54 +245,6 @@ answers-break e f mark lines unquit h is more =
     let there : lines_of f more ≡ lines_from e.run.form e.run.limit (session_of f) more = rw (h.quit, unquit, h.run) refl in
     ap (λ b. if b then [] else lines_from e.run.form e.run.limit (session_of e) (Break mark ∷ more)) unquit
     ∙ (ap (λ l. l ++ lines_from e.run.form e.run.limit (after e.run.form (session_of e) (Break mark)) more) (sym is) ∙ ap (λ l. lines ++ l) (rest ∙ sym there))
-
--- the answer to an order that runs
-answers-run : (e : EngineState) (run : RunState) (o : Order) (aim : Aim) (lines : List (List ℕ)) → e.has_quit ≡ false → HasRun aim e.run run
-    → lines ≡ run_lines e.run.form e.run.limit (ran e.run.form aim e.run.position e.run.events)
-    → said e.run.form e.run.limit (session_of e) o ≡ run_lines e.run.form e.run.limit (run_of e.run.form (session_of e) aim)
-    → after e.run.form (session_of e) o ≡ behind (session_of e) (run_of e.run.form (session_of e) aim)
-    → is_quit o ≡ false → Answers e (with_run e run) o lines
-answers-run e run o aim lines unquit h is says goes stays more =
-    let m = e.run.form in
-    let limit = e.run.limit in
-    let reach : Reach = record { output = run.output; position = run.position; rest = run.events } in
-    let there : lines_of (with_run e run) more ≡ lines_from m limit (behind (session_of e) reach) more = rw (unquit, h.image, h.limit) refl in
-    ap (λ b. if b then [] else lines_from m limit (session_of e) (o ∷ more)) unquit
-    ∙ (ap (λ l. l ++ (if is_quit o then [] else lines_from m limit (after m (session_of e) o) more)) (says ∙ sym is)
-    ∙ (ap (λ b. lines ++ (if b then [] else lines_from m limit (after m (session_of e) o) more)) stays
-    ∙ (ap (λ s. lines ++ lines_from m limit s more) (goes ∙ ap (behind (session_of e)) h.reach) ∙ ap (λ l. lines ++ l) (sym there))))
-
-pub answers-next : (e : EngineState) (run : RunState) (aim : Aim) (lines : List (List ℕ)) → e.has_quit ≡ false → aim ≡ next_aim e.marks e.run.position
-    → HasRun aim e.run run → lines ≡ run_lines e.run.form e.run.limit (ran e.run.form aim e.run.position e.run.events)
-    → Answers e (with_run e run) Next lines
-answers-next e run aim lines unquit aimed h is =
-    let m = e.run.form in
-    answers-run e run Next aim lines unquit h is (ap (λ a. run_lines m e.run.limit (run_of m (session_of e) a)) (sym aimed))
-    (ap (λ a. behind (session_of e) (run_of m (session_of e) a)) (sym aimed)) refl
-
-pub answers-finish : (e : EngineState) (run : RunState) (aim : Aim) (lines : List (List ℕ)) → e.has_quit ≡ false
-    → Some aim ≡ finish_aim e.marks e.run.position → HasRun aim e.run run
-    → lines ≡ run_lines e.run.form e.run.limit (ran e.run.form aim e.run.position e.run.events) → Answers e (with_run e run) Finish lines
-answers-finish e run aim lines unquit aimed h is =
-    let m = e.run.form in
-    answers-run e run Finish aim lines unquit h is
-    (ap (λ o. option_map_or (λ a. run_lines m e.run.limit (run_of m (session_of e) a)) o (no_stop_line ∷ [])) (sym aimed))
-    (ap (λ o. option_map_or (λ a. behind (session_of e) (run_of m (session_of e) a)) o (session_of e)) (sym aimed)) refl
-
--- the answer to `finish` before the first instruction
-pub answers-no_stop : (e : EngineState) (lines : List (List ℕ)) → e.has_quit ≡ false → None ≡ finish_aim e.marks e.run.position
-    → lines ≡ no_stop_line ∷ [] → Answers e e Finish lines
-answers-no_stop e lines unquit none is more =
-    let m = e.run.form in
-    let limit = e.run.limit in
-    let says : said m limit (session_of e) Finish ≡ no_stop_line ∷ [] =
-    ap (λ o. option_map_or (λ a. run_lines m limit (run_of m (session_of e) a)) o (no_stop_line ∷ [])) (sym none) in
-    let stays : after m (session_of e) Finish ≡ session_of e =
-    ap (λ o. option_map_or (λ a. behind (session_of e) (run_of m (session_of e) a)) o (session_of e)) (sym none) in
-    let there : lines_of e more ≡ lines_from m limit (session_of e) more = rw unquit refl in
-    ap (λ b. if b then [] else lines_from m limit (session_of e) (Finish ∷ more)) unquit
-    ∙ (ap (λ l. l ++ lines_from m limit (after m (session_of e) Finish) more) (says ∙ sym is)
-    ∙ (ap (λ s. lines ++ lines_from m limit s more) stays ∙ ap (λ l. lines ++ l) (sym there)))
 
 -- what holds of a value where a fact holds, and another of the value
 pub if_ok-with : {T E : Type 0} (r : Result T E) (P : Type 0) (Q R : T → Type 0) → OnOk r P → IfOk r Q → ((x : T) → P → Q x → R x) → IfOk r R

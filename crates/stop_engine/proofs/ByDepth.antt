@@ -1,5 +1,5 @@
 -- Where the commands halt that go by the depth of a stop.
-use Rattle.std.proofs.Common.{◌≡◌, ℕ, zero, suc, ◌-◌, ◌<◌, true, false, Option, Some, None, List, refl, sym, ap, ◌∙◌, arith}
+use Rattle.std.proofs.Common.{◌≡◌, ℕ, true, false, Option, Some, None, List, refl, ap, ◌∙◌}
 use Rattle.rv_machine.specs.State.{State}
 use Rattle.stop_engine.specs.declared.halt.Halt.{Halt}
 use Rattle.stop_engine.specs.declared.halt.Halt.TheVariants.{At, Exited, Depth, Fault}
@@ -43,10 +43,6 @@ next_any (Standing s) marks is = absurd cc
 next_any (Over e) marks is = refl
 
 -- ---- `finish`
-
-pub less_deep : (d : ℕ) (marks : List ℕ) → 0 < d → Within (d - 1) marks ≡ below d marks
-less_deep zero marks some = absurd (omega (arith, some))
-less_deep (suc d) marks some = refl
 
 pub finish_fresh : (p : Position) (marks : List ℕ) → true ≡ is_fresh p → None ≡ finish_aim marks p
 finish_fresh Fresh marks is = refl

@@ -35,7 +35,6 @@ pub fn finish_stops<'m>(run: &Run<'_>, marks: &'m Marks) -> Option<Stops<'m>>
 }
 
 /// Where a place is marked, or less deep than this.
-#[tactic(auto, using(crate::proofs::ByDepth::less_deep))]
 fn stops_below<'m>(depth: u32, marks: &'m Marks) -> Stops<'m>
     ensures { aim_of result ≡ below depth marks.now.places }
 {

@@ -3,7 +3,7 @@ use Rattle.script_form.specs.Script.{mark}
 use Rattle.stop_engine.specs.EngineState.{EngineState}
 use Rattle.stop_engine.specs.Marking.{aim_of}
 use Rattle.stop_engine.specs.Transcript.{AnyStop, OneOf}
-use Rattle.stop_engine.proofs.Answering.{answers-break, answers-finish, answers-next, answers-no_stop, if_ok-with, leaves-off}
+use Rattle.stop_engine.proofs.Answering.{answers-break, if_ok-with, leaves-off}
 use Rattle.stop_engine.proofs.Executions.{executes-none}
 use Rattle.stop_engine.proofs.engine.Engine.answer.Goals as goal
 
@@ -12,13 +12,6 @@ returns-in-Break-clause-answered c =
     let unquit : c.args.self.now.has_quit ≡ false = ap (λ (e : EngineState). e.has_quit) (sym c.self.view_is) ∙ c.if-self.false in
     rw c.in-Break.is (if_ok-with c.set_marks.result _ _ _ c.set_marks.ensures.marked c.set_marks.ensures.lines (λ lines marked is. answers-break c.args.self.now c.set_marks.new.self (mark c.in-Break.target) _ unquit marked is))
 
-pub returns-in-Next-clause-answered : goal.returns-in-Next-clause-answered
-returns-in-Next-clause-answered c =
-    let e : EngineState = record { run = c.self.inside.run; marks = c.self.inside.marks.places; has_quit = c.self.inside.has_quit } in
-    let run = c.run_lines-in-Next in
-    rw (c.in-Next.is, ← c.self.view_is) (if_ok-with run.result _ _ _ run.ensures.ran run.ensures.lines
-    (λ lines ran is. answers-next e run.new.run (aim_of c.next_stops-stops.result) _ c.if-self.false c.next_stops-stops.ensures ran is))
-
 pub returns-in-Step-clause-wanting : goal.returns-in-Step-clause-wanting
 returns-in-Step-clause-wanting c =
     rw (← c.self.view_is) (leaves-off c.run_lines.result _ AnyStop c.run_lines.new.run _ refl c.run_lines.ensures.wanting)
@@ -26,6 +19,14 @@ returns-in-Step-clause-wanting c =
 pub returns-in-Continue-clause-wanting : goal.returns-in-Continue-clause-wanting
 returns-in-Continue-clause-wanting c =
     rw (← c.self.view_is) (leaves-off c.run_lines-in-Continue.result _ (OneOf c.self.inside.marks.places) c.run_lines-in-Continue.new.run _ refl c.run_lines-in-Continue.ensures.wanting)
+
+pub returns-in-Next-clause-wanting : goal.returns-in-Next-clause-wanting
+returns-in-Next-clause-wanting c =
+    rw (← c.self.view_is) (leaves-off c.run_lines-in-Next.result _ (aim_of c.next_stops-stops.result) c.run_lines-in-Next.new.run _ refl c.run_lines-in-Next.ensures.wanting)
+
+pub returns-in-Some-clause-wanting : goal.returns-in-Some-clause-wanting
+returns-in-Some-clause-wanting c =
+    rw (← c.self.view_is) (leaves-off c.run_lines-in-Some.result _ (aim_of c.in-Some.stops) c.run_lines-in-Some.new.run _ refl c.run_lines-in-Some.ensures.wanting)
 
 pub returns-then-self-clause-executed : goal.returns-then-self-clause-executed
 returns-then-self-clause-executed c = rw (← c.self.view_is) (executes-none c.self.inside.run.left c.self.inside.run.machine)
