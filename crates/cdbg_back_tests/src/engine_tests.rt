@@ -219,7 +219,7 @@ static SESSIONS: [Session; 27] = [
         last: 0x73,
         limit: 1000,
         orders: &[
-            "finish", "break f", "continue", "finish", "finish", "finish", "next", "step",
+            "finish", "break 1", "continue", "finish", "finish", "finish", "next", "step",
         ],
         lines: &[
             "no stop",
