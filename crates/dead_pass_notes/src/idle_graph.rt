@@ -7,11 +7,10 @@ ghost use Rattle.dead_pass_rule.specs.Asking.{is_going};
 ghost use Rattle.dead_pass_rule.specs.Walks.{turn_of};
 ghost use Rattle.graph_paths.specs.PathMarksTable.{bits_of};
 
-use dead_pass_rule::{Heights, are_idle, turn_at};
-use dead_pass_search::{Points, idle_writes};
+use dead_pass_rule::{idle_writes, turn_at};
 use dead_pass_writes::PlaceWrites;
 use graph_core::{Graph, Name, Operand};
-use graph_paths::Marks;
+use graph_paths::{Marks, reached_blocks};
 use places::FlowTable;
 use std::alloc::{AllocError, Global};
 
@@ -58,22 +57,14 @@ impl<'a> IdleGraph<'a> {
         if graph.blocks.len() > 0xffff_ffff {
             return Ok(None);
         }
-        let points = Points::new(alloc, graph)?;
         let writes = PlaceWrites::new(alloc, graph)?;
-        let found = idle_writes(alloc, graph, flow, &points, &writes)?;
-        let heights = Heights {
-            columns: &found.columns,
-            names: &found.names,
-            rows: &found.rows,
-        };
-        let Some(reached) = are_idle(alloc, graph, flow, &found.turns, heights)? else {
-            return Ok(None);
-        };
+        let reached = reached_blocks(alloc, &graph.blocks)?;
+        let turns = idle_writes(alloc, graph, flow, &writes, &reached)?;
         Ok(Some(IdleGraph {
             graph,
             flow,
             writes,
-            turns: found.turns,
+            turns,
             reached,
         }))
     }

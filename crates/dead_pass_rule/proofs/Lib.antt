@@ -3,9 +3,4 @@ pub mod Certificate
 pub mod Backward
 pub mod Walking
 pub mod Counted
-pub mod Rising
-pub mod Checking
-pub mod Adding
-pub mod RightBlocks
-pub mod Columns
 pub mod AskedFlow
