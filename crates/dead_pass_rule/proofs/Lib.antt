@@ -4,3 +4,4 @@ pub mod Backward
 pub mod Walking
 pub mod Counted
 pub mod AskedFlow
+pub mod Cascading

@@ -1,5 +1,5 @@
 -- Passes over a graph in which writes go, one after the other.
-use Rattle.std.specs.Prelude.{◌≡◌, ◌⊎◌, ℕ, zero, suc, ◌+◌, ◌<◌, Bool, true, false, Some, None, Option, List, [], ◌∷◌, ◌++◌, length, slice_get, slice_index_or}
+use Rattle.std.specs.Prelude.{◌≡◌, ◌⊎◌, ℕ, zero, suc, ◌<◌, Bool, true, false, Some, None, Option, List, [], ◌∷◌, ◌++◌, length, slice_get, slice_index_or}
 use Rattle.std.specs.declared.vec.Vec.{Vec}
 use Rattle.std.specs.declared.alloc.Global.{Global}
 use Rattle.places.specs.declared.flow.Assignment.{Assignment}
@@ -11,7 +11,7 @@ use Rattle.graph_paths.specs.PathMarksTable.{bits_of}
 use Rattle.dead_pass_rule.specs.Idle.{Goes}
 use Rattle.dead_pass_rule.specs.Asking.{Turns, is_going, IsAsked, TellsAsked}
 use Rattle.dead_pass_rule.specs.Certified.{IsFree}
-use Rattle.dead_pass_rule.specs.Walks.{AreAsked, AreTold, IsTable, turn_of}
+use Rattle.dead_pass_rule.specs.Walks.{AreTold, IsTable, turn_of}
 
 -- one where a turn is that of a write that stays
 abbrev pub stays_one : (turn : ℕ) → ℕ
@@ -65,8 +65,8 @@ pub record IsSound (assignments : List Assignment) (g : Graph) (names : ℕ) (tu
   pub table : IsTable (length g.blocks) names marks
   pub told : AreTold (turn_of turns) g.blocks names marks
 
--- and behind a point of a block at least what is asked for there
-pub record IsSoundAt (assignments : List Assignment) (g : Graph) (names n : ℕ) (turns : List (Vec ℕ Global)) (marks : Marks) (rest : List Instruction) (e : End) : Type 0 where
-  pub sound : IsSound assignments g names turns marks
-  pub tells : (x : ℕ) → x < names → TellsAsked (turn_of turns) (λ l. bits_of marks l x) (length g.blocks) x n (bits_of marks (length g.blocks) x) rest e
-
+-- What one write more does to turns: that it goes, and nothing else.
+pub record GoesOneMore (old new : List (Vec ℕ Global)) (n left : ℕ) : Type 0 where
+  pub only : (m k : ℕ) → is_going (turn_of new) m k ≡ true → (is_going (turn_of old) m k ≡ true) ⊎ ((m ≡ n) × (k ≡ left))
+  pub kept : (m k : ℕ) → is_going (turn_of old) m k ≡ true → is_going (turn_of new) m k ≡ true
+  pub rows : (blocks : List Block) → HaveRows blocks old → HaveRows blocks new

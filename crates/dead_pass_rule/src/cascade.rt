@@ -1,5 +1,11 @@
 //! The writes that go, found by passes back over the blocks.
 
+ghost use Rattle.std.specs.Prelude.{◌≡◌, ℕ, ◌<◌, IfOk, List, false, length, map, slice_index_or, true};
+ghost use Rattle.graph_core.specs.Graphs.{Block as BlockForm, block_view};
+ghost use Rattle.dead_pass_rule.specs.Asking.{is_going};
+ghost use Rattle.dead_pass_rule.specs.Cascade.{GoesOneMore, HaveRows, staying};
+ghost use Rattle.dead_pass_rule.specs.Walks.{turn_of};
+
 use crate::asked::{asked_names, begin, is_told, step_back};
 use crate::free::FreeWrites;
 use crate::turns::{is_gone, turn_at};
@@ -10,7 +16,10 @@ use places::FlowTable;
 use std::alloc::{AllocError, Global};
 
 /// All writes of blocks stay.
-fn all_stay(alloc: Global, blocks: &[Block]) -> Result<Vec<Vec<u32>>, AllocError> {
+fn all_stay(alloc: Global, blocks: &[Block]) -> Result<Vec<Vec<u32>>, AllocError>
+    ensures rows { IfOk result (λ turns. HaveRows (map block_view blocks.now) turns.items) }
+    ensures stay { IfOk result (λ turns. (n left : ℕ) → is_going (turn_of turns.items) n left ≡ false) }
+{
     let mut turns = Vec::new(alloc);
     for block in blocks {
         turns.push(vec![in alloc; 0u32; block.instructions.len()]?)?;
@@ -19,7 +28,11 @@ fn all_stay(alloc: Global, blocks: &[Block]) -> Result<Vec<Vec<u32>>, AllocError
 }
 
 /// The write goes that stands in a block with so many instructions behind it. False where there is none that stays.
-fn put_turn(turns: &mut [Vec<u32>], block: u32, left: usize) -> bool {
+fn put_turn(turns: &mut [Vec<u32>], block: u32, left: usize) -> bool
+    ensures one { result ≡ true → GoesOneMore turns.old turns.new block left }
+    ensures fewer { result ≡ true → staying turns.new < staying turns.old }
+    ensures same { result ≡ false → turns.new ≡ turns.old }
+{
     let Some(row) = turns.get_mut(block as usize) else {
         return false;
     };
@@ -100,7 +113,9 @@ fn let_all_go(
 }
 
 /// The flag of this number; false where there is none.
-fn flag(flags: &[bool], number: usize) -> bool {
+fn flag(flags: &[bool], number: usize) -> bool
+    ensures { result ≡ slice_index_or flags.now number false }
+{
     match flags.get(number) {
         Some(flag) => *flag,
         None => false,
