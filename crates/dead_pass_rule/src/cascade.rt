@@ -1,6 +1,6 @@
 //! The writes that go, found by passes back over the blocks.
 
-ghost use Rattle.std.specs.Prelude.{◌≡◌, ℕ, ◌<◌, IfOk, List, false, length, map, slice_index_or, true};
+ghost use Rattle.std.specs.Prelude.{◌≡◌, ℕ, ◌<◌, IfOk, List, false, length, map, slice_index_or, slice_set, true};
 ghost use Rattle.graph_core.specs.Graphs.{Block as BlockForm, block_view};
 ghost use Rattle.dead_pass_rule.specs.Asking.{is_going};
 ghost use Rattle.dead_pass_rule.specs.Cascade.{GoesOneMore, HaveRows, staying};
@@ -27,23 +27,28 @@ fn all_stay(alloc: Global, blocks: &[Block]) -> Result<Vec<Vec<u32>>, AllocError
     Ok(turns)
 }
 
+/// The turn of a write becomes that of one that goes. False where there is none that stays.
+fn put_in(row: &mut [u32], left: usize) -> bool
+    ensures put { result ≡ true → (left < length row.old) × (slice_index_or row.old left 0 ≡ 0) × (row.new ≡ slice_set row.old left 1) }
+    ensures same { result ≡ false → row.new ≡ row.old }
+{
+    if left >= row.len() || row[left] != 0 {
+        return false;
+    }
+    row[left] = 1;
+    true
+}
+
 /// The write goes that stands in a block with so many instructions behind it. False where there is none that stays.
 fn put_turn(turns: &mut [Vec<u32>], block: u32, left: usize) -> bool
     ensures one { result ≡ true → GoesOneMore turns.old turns.new block left }
     ensures fewer { result ≡ true → staying turns.new < staying turns.old }
     ensures same { result ≡ false → turns.new ≡ turns.old }
 {
-    let Some(row) = turns.get_mut(block as usize) else {
-        return false;
-    };
-    let Some(turn) = row.get_mut(left) else {
-        return false;
-    };
-    if *turn != 0 {
+    if block as usize >= turns.len() {
         return false;
     }
-    *turn = 1;
-    true
+    put_in(&mut turns[block as usize], left)
 }
 
 /// A write goes, if it may, and nothing asks for its name behind it. Tells whether it is one more.
