@@ -11,7 +11,7 @@ loop-is_new-init g c =
     let size : length course.blocks ≡ length c.args.blocks.now = ap (λ (all : List Block). length all) c.requires.blocks ∙ length-map c.args.blocks.now block_view in
     let made = c.in_ok-make_all.ensures in
     let step = step_on course c.args.comes.now c.make_all.new.leaves c.round.new.comes c.round.new.leaves c.whole_round.new.comes c.whole_round.new.leaves _ _
-        c.in_ok-round.ensures.step c.in_ok-is_new.ensures.step in
+    c.in_ok-round.ensures.step c.in_ok-is_new.ensures.step in
     record {
       tables = tables_on course c.args.comes.now c.make_all.new.leaves c.whole_round.new.comes c.whole_round.new.leaves _ made.tables step;
       brought = step.keeps (bits_of c.args.comes.now)
@@ -41,7 +41,7 @@ loop-is_new-preserved g c =
     let was = before.invariant in
     let far = c.in_ok-rounds.ensures in
     let step = step_on course before.comes before.leaves c.rounds.new.comes c.rounds.new.leaves c.whole_round-in-loop-is_new.new.comes c.whole_round-in-loop-is_new.new.leaves _ _
-        far.step c.in_ok-is_new-2.ensures.step in
+    far.step c.in_ok-is_new-2.ensures.step in
     record {
       tables = tables_on course before.comes before.leaves c.whole_round-in-loop-is_new.new.comes c.whole_round-in-loop-is_new.new.leaves _ was.tables step;
       brought = step.keeps (bits_of c.args.comes.now) was.brought;
@@ -57,4 +57,4 @@ loop-is_new-smaller g c =
     let course = g.T.Transfer.course c.args.transfer.now in
     let before = c.loop-is_new in
     falls course before.comes before.leaves c.rounds.new.comes c.rounds.new.leaves c.whole_round-in-loop-is_new.new.comes c.whole_round-in-loop-is_new.new.leaves _ _
-        c.in_ok-rounds.ensures.step c.in_ok-is_new-2.ensures.step before.is_new c.loop-is_new-test.true
+    c.in_ok-rounds.ensures.step c.in_ok-is_new-2.ensures.step before.is_new c.loop-is_new-test.true
