@@ -2,6 +2,7 @@ pub mod ReadNames
 pub mod Certificate
 pub mod Backward
 pub mod Walking
-pub mod Counted
+pub mod Freeing
+pub mod Turning
 pub mod AskedFlow
 pub mod Cascading

@@ -1,9 +1,15 @@
 //! The writes that go, found by passes back over the blocks.
 
-ghost use Rattle.std.specs.Prelude.{◌≡◌, ℕ, ◌<◌, IfOk, List, false, length, map, slice_index_or, slice_set, true};
-ghost use Rattle.graph_core.specs.Graphs.{Block as BlockForm, block_view};
+ghost use Rattle.std.specs.Prelude.{◌≡◌, ℕ, ◌+◌, ◌<◌, ◌^◌, IfOk, List, OnOk, Some, false, length, map, slice_get, slice_index_or, true};
+ghost use Rattle.graph_core.specs.Graphs.{Block as BlockForm, block_view, graph_view, instruction_view};
+ghost use Rattle.graph_core.specs.Uses.{target_of};
+ghost use Rattle.graph_paths.specs.PathMarksTable.{bits_of};
+ghost use Rattle.graph_paths.specs.Reached.{AreLed};
+ghost use Rattle.dead_pass_writes.specs.Telling.{Tells};
 ghost use Rattle.dead_pass_rule.specs.Asking.{is_going};
-ghost use Rattle.dead_pass_rule.specs.Cascade.{GoesOneMore, HaveRows, staying};
+ghost use Rattle.dead_pass_rule.specs.Cascade.{AllGo, AllNeeded, AllStay, AreAllAsked, Cascades, GoesOneMore, HasTurn, HaveRows, IsSound, WalksBack};
+ghost use Rattle.dead_pass_rule.specs.Certified.{AreIdle};
+ghost use Rattle.dead_pass_rule.specs.Free.{AreAllFree, AreFree, AreNamed, flags_in};
 ghost use Rattle.dead_pass_rule.specs.Walks.{turn_of};
 
 use crate::asked::{asked_names, begin, is_told, step_back};
@@ -14,6 +20,25 @@ use graph_core::{Block, Graph, Instr};
 use graph_paths::Marks;
 use places::FlowTable;
 use std::alloc::{AllocError, Global};
+
+/// A graph of which writes go: which of them may, and to which of its blocks paths come.
+#[derive(Drop)]
+struct FreeGraph<'a> {
+    graph: &'a Graph,
+    /// The assignments of its unit.
+    flow: &'a FlowTable,
+    /// The blocks that paths reach, as bits of a row.
+    reached: &'a Marks,
+    /// For each block by how many instructions stand before a write whether it may go.
+    free: Vec<Vec<bool>>,
+    /// How many blocks it has.
+    count: u32,
+    ghost blocks: { count ≡ length (graph_view graph.now).blocks },
+    ghost few: { count + 2 < 2 ^ 32 },
+    ghost led: { AreLed (graph_view graph.now).blocks (bits_of reached.now 0) },
+    ghost named: { AreNamed (graph_view graph.now).blocks graph.now.name_count },
+    ghost may_go: { AreAllFree flow.now.assignments.items (graph_view graph.now) free.items },
+}
 
 /// All writes of blocks stay.
 fn all_stay(alloc: Global, blocks: &[Block]) -> Result<Vec<Vec<u32>>, AllocError>
@@ -27,28 +52,20 @@ fn all_stay(alloc: Global, blocks: &[Block]) -> Result<Vec<Vec<u32>>, AllocError
     Ok(turns)
 }
 
-/// The turn of a write becomes that of one that goes. False where there is none that stays.
-fn put_in(row: &mut [u32], left: usize) -> bool
-    ensures put { result ≡ true → (left < length row.old) × (slice_index_or row.old left 0 ≡ 0) × (row.new ≡ slice_set row.old left 1) }
-    ensures same { result ≡ false → row.new ≡ row.old }
-{
-    if left >= row.len() || row[left] != 0 {
-        return false;
-    }
-    row[left] = 1;
-    true
-}
-
 /// The write goes that stands in a block with so many instructions behind it. False where there is none that stays.
 fn put_turn(turns: &mut [Vec<u32>], block: u32, left: usize) -> bool
     ensures one { result ≡ true → GoesOneMore turns.old turns.new block left }
-    ensures fewer { result ≡ true → staying turns.new < staying turns.old }
     ensures same { result ≡ false → turns.new ≡ turns.old }
+    ensures gone { result ≡ false → HasTurn (slice_get turns.old block) left → is_going (turn_of turns.old) block left ≡ true }
 {
-    if block as usize >= turns.len() {
+    if block as usize >= turns.len() || left >= turns[block as usize].len() {
         return false;
     }
-    put_in(&mut turns[block as usize], left)
+    if turn_at(turns, block, left) != 0 {
+        return false;
+    }
+    turns[block as usize][left] = 1;
+    true
 }
 
 /// A write goes, if it may, and nothing asks for its name behind it. Tells whether it is one more.
@@ -60,61 +77,20 @@ fn let_go(
     number: u32,
     left: usize,
     instruction: &Instr,
-) -> bool {
+) -> bool
+    ensures one { result ≡ true → GoesOneMore turns.old turns.new number left }
+    ensures free { result ≡ true → is_free ≡ true }
+    ensures unasked { result ≡ true → (x : ℕ) → target_of (instruction_view instruction.now) ≡ Some x
+        → bits_of marks.now count x ≡ false }
+    ensures same { result ≡ false → turns.new ≡ turns.old }
+    ensures asked { result ≡ false → is_free ≡ true → HasTurn (slice_get turns.old number) left
+        → is_going (turn_of turns.old) number left ≡ false → (x : ℕ) → target_of (instruction_view instruction.now) ≡ Some x
+        → bits_of marks.now count x ≡ true }
+{
     if !is_free || is_told(count, marks, instruction.target()) {
         return false;
     }
     put_turn(turns, number, left)
-}
-
-/// Writes of a block go, the last first. What is asked for at its start is so much less. Tells whether one went.
-fn let_go_back(
-    alloc: Global,
-    free: &[bool],
-    turns: &mut [Vec<u32>],
-    names: u32,
-    marks: &mut Marks,
-    number: u32,
-    blocks: &[Block],
-) -> Result<bool, AllocError> {
-    let count = blocks.len() as u32;
-    let block = &blocks[number as usize];
-    begin(alloc, count, names, marks, &block.end)?;
-    let mut is_less = false;
-    let instructions: &[Instr] = &block.instructions;
-    for left in 0..instructions.len() {
-        let at = instructions.len() - 1 - left;
-        let instruction = &instructions[at];
-        let went = let_go(flag(free, at), turns, count, marks, number, left, instruction);
-        is_less |= went;
-        let gone = is_gone(turns, number, left, instruction);
-        step_back(alloc, count, names, marks, instruction, gone)?;
-    }
-    marks.keep(count, number);
-    Ok(is_less)
-}
-
-/// Writes of the blocks go that paths reach, the last block first. Tells whether one went.
-fn let_all_go(
-    alloc: Global,
-    free: &[Vec<bool>],
-    reached: &Marks,
-    turns: &mut [Vec<u32>],
-    names: u32,
-    marks: &mut Marks,
-    blocks: &[Block],
-) -> Result<bool, AllocError> {
-    let count = blocks.len() as u32;
-    let mut is_less = false;
-    for passed in 0..count {
-        let number = count - 1 - passed;
-        if reached.get(0, number) {
-            let row = row_of(free, number);
-            let went = let_go_back(alloc, row, turns, names, marks, number, blocks)?;
-            is_less |= went;
-        }
-    }
-    Ok(is_less)
 }
 
 /// The flag of this number; false where there is none.
@@ -128,10 +104,110 @@ fn flag(flags: &[bool], number: usize) -> bool
 }
 
 /// The flags of a block.
-fn row_of(rows: &[Vec<bool>], number: u32) -> &[bool] {
+fn row_of(rows: &[Vec<bool>], number: u32) -> &[bool]
+    ensures { result.now ≡ flags_in (slice_get rows.now number) }
+{
     match rows.get(number as usize) {
         Some(row) => row.as_slice(),
         None => &[],
+    }
+}
+
+impl<'a> FreeGraph<'a> {
+    ghost use Rattle.dead_pass_rule.specs.Cascading.{assignments_of, graph_of};
+
+    /// Writes of a block go, the last first, where these may. Tells whether one went, and in the row behind those of the blocks what is asked for at its start.
+    fn walk_back(
+        &self,
+        alloc: Global,
+        free: &[bool],
+        turns: &mut [Vec<u32>],
+        marks: &mut Marks,
+        number: u32,
+        block: &Block,
+    ) -> Result<bool, AllocError>
+        requires block { slice_get (graph_of self.now).blocks number ≡ Some (block_view block.now) }
+        requires led { bits_of self.now.reached.now 0 number ≡ true }
+        requires free { AreFree (assignments_of self.now) (graph_of self.now) (block_view block.now) free.now }
+        requires sound { IsSound (assignments_of self.now) (graph_of self.now) turns.old marks.old }
+        ensures { IfOk result (λ is_less. WalksBack (assignments_of self.now) (graph_of self.now) number (block_view block.now)
+            turns.old marks.old (block_view block.now).instructions turns.new marks.new is_less) }
+    {
+        let names = self.graph.name_count;
+        begin(alloc, self.count, names, marks, &block.end)?;
+        let mut is_less = false;
+        let instructions: &[Instr] = &block.instructions;
+        for left in 0..instructions.len() {
+            let at = instructions.len() - 1 - left;
+            let instruction = &instructions[at];
+            let may_go = flag(free, at);
+            let went = let_go(may_go, turns, self.count, marks, number, left, instruction);
+            is_less |= went;
+            let gone = is_gone(turns, number, left, instruction);
+            step_back(alloc, self.count, names, marks, instruction, gone)?;
+        }
+        Ok(is_less)
+    }
+
+    /// Writes of a block go, if paths come to it. What is told at its start is so much less. Tells whether one went.
+    fn let_go_back(
+        &self,
+        alloc: Global,
+        turns: &mut [Vec<u32>],
+        marks: &mut Marks,
+        number: u32,
+    ) -> Result<bool, AllocError>
+        requires block { number < self.now.count }
+        requires sound { IsSound (assignments_of self.now) (graph_of self.now) turns.old marks.old }
+        ensures cascades { IfOk result (λ is_less. Cascades (assignments_of self.now) (graph_of self.now)
+            turns.old marks.old turns.new marks.new is_less) }
+        ensures needed { IfOk result (λ is_less. is_less ≡ false → AreAllAsked (graph_of self.now) turns.old marks.old
+            → bits_of self.now.reached.now 0 number ≡ true
+            → AllNeeded (assignments_of self.now) (graph_of self.now) (turn_of turns.old) number) }
+    {
+        if !self.reached.get(0, number) {
+            return Ok(false);
+        }
+        let block = &self.graph.blocks[number as usize];
+        let free = row_of(&self.free, number);
+        let is_less = self.walk_back(alloc, free, turns, marks, number, block)?;
+        marks.keep(self.count, number);
+        Ok(is_less)
+    }
+
+    /// Writes of the blocks go, the last block first. Tells whether one went.
+    fn let_all_go(
+        &self,
+        alloc: Global,
+        turns: &mut [Vec<u32>],
+        marks: &mut Marks,
+    ) -> Result<bool, AllocError>
+        requires sound { IsSound (assignments_of self.now) (graph_of self.now) turns.old marks.old }
+        ensures cascades { IfOk result (λ is_less. Cascades (assignments_of self.now) (graph_of self.now)
+            turns.old marks.old turns.new marks.new is_less) }
+        ensures needed { IfOk result (λ is_less. is_less ≡ false → AreAllAsked (graph_of self.now) turns.old marks.old
+            → AllStay (assignments_of self.now) (graph_of self.now) (turn_of turns.old) (bits_of self.now.reached.now 0)) }
+    {
+        let mut is_less = false;
+        for passed in 0..self.count {
+            let number = self.count - 1 - passed;
+            let went = self.let_go_back(alloc, turns, marks, number)?;
+            is_less |= went;
+        }
+        Ok(is_less)
+    }
+
+    /// The writes that go: none more could.
+    fn idle(&self, alloc: Global) -> Result<Vec<Vec<u32>>, AllocError>
+        ensures { IfOk result (λ turns. AreIdle (assignments_of self.now) (graph_of self.now) (is_going (turn_of turns.items))) }
+    {
+        let mut turns = all_stay(alloc, &self.graph.blocks)?;
+        let mut is_less = true;
+        while is_less {
+            let mut marks = asked_names(alloc, &turns, self.graph.name_count, &self.graph.blocks)?;
+            is_less = self.let_all_go(alloc, &mut turns, &mut marks)?;
+        }
+        Ok(turns)
     }
 }
 
@@ -143,15 +219,26 @@ pub fn idle_writes(
     flow: &FlowTable,
     writes: &PlaceWrites,
     reached: &Marks,
-) -> Result<Vec<Vec<u32>>, AllocError> {
-    let blocks: &[Block] = &graph.blocks;
-    let names = graph.name_count;
-    let free = FreeWrites::of(graph, writes, flow).free_blocks(alloc, blocks)?;
-    let mut turns = all_stay(alloc, blocks)?;
-    let mut is_less = true;
-    while is_less {
-        let mut marks = asked_names(alloc, &turns, names, blocks)?;
-        is_less = let_all_go(alloc, &free, reached, &mut turns, names, &mut marks, blocks)?;
-    }
-    Ok(turns)
+) -> Result<Vec<Vec<u32>>, AllocError>
+    requires few { length (graph_view graph.now).blocks + 2 < 2 ^ 32 }
+    requires led { AreLed (graph_view graph.now).blocks (bits_of reached.now 0) }
+    requires named { AreNamed (graph_view graph.now).blocks graph.now.name_count }
+    requires tells { Tells (graph_view graph.now) writes.now }
+    ensures { IfOk result (λ turns. AreIdle flow.now.assignments.items (graph_view graph.now) (is_going (turn_of turns.items))) }
+{
+    let frees = FreeWrites {
+        graph,
+        writes,
+        flow,
+    };
+    let free = frees.free_blocks(alloc, &graph.blocks)?;
+    let count = graph.blocks.len() as u32;
+    let idle = FreeGraph {
+        graph,
+        flow,
+        reached,
+        free,
+        count,
+    };
+    idle.idle(alloc)
 }
