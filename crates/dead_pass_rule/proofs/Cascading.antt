@@ -2,7 +2,7 @@
 use Rattle.std.proofs.Common.{◌≡◌, ◌≢◌, ℕ, suc, ◌+◌, ◌<◌, ◌⊎◌, inl, inr, Bool, true, false, true≢false, Option, Some, List, [], ◌∷◌, ◌++◌, length, refl, sym, ap, ◌∙◌, subst, arith, length-append}
 use Rattle.std.specs.Prelude.{◌&&◌, slice_get}
 use Rattle.std.proofs.lemmas.Bool.{cases_eq}
-use Rattle.std.proofs.lemmas.Option.{same_Some}
+use Rattle.std.proofs.lemmas.Option.{same_Some, slice_get_within}
 use Rattle.places.specs.declared.flow.Assignment.{Assignment}
 use Rattle.graph_core.specs.Graphs.{Instruction, End, Block, Graph}
 use Rattle.graph_core.specs.Validity.{place_behind}
@@ -57,9 +57,9 @@ module _ (assignments : List Assignment) (g : Graph) (names : ℕ) (led : ℕ �
 
   -- what is told of a block may be what it was and a walk back over it tells
   pub over_less : (turns : Turns) (told less : (x n : ℕ) → Bool) (n : ℕ) (b : Block) → slice_get g.blocks n ≡ Some b → (walk : (x : ℕ) → Bool) → ((x : ℕ) → x < names → TellsAsked turns (told x) (length g.blocks) x n (walk x) b.instructions b.end)
-      → ((x : ℕ) → less x n ≡ (walk x && told x n)) → ((x m : ℕ) → m ≢ n → less x m ≡ told x m) → AreOver turns told → AreOver turns less
+      → ((x : ℕ) → less x n ≡ (walk x && told x n)) → ((x m : ℕ) → m < length g.blocks → m ≢ n → less x m ≡ told x m) → AreOver turns told → AreOver turns less
   over_less turns told less n b at walk walked here others over m x c there named = elim (cases_eq m n) [
-    | inr other ↦ subst (λ v. TellsAsked turns (less x) (length g.blocks) x m v c.instructions c.end) (sym (others x m other)) (lower m (told x m) c.instructions c.end (over m x c there named))
+    | inr other ↦ subst (λ v. TellsAsked turns (less x) (length g.blocks) x m v c.instructions c.end) (sym (others x m (slice_get_within g.blocks m c there) other)) (lower m (told x m) c.instructions c.end (over m x c there named))
     | inl same ↦ (let one_block : b ≡ c = same_Some b c (sym at ∙ ap (λ k. slice_get g.blocks k) (sym same) ∙ there) in
         let both_tell : TellsAsked turns (told x) (length g.blocks) x n (walk x && told x n) b.instructions b.end = tells_both turns g.blocks (told x) (length g.blocks) x n (walk x) (told x n) b.instructions b.end (walked x named) (over n x b at named) in
         let now : TellsAsked turns (less x) (length g.blocks) x n (less x n) b.instructions b.end =
@@ -72,14 +72,14 @@ module _ (assignments : List Assignment) (g : Graph) (names : ℕ) (led : ℕ �
       second true q e = e
       second false q e = absurd (true≢false (sym e))
 
-      no_more : (l : ℕ) → less x l ≡ true → told x l ≡ true
-      no_more l e = elim (cases_eq l n) [
-        | inr other ↦ sym (others x l other) ∙ e
+      no_more : (l : ℕ) → l < length g.blocks → less x l ≡ true → told x l ≡ true
+      no_more l lt e = elim (cases_eq l n) [
+        | inr other ↦ sym (others x l lt other) ∙ e
         | inl same ↦ subst (λ k. told x k ≡ true) (sym same) (second (walk x) (told x n) (sym (here x) ∙ subst (λ k. less x k ≡ true) same e))
       ]
 
       lower : (k : ℕ) (v : Bool) (l : List Instruction) (f : End) → TellsAsked turns (told x) (length g.blocks) x k v l f → TellsAsked turns (less x) (length g.blocks) x k v l f
-      lower k v l f tells = tells_less turns g.blocks (told x) (less x) (length g.blocks) x k v l f (λ m lt e. no_more m e) tells
+      lower k v l f tells = tells_less turns g.blocks (told x) (less x) (length g.blocks) x k v l f (λ m lt e. no_more m lt e) tells
 
 -- one write more that stays is asked for
 pub needed_next : (assignments : List Assignment) (g : Graph) (turns : Turns) (n : ℕ) (b : Block) (before rest : List Instruction) (i : Instruction) → b.instructions ≡ before ++ i ∷ rest

@@ -6,3 +6,4 @@ pub mod Freeing
 pub mod Turning
 pub mod AskedFlow
 pub mod Cascading
+pub mod Passing

@@ -11,41 +11,41 @@ use Rattle.dead_pass_rule.specs.Asking.{Turns, is_going, is_gone, IsAsked, by_en
 use Rattle.dead_pass_rule.specs.Walks.{IsTable, AreSameBut, AreSameBelow, AreAsked, IsToldOfOne}
 use Rattle.dead_pass_rule.proofs.Certificate.{tells_more, tells_on_going}
 
--- What a walk back over a block has found behind a point.
-pub record IsWalked (turns : Turns) (blocks names n : ℕ) (e : End) (first now : Marks) (rest : List Instruction) : Type 0 where
-  pub asked : (all : List Block) → AreAsked turns all blocks names first → (x : ℕ) → x < names → bits_of now blocks x ≡ true → IsAsked turns all x n rest e
-  pub tells : (x : ℕ) → x < names → TellsAsked turns (λ l. bits_of first l x) blocks x n (bits_of now blocks x) rest e
+-- Of each name it is told at least where something asks for it that stays, and just there where so it is told of blocks: at the end of a block, and before one instruction more.
+module _ (turns : Turns) (blocks names n : ℕ) (e : End) (first now : Marks) where
+  abbrev Tells : (now : Marks) → List Instruction → Type 0
+  Tells now rest = (x : ℕ) → x < names → TellsAsked turns (λ l. bits_of first l x) blocks x n (bits_of now blocks x) rest e
 
-module _ (turns : Turns) (blocks names n : ℕ) (e : End) (first : Marks) where
-  pub walked_first : (now : Marks) → ((l : ℕ) → l < blocks → Among l (targets_of e) → (x : ℕ) → x < names → bits_of first l x ≡ true → bits_of now blocks x ≡ true)
-      → ((x : ℕ) → x < names → Among x (reads_of_end e) → bits_of now blocks x ≡ true)
-      → ((x : ℕ) → x < names → bits_of now blocks x ≡ true → Among x (reads_of_end e) ⊎ IsToldOfOne blocks e first x) → IsWalked turns blocks names n e first now []
-  walked_first now come read only = record {
-    asked = λ all are x lt b. elim (only x lt b) [
-      | inl among ↦ by_end among
-      | inr one ↦ (let there = are one.l x one.within lt one.told in leads there.block one.among there.is there.asked)
-    ];
-    tells = λ x lt. ((λ among. read x lt among), (λ l small to was. come l small to x lt was));
-  }
+  pub tells_first : ((l : ℕ) → l < blocks → Among l (targets_of e) → (x : ℕ) → x < names → bits_of first l x ≡ true → bits_of now blocks x ≡ true)
+      → ((x : ℕ) → x < names → Among x (reads_of_end e) → bits_of now blocks x ≡ true) → Tells now []
+  tells_first come read x lt = ((λ among. read x lt among), (λ l small to was. come l small to x lt was))
 
-  not_not : (b : Bool) → not b ≡ true → b ≡ false
-  not_not true q = sym q
-  not_not false q = refl
+  pub asked_first : ((x : ℕ) → x < names → bits_of now blocks x ≡ true → Among x (reads_of_end e) ⊎ IsToldOfOne blocks e first x)
+      → (all : List Block) → AreAsked turns all blocks names first → (x : ℕ) → x < names → bits_of now blocks x ≡ true → IsAsked turns all x n [] e
+  asked_first only all are x lt b = elim (only x lt b) [
+    | inl among ↦ by_end among
+    | inr one ↦ (let there = are one.l x one.within lt one.told in leads there.block one.among there.is there.asked)
+  ]
 
-  pub walked_next : (now more : Marks) (i : Instruction) (rest : List Instruction) (gone : Bool) → gone ≡ is_gone turns n (length rest) i
-      → ((x : ℕ) → x < names → bits_of more blocks x ≡ ((not gone && reads x i) || (not (writes x i) && bits_of now blocks x))) → IsWalked turns blocks names n e first now rest → IsWalked turns blocks names n e first more (i ∷ rest)
-  walked_next now more i rest gone is_gone_now step w = record {
-    asked = λ all are x lt b. at_either all are x lt (or_cases (not gone && reads x i) (not (writes x i) && bits_of now blocks x) (sym (step x lt) ∙ b));
-    tells = λ x lt. (
-      (λ a. step x lt ∙ or_left (not gone && reads x i) (not (writes x i) && bits_of now blocks x) (ap (λ z. not z && reads x i) is_gone_now ∙ a)),
+  module _ (more : Marks) (i : Instruction) (rest : List Instruction) (gone : Bool) (is : gone ≡ is_gone turns n (length rest) i)
+      (step : (x : ℕ) → x < names → bits_of more blocks x ≡ ((not gone && reads x i) || (not (writes x i) && bits_of now blocks x))) where
+    pub tells_next : Tells now rest → Tells more (i ∷ rest)
+    tells_next tells x lt = (
+      (λ a. step x lt ∙ or_left (not gone && reads x i) (not (writes x i) && bits_of now blocks x) (ap (λ z. not z && reads x i) is ∙ a)),
       (λ unwritten. tells_more turns [] (λ l. bits_of first l x) blocks x n (bits_of now blocks x) (bits_of more blocks x) rest e
-          (λ was. step x lt ∙ or_right (not gone && reads x i) (not (writes x i) && bits_of now blocks x) (ap (λ z. not z && bits_of now blocks x) unwritten ∙ was)) (w.tells x lt)),
-    );
-  }
-    where
-      at_either : (all : List Block) → AreAsked turns all blocks names first → (x : ℕ) → x < names → (((not gone && reads x i) ≡ true) ⊎ ((not (writes x i) && bits_of now blocks x) ≡ true)) → IsAsked turns all x n (i ∷ rest) e
-      at_either all are x lt (inl a) = next (ap (λ z. not z && reads x i) (sym is_gone_now) ∙ a)
-      at_either all are x lt (inr b) = (let both = and_parts (not (writes x i)) (bits_of now blocks x) b in later (not_not (writes x i) both.0) (w.asked all are x lt both.1))
+          (λ was. step x lt ∙ or_right (not gone && reads x i) (not (writes x i) && bits_of now blocks x) (ap (λ z. not z && bits_of now blocks x) unwritten ∙ was)) (tells x lt)),
+    )
+
+    pub asked_next : (all : List Block) → ((x : ℕ) → x < names → bits_of now blocks x ≡ true → IsAsked turns all x n rest e) → (x : ℕ) → x < names → bits_of more blocks x ≡ true → IsAsked turns all x n (i ∷ rest) e
+    asked_next all asked x lt b = by_part (or_cases (not gone && reads x i) (not (writes x i) && bits_of now blocks x) (sym (step x lt) ∙ b))
+      where
+        not_not : (z : Bool) → not z ≡ true → z ≡ false
+        not_not true q = sym q
+        not_not false q = refl
+
+        by_part : (((not gone && reads x i) ≡ true) ⊎ ((not (writes x i) && bits_of now blocks x) ≡ true)) → IsAsked turns all x n (i ∷ rest) e
+        by_part (inl a) = next (ap (λ z. not z && reads x i) (sym is) ∙ a)
+        by_part (inr later_on) = (let both = and_parts (not (writes x i)) (bits_of now blocks x) later_on in later (not_not (writes x i) both.0) (asked x lt both.1))
 
 -- where a write goes that nothing asks for, nothing more is asked for
 pub walked_going : (turns more : Turns) (blocks names n : ℕ) (e : End) (first now : Marks) (rest : List Instruction) → ((m k : ℕ) → is_going turns m k ≡ true → is_going more m k ≡ true)
