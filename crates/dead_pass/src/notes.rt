@@ -200,25 +200,23 @@ fn blocks_left(
     Ok(left)
 }
 
-/// What is left of a graph, whose notes tell of what goes by these changes. None where it has 2^31 blocks or more.
+/// What is left of a graph, whose notes tell of what goes by these changes.
 pub fn graph_left(
     alloc: Global,
     idle: &IdleGraph<'_>,
     removed: &RemovedChanges,
-) -> Result<Option<Graph>, AllocError>
+) -> Result<Graph, AllocError>
     requires { IsBorneOut idle.now }
-    ensures left { IfOk result (λ o. IfSome o (λ left. IsReduced (assignments_of idle.now) (graph_of idle.now) (graph_view left))) }
-    ensures notes { IfOk result (λ o. IfSome o (λ left. (log : List Logged) (u : UnitForm) → AreToldOf log removed.now → IsGraph u (graph_of idle.now) → SaysWhatItShall (assignments_of idle.now) log (graph_of idle.now) (graph_view left))) }
+    ensures left { IfOk result (λ left. IsReduced (assignments_of idle.now) (graph_of idle.now) (graph_view left)) }
+    ensures notes { IfOk result (λ left. (log : List Logged) (u : UnitForm) → AreToldOf log removed.now → IsGraph u (graph_of idle.now) → SaysWhatItShall (assignments_of idle.now) log (graph_of idle.now) (graph_view left)) }
 {
     if idle.stays() {
         let same = idle.graph.duplicate(alloc)?;
-        return Ok(Some(same));
+        return Ok(same);
     }
-    let Some(mut notes) = Notes::new(alloc, idle, removed)? else {
-        return Ok(None);
-    };
+    let mut notes = Notes::new(alloc, idle, removed)?;
     let blocks = blocks_left(alloc, idle, &mut notes, &idle.graph.blocks)?;
-    Ok(Some(Graph {
+    Ok(Graph {
         entry: idle.graph.entry,
         parameters: Vec::from_slice(alloc, &idle.graph.parameters)?,
         scalars: Vec::from_slice(alloc, &idle.graph.scalars)?,
@@ -226,5 +224,5 @@ pub fn graph_left(
         name_count: idle.graph.name_count,
         first_moved: idle.graph.first_moved,
         blocks,
-    }))
+    })
 }

@@ -1,9 +1,10 @@
 //! A graph and what goes of it.
 
-ghost use Rattle.std.specs.Prelude.{◌≡◌, ℕ, ◌<◌, ◌^◌, IfOk, IfSome, None, false, length, slice_index_or, true};
+ghost use Rattle.std.specs.Prelude.{◌≡◌, ℕ, ◌+◌, ◌<◌, ◌^◌, IfOk, IfSome, None, false, length, slice_index_or, true};
 ghost use Rattle.graph_core.specs.Graphs.{Name as OfName, graph_view, operand_view};
 ghost use Rattle.graph_core.specs.WellMarked.{IsLocal};
 ghost use Rattle.dead_pass_rule.specs.Asking.{is_going};
+ghost use Rattle.dead_pass_rule.specs.Free.{AreNamed};
 ghost use Rattle.dead_pass_rule.specs.Walks.{turn_of};
 ghost use Rattle.graph_paths.specs.PathMarksTable.{bits_of};
 
@@ -26,7 +27,7 @@ pub struct IdleGraph<'a> {
     pub turns: Vec<Vec<u32>>,
     /// The blocks that paths reach, as bits of a row.
     pub reached: Marks,
-    pub ghost few: { length graph.now.blocks.items < 2 ^ 32 },
+    pub ghost few: { length graph.now.blocks.items + 2 < 2 ^ 32 },
 }
 
 /// Whether all writes of a block stay.
@@ -44,29 +45,28 @@ fn all_stay(turns: &[u32]) -> bool
 impl<'a> IdleGraph<'a> {
     ghost use Rattle.dead_pass_notes.specs.Idle.{IsBorneOut, assignments_of, graph_of};
 
-    /// A graph and what goes of it. None where that is not borne out, which no graph is known to meet.
+    /// A graph and what goes of it.
     pub fn new(
         alloc: Global,
         graph: &'a Graph,
         flow: &'a FlowTable,
-    ) -> Result<Option<IdleGraph<'a>>, AllocError>
-        ensures graph { IfOk result (λ o. IfSome o (λ idle. graph_of idle ≡ graph_view graph.now)) }
-        ensures assignments { IfOk result (λ o. IfSome o (λ idle. assignments_of idle ≡ flow.now.assignments.items)) }
-        ensures borne_out { IfOk result (λ o. IfSome o (λ idle. IsBorneOut idle)) }
+    ) -> Result<IdleGraph<'a>, AllocError>
+        requires few { length graph.now.blocks.items + 2 < 2 ^ 32 }
+        requires named { AreNamed (graph_view graph.now).blocks graph.now.name_count }
+        ensures graph { IfOk result (λ idle. graph_of idle ≡ graph_view graph.now) }
+        ensures assignments { IfOk result (λ idle. assignments_of idle ≡ flow.now.assignments.items) }
+        ensures borne_out { IfOk result (λ idle. IsBorneOut idle) }
     {
-        if graph.blocks.len() > 0xffff_ffff {
-            return Ok(None);
-        }
         let writes = PlaceWrites::new(alloc, graph)?;
         let reached = reached_blocks(alloc, &graph.blocks)?;
         let turns = idle_writes(alloc, graph, flow, &writes, &reached)?;
-        Ok(Some(IdleGraph {
+        Ok(IdleGraph {
             graph,
             flow,
             writes,
             turns,
             reached,
-        }))
+        })
     }
 
     /// Whether nothing goes.

@@ -132,29 +132,26 @@ impl<'a> Notes<'a> {
     ghost use Rattle.dead_pass_notes.specs.Sources.{HasRoom, IsKnown, IsSaidAt};
     ghost use Rattle.dead_pass_notes.specs.RemovalNotesStale.{AreKnown, HasComeBehind, HasOtherWays, HasSameWays};
 
-    /// What is known of a graph before anything is gone over. What goes is told by these changes. None where it has 2^31 blocks or more.
+    /// What is known of a graph before anything is gone over. What goes is told by these changes.
     pub fn new(
         alloc: Global,
         idle: &IdleGraph<'_>,
         removed: &'a RemovedChanges,
-    ) -> Result<Option<Notes<'a>>, AllocError>
+    ) -> Result<Notes<'a>, AllocError>
         requires { IsBorneOut idle.now }
-        ensures known { IfOk result (λ o. IfSome o (λ notes. AreKnown idle.now notes)) }
-        ensures room { IfOk result (λ o. IfSome o (λ notes. HasRoom idle.now notes.ways)) }
-        ensures removed { IfOk result (λ o. IfSome o (λ notes. notes.removed.now ≡ removed.now)) }
+        ensures known { IfOk result (λ notes. AreKnown idle.now notes) }
+        ensures room { IfOk result (λ notes. HasRoom idle.now notes.ways) }
+        ensures removed { IfOk result (λ notes. notes.removed.now ≡ removed.now) }
     {
         let order = reached_in_order(alloc, &idle.graph.blocks)?;
-        if idle.graph.blocks.len() > 0x7fff_ffff {
-            return Ok(None);
-        }
         let stale = stale_names(alloc, idle.graph, &idle.turns, &idle.reached, &order)?;
-        Ok(Some(Notes {
+        Ok(Notes {
             removed,
             stale,
             blocks: idle.graph.blocks.len() as u32,
             names: idle.graph.name_count,
             ways: Ways::new(alloc, idle.graph.blocks.len())?,
-        }))
+        })
     }
 
     /// What the note of an assignment that goes says: a recipe, or else the change.

@@ -100,9 +100,9 @@ to_once assignments g n b before rest i at parts free = record {
 -- what is told of a block of a graph is told of what stands there
 pub are_free : (assignments : List Assignment) (g : Graph) (n : ℕ) (b : Block) (told : Option (Vec Bool Global)) → slice_get g.blocks n ≡ Some b → AreFreeOnce assignments g b told → AreFree assignments g b (flags_in told)
 are_free assignments g n b None at are = absurd are
-are_free assignments g n b (Some told) at are before rest i parts =
-    let here : (slice_index_or told.items (length before) false ≡ true) ↔ IsFreeOnce assignments g (place_behind before b.place) i =
+are_free assignments g n b (Some told) at are = λ before rest i parts.
+    (let here : (slice_index_or told.items (length before) false ≡ true) ↔ IsFreeOnce assignments g (place_behind before b.place) i =
     free_at assignments g b.place before i rest told.items (subst (λ l. AreFreeFrom assignments g b.place l told.items) parts are) in (
       (λ e. of_once assignments g (place_behind before b.place) i (here.0 e)),
       (λ free. here.1 (to_once assignments g n b before rest i at parts free)),
-    )
+    ))

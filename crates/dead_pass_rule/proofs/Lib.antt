@@ -6,4 +6,5 @@ pub mod Freeing
 pub mod Turning
 pub mod AskedFlow
 pub mod Cascading
+pub mod BlockRows
 pub mod Passing

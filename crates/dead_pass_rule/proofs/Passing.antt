@@ -210,3 +210,21 @@ falls old new was true on fewer same = (let one : (if was then 1 else 0) ≡ 1 =
 falls old new was false on fewer same =
     (let one : (if was then 1 else 0) ≡ 1 = ap (λ z. if z then 1 else 0) on in
     let counts : staying new ≡ staying old = ap (λ (l : List (Vec ℕ Global)). staying l) (same refl) in omega (arith, one, counts))
+
+-- one block more is gone over
+pub needed_on : (assignments : List Assignment) (g : Graph) (led : ℕ → Bool) (turns middle : List (Vec ℕ Global)) (marks between : Marks) (one two : Bool) (count passed number : ℕ) → number + passed + 1 ≡ count
+    → Cascades assignments g turns marks middle between one
+    → (one ≡ false → AreAllAsked g turns marks → (m : ℕ) → m < count → count ≤ m + passed → led m ≡ true → AllNeeded assignments g (turn_of turns) m)
+    → (two ≡ false → AreAllAsked g middle between → led number ≡ true → AllNeeded assignments g (turn_of middle) number)
+    → (one || two) ≡ false → AreAllAsked g turns marks → (m : ℕ) → m < count → count ≤ m + (passed + 1) → led m ≡ true → AllNeeded assignments g (turn_of turns) m
+needed_on assignments g led turns middle marks between one two count passed number at first before here none asked m lt le reached = elim (cases_eq m number) [
+  | inr other ↦ before (or_none one two none).0 asked m lt (omega (arith, le, at, other)) reached
+  | inl same ↦ (let kept : middle ≡ turns = first.same (or_none one two none).0 in
+      let asked_between : AreAllAsked g middle between = subst (λ l. AreAllAsked g l between) (sym kept) (asked_less assignments g turns marks between first.less asked) in
+      let needed : AllNeeded assignments g (turn_of middle) number = here (or_none one two none).1 asked_between (ap led (sym same) ∙ reached) in
+      subst (λ k. AllNeeded assignments g (turn_of turns) k) (sym same) (subst (λ l. AllNeeded assignments g (turn_of l) number) kept needed))
+]
+
+-- where nothing goes, nothing goes that shall not
+pub none_gone : (assignments : List Assignment) (g : Graph) (turns : List (Vec ℕ Global)) → ((n left : ℕ) → is_going (turn_of turns) n left ≡ false) → AllGo assignments g (turn_of turns)
+none_gone assignments g turns none n b before rest i at parts going = absurd (true≢false (sym going ∙ none n (length rest)))

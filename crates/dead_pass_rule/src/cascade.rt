@@ -9,7 +9,7 @@ ghost use Rattle.dead_pass_writes.specs.Telling.{Tells};
 ghost use Rattle.dead_pass_rule.specs.Asking.{is_going};
 ghost use Rattle.dead_pass_rule.specs.Cascade.{AllGo, AllNeeded, AllStay, AreAllAsked, Cascades, GoesOneMore, HasTurn, HaveRows, IsSound, WalksBack};
 ghost use Rattle.dead_pass_rule.specs.Certified.{AreIdle};
-ghost use Rattle.dead_pass_rule.specs.Free.{AreAllFree, AreFree, AreNamed, flags_in};
+ghost use Rattle.dead_pass_rule.specs.Free.{AreFree, AreNamed, flags_in};
 ghost use Rattle.dead_pass_rule.specs.Walks.{turn_of};
 
 use crate::asked::{asked_names, begin, is_told, step_back};
@@ -30,14 +30,9 @@ struct FreeGraph<'a> {
     /// The blocks that paths reach, as bits of a row.
     reached: &'a Marks,
     /// For each block by how many instructions stand before a write whether it may go.
-    free: Vec<Vec<bool>>,
+    may_go: Vec<Vec<bool>>,
     /// How many blocks it has.
     count: u32,
-    ghost blocks: { count ≡ length (graph_view graph.now).blocks },
-    ghost few: { count + 2 < 2 ^ 32 },
-    ghost led: { AreLed (graph_view graph.now).blocks (bits_of reached.now 0) },
-    ghost named: { AreNamed (graph_view graph.now).blocks graph.now.name_count },
-    ghost may_go: { AreAllFree flow.now.assignments.items (graph_view graph.now) free.items },
 }
 
 /// All writes of blocks stay.
@@ -114,7 +109,7 @@ fn row_of(rows: &[Vec<bool>], number: u32) -> &[bool]
 }
 
 impl<'a> FreeGraph<'a> {
-    ghost use Rattle.dead_pass_rule.specs.Cascading.{assignments_of, graph_of};
+    ghost use Rattle.dead_pass_rule.specs.Cascading.{IsTold, assignments_of, graph_of};
 
     /// Writes of a block go, the last first, where these may. Tells whether one went, and in the row behind those of the blocks what is asked for at its start.
     fn walk_back(
@@ -126,9 +121,10 @@ impl<'a> FreeGraph<'a> {
         number: u32,
         block: &Block,
     ) -> Result<bool, AllocError>
+        requires told { IsTold self.now }
         requires block { slice_get (graph_of self.now).blocks number ≡ Some (block_view block.now) }
         requires led { bits_of self.now.reached.now 0 number ≡ true }
-        requires free { AreFree (assignments_of self.now) (graph_of self.now) (block_view block.now) free.now }
+        requires may_go { AreFree (assignments_of self.now) (graph_of self.now) (block_view block.now) free.now }
         requires sound { IsSound (assignments_of self.now) (graph_of self.now) turns.old marks.old }
         ensures { IfOk result (λ is_less. WalksBack (assignments_of self.now) (graph_of self.now) number (block_view block.now)
             turns.old marks.old (block_view block.now).instructions turns.new marks.new is_less) }
@@ -157,6 +153,7 @@ impl<'a> FreeGraph<'a> {
         marks: &mut Marks,
         number: u32,
     ) -> Result<bool, AllocError>
+        requires told { IsTold self.now }
         requires block { number < self.now.count }
         requires sound { IsSound (assignments_of self.now) (graph_of self.now) turns.old marks.old }
         ensures cascades { IfOk result (λ is_less. Cascades (assignments_of self.now) (graph_of self.now)
@@ -169,7 +166,7 @@ impl<'a> FreeGraph<'a> {
             return Ok(false);
         }
         let block = &self.graph.blocks[number as usize];
-        let free = row_of(&self.free, number);
+        let free = row_of(&self.may_go, number);
         let is_less = self.walk_back(alloc, free, turns, marks, number, block)?;
         marks.keep(self.count, number);
         Ok(is_less)
@@ -182,6 +179,7 @@ impl<'a> FreeGraph<'a> {
         turns: &mut [Vec<u32>],
         marks: &mut Marks,
     ) -> Result<bool, AllocError>
+        requires told { IsTold self.now }
         requires sound { IsSound (assignments_of self.now) (graph_of self.now) turns.old marks.old }
         ensures cascades { IfOk result (λ is_less. Cascades (assignments_of self.now) (graph_of self.now)
             turns.old marks.old turns.new marks.new is_less) }
@@ -199,6 +197,7 @@ impl<'a> FreeGraph<'a> {
 
     /// The writes that go: none more could.
     fn idle(&self, alloc: Global) -> Result<Vec<Vec<u32>>, AllocError>
+        requires { IsTold self.now }
         ensures { IfOk result (λ turns. AreIdle (assignments_of self.now) (graph_of self.now) (is_going (turn_of turns.items))) }
     {
         let mut turns = all_stay(alloc, &self.graph.blocks)?;
@@ -220,7 +219,7 @@ pub fn idle_writes(
     writes: &PlaceWrites,
     reached: &Marks,
 ) -> Result<Vec<Vec<u32>>, AllocError>
-    requires few { length (graph_view graph.now).blocks + 2 < 2 ^ 32 }
+    requires few { length graph.now.blocks.items + 2 < 2 ^ 32 }
     requires led { AreLed (graph_view graph.now).blocks (bits_of reached.now 0) }
     requires named { AreNamed (graph_view graph.now).blocks graph.now.name_count }
     requires tells { Tells (graph_view graph.now) writes.now }
@@ -231,13 +230,13 @@ pub fn idle_writes(
         writes,
         flow,
     };
-    let free = frees.free_blocks(alloc, &graph.blocks)?;
+    let may_go = frees.free_blocks(alloc, &graph.blocks)?;
     let count = graph.blocks.len() as u32;
     let idle = FreeGraph {
         graph,
         flow,
         reached,
-        free,
+        may_go,
         count,
     };
     idle.idle(alloc)

@@ -1,6 +1,6 @@
 //! Which writes of a graph may go, if nothing asks for their names.
 
-ghost use Rattle.std.specs.Prelude.{◌≡◌, ◌↔◌, IfOk, List, map, slice_get, true, ℕ, Some};
+ghost use Rattle.std.specs.Prelude.{◌≡◌, ◌↔◌, [], ◌∷◌, IfOk, List, map, slice_get, true, ℕ, Some};
 ghost use Rattle.graph_core.specs.Graphs.{Block as BlockForm, block_view, graph_view, instruction_view};
 ghost use Rattle.graph_core.specs.Validity as behind;
 ghost use Rattle.dead_pass_writes.specs.Telling.{Tells};
@@ -19,7 +19,6 @@ pub struct FreeWrites<'a> {
     pub graph: &'a Graph,
     pub writes: &'a PlaceWrites,
     pub flow: &'a FlowTable,
-    pub ghost tells: { Tells (graph_view graph.now) writes.now },
 }
 
 /// The place in force behind an instruction.
@@ -33,10 +32,9 @@ fn place_behind(place: Option<Place>, instruction: &Instr) -> Option<Place>
 }
 
 impl<'a> FreeWrites<'a> {
-    ghost use Rattle.std.specs.Prelude.{[], ◌∷◌};
-
     /// Whether one instruction writes a name in a place, and nothing else does.
     fn is_once(&self, place: Place, name: Name) -> bool
+        requires { Tells (graph_view self.now.graph.now) self.now.writes.now }
         ensures { (result ≡ true) ↔ IsWrittenOnce (graph_view self.now.graph.now) place.0 name.0 }
     {
         match self.writes.only(place.0, name.0) {
@@ -57,6 +55,7 @@ impl<'a> FreeWrites<'a> {
 
     /// Whether a write of a name in a place may go, if it stands there.
     fn may_go(&self, place: Place, name: Name) -> bool
+        requires { Tells (graph_view self.now.graph.now) self.now.writes.now }
         ensures { (result ≡ true)
             ↔ MayGoOnce self.now.flow.now.assignments.items (graph_view self.now.graph.now) place.0 name.0 }
     {
@@ -68,6 +67,7 @@ impl<'a> FreeWrites<'a> {
 
     /// Whether what an instruction writes where a place is in force may go, if it stands there.
     fn is_free(&self, place: Option<Place>, instruction: &Instr) -> bool
+        requires { Tells (graph_view self.now.graph.now) self.now.writes.now }
         ensures { (result ≡ true) ↔ IsFreeOnce self.now.flow.now.assignments.items (graph_view self.now.graph.now)
             (placed place) (instruction_view instruction.now) }
     {
@@ -84,6 +84,7 @@ impl<'a> FreeWrites<'a> {
         place: Option<Place>,
         instructions: &[Instr],
     ) -> Result<Vec<bool>, AllocError>
+        requires { Tells (graph_view self.now.graph.now) self.now.writes.now }
         ensures { IfOk result (λ told. AreFreeFrom self.now.flow.now.assignments.items (graph_view self.now.graph.now)
             (placed place) (map instruction_view instructions.now) told.items) }
     {
@@ -98,6 +99,7 @@ impl<'a> FreeWrites<'a> {
 
     /// Tells of each instruction of a block whether what it writes may go.
     fn free_block(&self, alloc: Global, block: &Block) -> Result<Vec<bool>, AllocError>
+        requires { Tells (graph_view self.now.graph.now) self.now.writes.now }
         ensures { IfOk result (λ told. AreFreeFrom self.now.flow.now.assignments.items (graph_view self.now.graph.now)
             (block_view block.now).place (block_view block.now).instructions told.items) }
     {
@@ -110,6 +112,7 @@ impl<'a> FreeWrites<'a> {
         alloc: Global,
         blocks: &[Block],
     ) -> Result<Vec<Vec<bool>>, AllocError>
+        requires { Tells (graph_view self.now.graph.now) self.now.writes.now }
         ensures { IfOk result (λ told. (n : ℕ) (b : BlockForm) → slice_get (map block_view blocks.now) n ≡ Some b
             → AreFreeOnce self.now.flow.now.assignments.items (graph_view self.now.graph.now) b (slice_get told.items n)) }
     {

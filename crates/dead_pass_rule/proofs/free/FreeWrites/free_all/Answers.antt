@@ -1,4 +1,4 @@
-use Rattle.std.proofs.Common.{map, ap, subst, arith}
+use Rattle.std.proofs.Common.{map, sym, ap, subst, arith}
 use Rattle.std.proofs.lemmas.List.{drop_all}
 use Rattle.graph_core.specs.Graphs.{graph_view, instruction_view}
 use Rattle.dead_pass_rule.specs.Free.{placed}
@@ -7,7 +7,11 @@ use Rattle.base_laws.proofs.Lists.{drop_item}
 use Rattle.dead_pass_rule.proofs.free.FreeWrites.free_all.Goals as goal
 
 pub loop-instruction-init : goal.loop-instruction-init
-loop-instruction-init c = free_first c.args.self.now.flow.now.assignments.items (graph_view c.args.self.now.graph.now) (placed c.args.place) (map instruction_view c.args.instructions.now)
+loop-instruction-init c =
+    let assignments = c.args.self.now.flow.now.assignments.items in
+    let g = graph_view c.args.self.now.graph.now in
+    let all = map instruction_view c.args.instructions.now in
+    subst (λ told. AreFreeAhead assignments g (placed c.args.place) all (placed c.args.place) all told) (sym c.new-told.ensures.items) (free_first assignments g (placed c.args.place) all)
 
 pub loop-instruction-preserved : goal.loop-instruction-preserved
 loop-instruction-preserved c =
