@@ -12,7 +12,6 @@ use Rattle.dead_pass_rule.specs.Free.{IsFreeOnce, MayGoOnce, AreFree, AreFreeFro
 use Rattle.dead_pass_rule.specs.Idle.{MayGo}
 use Rattle.base_laws.proofs.Lists.{append_nil}
 
-
 -- What is still to be told of instructions, behind what is told.
 pub data AreFreeAhead (assignments : List Assignment) (g : Graph) (start : Option ℕ) (all : List Instruction) (now : Option ℕ) (ahead : List Instruction) (told : List Bool) : Type 0 where
   goes_on : ((later : List Bool) → AreFreeFrom assignments g now ahead later → AreFreeFrom assignments g start all (told ++ later)) → AreFreeAhead assignments g start all now ahead told

@@ -106,3 +106,11 @@ pub record WalksBack (assignments : List Assignment) (g : Graph) (n : ℕ) (b : 
   pub asked : is_less ≡ false → AreAllAsked g turns marks → (x : ℕ) → x < g.name_count → bits_of new_marks (length g.blocks) x ≡ true
       → IsAsked (turn_of turns) g.blocks x n rest b.end
   pub needed : is_less ≡ false → AreAllAsked g turns marks → AreNeeded assignments g (turn_of turns) n (length rest) b
+
+-- WHAT A PASS DOES, that tells whether a write went: all that go shall still; where one went fewer stay, and else the turns are the same and no other could go.
+pub record Passes (assignments : List Assignment) (g : Graph) (led : ℕ → Bool) (turns new : List (Vec ℕ Global)) (is_less : Bool) : Type 0 where
+  pub rows : HaveRows g.blocks new
+  pub goes : AllGo assignments g (turn_of new)
+  pub fewer : is_less ≡ true → staying new < staying turns
+  pub same : is_less ≡ false → new ≡ turns
+  pub stays : is_less ≡ false → AllStay assignments g (turn_of new) led

@@ -94,7 +94,8 @@ fn join(blocks: u32, names: u32, marks: &mut Marks, from: u32)
     ensures others { AreSameBut blocks marks.old marks.new }
     ensures come { from < blocks → (x : ℕ) → bits_of marks.old from x ≡ true → bits_of marks.new blocks x ≡ true }
     ensures kept { (x : ℕ) → bits_of marks.old blocks x ≡ true → bits_of marks.new blocks x ≡ true }
-    ensures only { (x : ℕ) → bits_of marks.new blocks x ≡ true → (bits_of marks.old blocks x ≡ true) ⊎ ((from < blocks) × (bits_of marks.old from x ≡ true)) }
+    ensures only { (x : ℕ) → bits_of marks.new blocks x ≡ true → (bits_of marks.old blocks x ≡ true)
+        ⊎ ((from < blocks) × (bits_of marks.old from x ≡ true)) }
 {
     if from < blocks {
         let _is_new = marks.unite(from, blocks);
@@ -106,8 +107,11 @@ fn join_all(blocks: u32, names: u32, marks: &mut Marks, end: &End)
     requires table { IsTable blocks names marks.old }
     ensures table { IsTable blocks names marks.new }
     ensures others { AreSameBut blocks marks.old marks.new }
-    ensures come { (l : ℕ) → l < blocks → Among l (targets_of (end_view end.now)) → (x : ℕ) → bits_of marks.old l x ≡ true → bits_of marks.new blocks x ≡ true }
-    ensures only { (x : ℕ) → bits_of marks.new blocks x ≡ true → (bits_of marks.old blocks x ≡ true) ⊎ IsToldOfOne blocks (end_view end.now) marks.old x }
+    ensures come { (l : ℕ) → l < blocks → Among l (targets_of (end_view end.now)) → (x : ℕ) → bits_of marks.old l x
+        ≡ true
+        → bits_of marks.new blocks x ≡ true }
+    ensures only { (x : ℕ) → bits_of marks.new blocks x ≡ true → (bits_of marks.old blocks x ≡ true)
+        ⊎ IsToldOfOne blocks (end_view end.now) marks.old x }
 {
     match end {
         End::Return(_) => {}
@@ -135,9 +139,14 @@ pub fn begin(
     requires few { blocks + 2 < 2 ^ 32 }
     ensures table { OnOk result (IsTable blocks names marks.new) }
     ensures others { OnOk result (AreSameBut blocks marks.old marks.new) }
-    ensures come { OnOk result ((l : ℕ) → l < blocks → Among l (targets_of (end_view end.now)) → (x : ℕ) → x < names → bits_of marks.old l x ≡ true → bits_of marks.new blocks x ≡ true) }
-    ensures read { OnOk result ((x : ℕ) → x < names → Among x (reads_of_end (end_view end.now)) → bits_of marks.new blocks x ≡ true) }
-    ensures only { OnOk result ((x : ℕ) → x < names → bits_of marks.new blocks x ≡ true → Among x (reads_of_end (end_view end.now)) ⊎ IsToldOfOne blocks (end_view end.now) marks.old x) }
+    ensures come { OnOk result
+        ((l : ℕ) → l < blocks → Among l (targets_of (end_view end.now)) → (x : ℕ) → x < names
+        → bits_of marks.old l x ≡ true → bits_of marks.new blocks x ≡ true) }
+    ensures read { OnOk result
+        ((x : ℕ) → x < names → Among x (reads_of_end (end_view end.now)) → bits_of marks.new blocks x ≡ true) }
+    ensures only { OnOk result
+        ((x : ℕ) → x < names → bits_of marks.new blocks x ≡ true → Among x (reads_of_end (end_view end.now))
+        ⊎ IsToldOfOne blocks (end_view end.now) marks.old x) }
 {
     marks.keep(blocks + 1, blocks);
     join_all(blocks, names, marks, end);
@@ -148,7 +157,8 @@ pub fn begin(
 
 /// Whether it is told at the walk's point of the name that is written.
 pub fn is_told(blocks: u32, marks: &Marks, target: Option<Name>) -> bool
-    ensures { (x : ℕ) → option_map (λ (n : declared-name.Name). n.0) target ≡ Some x → result ≡ bits_of marks.now blocks x }
+    ensures { (x : ℕ) → option_map (λ (n : declared-name.Name). n.0) target ≡ Some x → result
+        ≡ bits_of marks.now blocks x }
 {
     match target {
         Some(name) => marks.get(blocks, name.0),

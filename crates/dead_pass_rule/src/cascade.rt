@@ -7,7 +7,7 @@ ghost use Rattle.graph_paths.specs.PathMarksTable.{bits_of};
 ghost use Rattle.graph_paths.specs.Reached.{AreLed};
 ghost use Rattle.dead_pass_writes.specs.Telling.{Tells};
 ghost use Rattle.dead_pass_rule.specs.Asking.{is_going};
-ghost use Rattle.dead_pass_rule.specs.Cascade.{AllGo, AllNeeded, AllStay, AreAllAsked, Cascades, GoesOneMore, HasTurn, HaveRows, IsSound, WalksBack};
+ghost use Rattle.dead_pass_rule.specs.Cascade.{AllGo, AllNeeded, AllStay, AreAllAsked, Cascades, GoesOneMore, HasTurn, HaveRows, IsSound, Passes, WalksBack};
 ghost use Rattle.dead_pass_rule.specs.Certified.{AreIdle};
 ghost use Rattle.dead_pass_rule.specs.Free.{AreFree, AreNamed, flags_in};
 ghost use Rattle.dead_pass_rule.specs.Walks.{turn_of};
@@ -51,7 +51,8 @@ fn all_stay(alloc: Global, blocks: &[Block]) -> Result<Vec<Vec<u32>>, AllocError
 fn put_turn(turns: &mut [Vec<u32>], block: u32, left: usize) -> bool
     ensures one { result ≡ true → GoesOneMore turns.old turns.new block left }
     ensures same { result ≡ false → turns.new ≡ turns.old }
-    ensures gone { result ≡ false → HasTurn (slice_get turns.old block) left → is_going (turn_of turns.old) block left ≡ true }
+    ensures gone { result ≡ false → HasTurn (slice_get turns.old block) left → is_going (turn_of turns.old) block left
+        ≡ true }
 {
     if block as usize >= turns.len() || left >= turns[block as usize].len() {
         return false;
@@ -79,7 +80,8 @@ fn let_go(
         → bits_of marks.now count x ≡ false }
     ensures same { result ≡ false → turns.new ≡ turns.old }
     ensures asked { result ≡ false → is_free ≡ true → HasTurn (slice_get turns.old number) left
-        → is_going (turn_of turns.old) number left ≡ false → (x : ℕ) → target_of (instruction_view instruction.now) ≡ Some x
+        → is_going (turn_of turns.old) number left ≡ false → (x : ℕ) → target_of (instruction_view instruction.now)
+        ≡ Some x
         → bits_of marks.now count x ≡ true }
 {
     if !is_free || is_told(count, marks, instruction.target()) {
@@ -111,7 +113,8 @@ fn row_of(rows: &[Vec<bool>], number: u32) -> &[bool]
 impl<'a> FreeGraph<'a> {
     ghost use Rattle.dead_pass_rule.specs.Cascading.{IsTold, assignments_of, graph_of};
 
-    /// Writes of a block go, the last first, where these may. Tells whether one went, and in the row behind those of the blocks what is asked for at its start.
+    /// Writes of a block go, the last first, where these may. Tells whether one went, and in the row behind those of
+    /// the blocks what is asked for at its start.
     fn walk_back(
         &self,
         alloc: Global,
@@ -126,7 +129,8 @@ impl<'a> FreeGraph<'a> {
         requires led { bits_of self.now.reached.now 0 number ≡ true }
         requires may_go { AreFree (assignments_of self.now) (graph_of self.now) (block_view block.now) free.now }
         requires sound { IsSound (assignments_of self.now) (graph_of self.now) turns.old marks.old }
-        ensures { IfOk result (λ is_less. WalksBack (assignments_of self.now) (graph_of self.now) number (block_view block.now)
+        ensures { IfOk result
+            (λ is_less. WalksBack (assignments_of self.now) (graph_of self.now) number (block_view block.now)
             turns.old marks.old (block_view block.now).instructions turns.new marks.new is_less) }
     {
         let names = self.graph.name_count;
@@ -184,7 +188,8 @@ impl<'a> FreeGraph<'a> {
         ensures cascades { IfOk result (λ is_less. Cascades (assignments_of self.now) (graph_of self.now)
             turns.old marks.old turns.new marks.new is_less) }
         ensures needed { IfOk result (λ is_less. is_less ≡ false → AreAllAsked (graph_of self.now) turns.old marks.old
-            → AllStay (assignments_of self.now) (graph_of self.now) (turn_of turns.old) (bits_of self.now.reached.now 0)) }
+            → AllStay (assignments_of self.now) (graph_of self.now) (turn_of turns.old)
+            (bits_of self.now.reached.now 0)) }
     {
         let mut is_less = false;
         for passed in 0..self.count {
@@ -195,22 +200,36 @@ impl<'a> FreeGraph<'a> {
         Ok(is_less)
     }
 
-    /// The writes that go: none more could.
-    fn idle(&self, alloc: Global) -> Result<Vec<Vec<u32>>, AllocError>
-        requires { IsTold self.now }
-        ensures { IfOk result (λ turns. AreIdle (assignments_of self.now) (graph_of self.now) (is_going (turn_of turns.items))) }
+    /// A pass: writes go by what stays now. Tells whether one went.
+    fn pass(&self, alloc: Global, turns: &mut [Vec<u32>]) -> Result<bool, AllocError>
+        requires told { IsTold self.now }
+        requires rows { HaveRows (graph_of self.now).blocks turns.old }
+        requires goes { AllGo (assignments_of self.now) (graph_of self.now) (turn_of turns.old) }
+        ensures { IfOk result (Passes (assignments_of self.now) (graph_of self.now) (bits_of self.now.reached.now 0)
+            turns.old turns.new) }
     {
-        let mut turns = all_stay(alloc, &self.graph.blocks)?;
+        let mut marks = asked_names(alloc, turns, self.graph.name_count, &self.graph.blocks)?;
+        let is_less = self.let_all_go(alloc, turns, &mut marks)?;
+        Ok(is_less)
+    }
+
+    /// Writes go by passes, until one lets nothing go.
+    fn settle(&self, alloc: Global, turns: &mut [Vec<u32>]) -> Result<(), AllocError>
+        requires told { IsTold self.now }
+        requires rows { HaveRows (graph_of self.now).blocks turns.old }
+        requires goes { AllGo (assignments_of self.now) (graph_of self.now) (turn_of turns.old) }
+        ensures { OnOk result (AreIdle (assignments_of self.now) (graph_of self.now) (is_going (turn_of turns.new))) }
+    {
         let mut is_less = true;
         while is_less {
-            let mut marks = asked_names(alloc, &turns, self.graph.name_count, &self.graph.blocks)?;
-            is_less = self.let_all_go(alloc, &mut turns, &mut marks)?;
+            is_less = self.pass(alloc, turns)?;
         }
-        Ok(turns)
+        Ok(())
     }
 }
 
-/// The writes of a graph that go, in a unit of these assignments: those that are idle and to which paths come. For each block it is told by how many instructions stand
+/// The writes of a graph that go, in a unit of these assignments: those that are idle and to which paths come. For each
+/// block it is told by how many instructions stand
 /// behind a write; 0 where it stays.
 pub fn idle_writes(
     alloc: Global,
@@ -223,7 +242,8 @@ pub fn idle_writes(
     requires led { AreLed (graph_view graph.now).blocks (bits_of reached.now 0) }
     requires named { AreNamed (graph_view graph.now).blocks graph.now.name_count }
     requires tells { Tells (graph_view graph.now) writes.now }
-    ensures { IfOk result (λ turns. AreIdle flow.now.assignments.items (graph_view graph.now) (is_going (turn_of turns.items))) }
+    ensures { IfOk result (λ turns.
+        AreIdle flow.now.assignments.items (graph_view graph.now) (is_going (turn_of turns.items))) }
 {
     let frees = FreeWrites {
         graph,
@@ -239,5 +259,7 @@ pub fn idle_writes(
         may_go,
         count,
     };
-    idle.idle(alloc)
+    let mut turns = all_stay(alloc, &graph.blocks)?;
+    idle.settle(alloc, &mut turns)?;
+    Ok(turns)
 }

@@ -13,7 +13,8 @@ use graph_core::{Block, Graph, Instr, Name};
 use places::FlowTable;
 use std::alloc::{AllocError, Global};
 
-/// What tells which writes of a graph may go: which names its places write once, and which variables the places of the unit assign.
+/// What tells which writes of a graph may go: which names its places write once, and which variables the places of the
+/// unit assign.
 #[derive(Drop)]
 pub struct FreeWrites<'a> {
     pub graph: &'a Graph,
@@ -45,7 +46,9 @@ impl<'a> FreeWrites<'a> {
 
     /// Whether a place assigns the variable of a scalar.
     fn assigns(&self, place: Place, name: Name) -> bool
-        ensures { result ≡ idle.assigns_scalar self.now.flow.now.assignments.items (graph_view self.now.graph.now) place.0 name.0 }
+        ensures { result
+            ≡ idle.assigns_scalar self.now.flow.now.assignments.items (graph_view self.now.graph.now) place.0
+            name.0 }
     {
         match self.graph.scalars.get(name.0 as usize) {
             Some(scalar) => self.flow.assigns(place, scalar.var),
@@ -107,14 +110,11 @@ impl<'a> FreeWrites<'a> {
     }
 
     /// Tells this of the instructions of blocks.
-    pub fn free_blocks(
-        &self,
-        alloc: Global,
-        blocks: &[Block],
-    ) -> Result<Vec<Vec<bool>>, AllocError>
+    pub fn free_blocks(&self, alloc: Global, blocks: &[Block]) -> Result<Vec<Vec<bool>>, AllocError>
         requires { Tells (graph_view self.now.graph.now) self.now.writes.now }
         ensures { IfOk result (λ told. (n : ℕ) (b : BlockForm) → slice_get (map block_view blocks.now) n ≡ Some b
-            → AreFreeOnce self.now.flow.now.assignments.items (graph_view self.now.graph.now) b (slice_get told.items n)) }
+            → AreFreeOnce self.now.flow.now.assignments.items (graph_view self.now.graph.now) b
+            (slice_get told.items n)) }
     {
         let mut told = Vec::new(alloc);
         for block in blocks {

@@ -6,8 +6,8 @@ use Rattle.dead_pass_rule.specs.Free.{AreNamed}
 use Rattle.base_laws.proofs.Lists.{all_there, there}
 use Rattle.dead_pass.proofs.pass.idle_graphs.Goals as goal
 
-pub new-idle-requires-clause-few : goal.new-idle-requires-clause-few
-new-idle-requires-clause-few c =
+pub new-requires-clause-few : goal.new-idle-requires-clause-few
+new-requires-clause-few c =
     let xs = c.args.graphs.now in
     let k = c.loop-graph.graph-index in
     let one = c.graph-item.result in
@@ -16,8 +16,8 @@ new-idle-requires-clause-few c =
     let size = length-map one.blocks.items block_view in
     omega (arith, few, size)
 
-pub new-idle-requires-clause-named : goal.new-idle-requires-clause-named
-new-idle-requires-clause-named c =
+pub new-requires-clause-named : goal.new-idle-requires-clause-named
+new-requires-clause-named c =
     let xs = c.args.graphs.now in
     let k = c.loop-graph.graph-index in
     let one = c.graph-item.result in

@@ -24,13 +24,13 @@ use Rattle.dead_pass.proofs.Bounded.{all_named, cases_of, few_blocks, few_rooms,
 use Rattle.dead_pass.proofs.ByRule.{each_keeps, each_left}
 use Rattle.dead_pass.proofs.pass.remove_dead.Goals as goal
 
-pub idle_graphs-idle-requires-clause-few : goal.idle_graphs-idle-requires-clause-few
-idle_graphs-idle-requires-clause-few c =
+pub idle_graphs-requires-clause-few : goal.idle_graphs-idle-requires-clause-few
+idle_graphs-requires-clause-few c =
     let u = unit_view c.args.unit.now in
     subst (λ gs. AllByRecursion (λ (g : Graph). length g.blocks + 2 < 2 ^ 32) (map graph_view gs)) (sym c.deref.ensures.value) (few_blocks u.graphs _ c.requires.valid.blocks (few_rooms u.room).0)
 
-pub idle_graphs-idle-requires-clause-named : goal.idle_graphs-idle-requires-clause-named
-idle_graphs-idle-requires-clause-named c =
+pub idle_graphs-requires-clause-named : goal.idle_graphs-idle-requires-clause-named
+idle_graphs-requires-clause-named c =
     let u = unit_view c.args.unit.now in
     subst (λ gs. AllByRecursion (λ (g : Graph). AreNamed g.blocks g.name_count) (map graph_view gs)) (sym c.deref.ensures.value) (all_named u u.graphs c.requires.valid.graphs)
 
@@ -46,8 +46,8 @@ log_cases-requires-clause-few c =
     let same = ap (λ (l : List Case). length l) c.deref_mut.ensures.value in
     omega (arith, most, room, valid, same)
 
-pub new-removed-requires : goal.new-removed-requires
-new-removed-requires c =
+pub new-requires : goal.new-requires
+new-requires c =
     let u = unit_view c.args.unit.now in
     let was : map graph_of c.in_ok-idle.idle.items ≡ u.graphs = c.in_ok-idle.ensures.graphs ∙ ap (λ gs. map graph_view gs) c.deref.ensures.value in
     let are : AreCasesOf (λ g h. IsRemovedWrite u.assignments g) u.graphs u.graphs c.in_ok-cases.cases.items =
@@ -59,7 +59,7 @@ new-removed-requires c =
     let grown = log_grown c.dead_name.result Removed _ (changes c.in_ok-left.left.log) _ _ _ c.in_ok-log_cases.ensures.logged c.in_ok-log_cases.ensures.same in
     let old : length (changes c.in_ok-left.left.log) ≡ length u.log = sym (length-map (changes c.in_ok-left.left.log) logged) ∙ ap (λ (w : UnitForm). length w.log) c.in_ok-left.ensures in
     let read = ap (λ (l : List Change). length l) c.changes.ensures in
-    omega (arith, most, room, valid, same, grown, old, read, c.requires.room)
+    record { few = omega (arith, most, room, valid, same, grown, old, read, c.requires.room) }
 
 pub returns-clause-log : goal.returns-clause-log
 returns-clause-log c =

@@ -10,8 +10,8 @@ loop-passed-init c = record {
   needed = λ q asked m lt le reached. absurd (omega (arith, lt, le));
 }
 
-pub let_go_back-went-requires-clause-sound : goal.let_go_back-went-requires-clause-sound
-let_go_back-went-requires-clause-sound c = c.loop-passed.invariant.cascades.sound
+pub let_go_back-requires-clause-sound : goal.let_go_back-requires-clause-sound
+let_go_back-requires-clause-sound c = c.loop-passed.invariant.cascades.sound
 
 pub loop-passed-preserved : goal.loop-passed-preserved
 loop-passed-preserved c =

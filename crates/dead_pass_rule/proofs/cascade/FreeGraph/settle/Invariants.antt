@@ -3,14 +3,14 @@ use Rattle.graph_paths.specs.PathMarksTable.{bits_of}
 use Rattle.dead_pass_rule.specs.Cascade.{AllGo, AllStay, HaveRows, staying}
 use Rattle.dead_pass_rule.specs.Cascading.{assignments_of, graph_of}
 use Rattle.dead_pass_rule.specs.Walks.{turn_of}
-use Rattle.dead_pass_rule.proofs.cascade.FreeGraph.idle.Given as goal
+use Rattle.dead_pass_rule.proofs.cascade.FreeGraph.settle.Given as goal
 
 abbrev pub invariant-loop-is_less : goal.invariant-loop-is_less
 invariant-loop-is_less l = record {
-  rows : HaveRows (graph_of l.self).blocks l.turns.items;
-  goes : AllGo (assignments_of l.self) (graph_of l.self) (turn_of l.turns.items);
-  stays : l.is_less ≡ false → AllStay (assignments_of l.self) (graph_of l.self) (turn_of l.turns.items) (bits_of l.self.reached.now 0);
+  rows : HaveRows (graph_of l.self).blocks l.turns;
+  goes : AllGo (assignments_of l.self) (graph_of l.self) (turn_of l.turns);
+  stays : l.is_less ≡ false → AllStay (assignments_of l.self) (graph_of l.self) (turn_of l.turns) (bits_of l.self.reached.now 0);
 }
 
 abbrev pub decreases-loop-is_less : goal.decreases-loop-is_less
-decreases-loop-is_less l = staying l.turns.items + (if l.is_less then 1 else 0)
+decreases-loop-is_less l = staying l.turns + (if l.is_less then 1 else 0)
