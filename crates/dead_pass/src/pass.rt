@@ -97,7 +97,8 @@ fn graphs_left(
 }
 
 /// A unit without its dead assignments (Kennedy 1981; notes by Hennessy 1982). In code that some path reaches a
-/// computation goes, or a call's target, where what it writes is a temporary, or a scalar that nothing else writes in its
+/// computation goes, or a call's target, where what it writes is a temporary, or a scalar that nothing else writes in
+/// its
 /// place, which assigns its variable, and each read that it reaches is by a computation that goes. The log tells each
 /// assignment of a scalar that goes by a change `Removed` of the pass `dead`: of its place and variable; in order of
 /// place, then of block and instruction. Its note gives the recipe of its right side, where there is one, or else that

@@ -97,7 +97,8 @@ impl<'a> IdleGraph<'a> {
 
     /// The temporary that an operand reads, where code motion did not make it.
     pub fn local(&self, operand: Operand) -> Option<Name>
-        ensures some { IfSome result (λ name. (operand_view operand ≡ OfName name.0) × IsLocal (graph_of self.now) name.0) }
+        ensures some { IfSome result
+            (λ name. (operand_view operand ≡ OfName name.0) × IsLocal (graph_of self.now) name.0) }
         ensures none { result ≡ None → (t : ℕ) → operand_view operand ≡ OfName t → IsLocal (graph_of self.now) t → ⊥ }
     {
         match operand {
