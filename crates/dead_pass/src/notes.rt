@@ -155,7 +155,8 @@ fn left_of(
     ensures left { IfOk result (λ left.
         AreLeftBy (is_going (turn_of idle.now.turns.items) number) (map instruction_view instructions.now)
         (map instruction_view left.items)) }
-    ensures ready { OnOk result ((log : List Logged) → IsReady log idle.now notes.old → IsReady log idle.now notes.new) }
+    ensures ready { OnOk result
+        ((log : List Logged) → IsReady log idle.now notes.old → IsReady log idle.now notes.new) }
     ensures said { IfOk result (λ left.
         (log : List Logged) (b : BlockForm) → IsReady log idle.now notes.old → IsVisited idle.now number b
         → b.place ≡ placed kept_place → b.instructions ≡ map instruction_view instructions.now
@@ -188,7 +189,8 @@ fn left_block(
     ensures left { IfOk result (λ left.
         IsLeftBlockBy (is_going (turn_of idle.now.turns.items)) (bits_of idle.now.reached 0) number
         (block_view block.now) (block_view left)) }
-    ensures ready { OnOk result ((log : List Logged) → IsReady log idle.now notes.old → IsReady log idle.now notes.new) }
+    ensures ready { OnOk result
+        ((log : List Logged) → IsReady log idle.now notes.old → IsReady log idle.now notes.new) }
     ensures said { IfOk result (λ left.
         (log : List Logged) → IsReady log idle.now notes.old
         → slice_get (graph_of idle.now).blocks number ≡ Some (block_view block.now)
