@@ -206,9 +206,9 @@ module _ (assignments : List Assignment) (g : Graph) where
 
 -- fewer writes stay, or it was the last pass
 pub falls : (old new : List (Vec ℕ Global)) (was is_less : Bool) → was ≡ true → (is_less ≡ true → staying new < staying old) → (is_less ≡ false → new ≡ old) → staying new + (if is_less then 1 else 0) < staying old + (if was then 1 else 0)
-falls old new was true on fewer same = (let one : (if was then 1 else 0) ≡ 1 = ap (λ z. if z then 1 else 0) on in let less = fewer refl in omega (arith, one, less))
+falls old new was true on fewer same = (let one : ◌≡◌ {A = ℕ} (if was then 1 else 0) 1 = ap (λ (z : Bool). if z then 1 else 0) on in let less = fewer refl in omega (arith, one, less))
 falls old new was false on fewer same =
-    (let one : (if was then 1 else 0) ≡ 1 = ap (λ z. if z then 1 else 0) on in
+    (let one : ◌≡◌ {A = ℕ} (if was then 1 else 0) 1 = ap (λ (z : Bool). if z then 1 else 0) on in
     let counts : staying new ≡ staying old = ap (λ (l : List (Vec ℕ Global)). staying l) (same refl) in omega (arith, one, counts))
 
 -- one block more is gone over

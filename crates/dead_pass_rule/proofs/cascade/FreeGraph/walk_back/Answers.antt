@@ -2,7 +2,7 @@ use Rattle.std.proofs.Common.{◌≡◌, ◌-◌, ◌+◌, ◌∷◌, ◌++◌, 
 use Rattle.std.specs.Prelude.{◌&&◌, ◌||◌, not, slice_get, slice_index_or}
 use Rattle.graph_core.specs.Graphs.{block_view, end_view, instruction_view}
 use Rattle.graph_core.specs.Paths.{Among, reads, writes}
-use Rattle.graph_core.specs.Uses.{reads_of_end, target_of}
+use Rattle.graph_core.specs.Uses.{reads_of_end, target_of, targets_of}
 use Rattle.graph_paths.specs.PathMarksTable.{bits_of}
 use Rattle.dead_pass_rule.specs.Asking.{is_going, is_gone}
 use Rattle.dead_pass_rule.specs.Cascade.{GoesOneMore, HasTurn, WalksBack}
@@ -29,7 +29,7 @@ loop-left-init c =
     (walk_begins (assignments_of f) g (bits_of f.reached.now 0) c.requires.told.led c.args.number b c.requires.block c.args.turns.now first c.requires.sound now
     (subst (λ k. IsTable k g.name_count now) is begun.table)
     (subst (λ k. AreSameBut k first now) is begun.others)
-    (subst (λ k. (l : ℕ) → l < k → Among l _ → (x : ℕ) → x < g.name_count → bits_of first l x ≡ true → bits_of now k x ≡ true) is begun.come)
+    (subst (λ k. (l : ℕ) → l < k → Among l (targets_of b.end) → (x : ℕ) → x < g.name_count → bits_of first l x ≡ true → bits_of now k x ≡ true) is begun.come)
     (subst (λ k. (x : ℕ) → x < g.name_count → Among x (reads_of_end b.end) → bits_of now k x ≡ true) is begun.read)
     (subst (λ k. (x : ℕ) → x < g.name_count → bits_of now k x ≡ true → Among x (reads_of_end b.end) ⊎ IsToldOfOne k b.end first x) is begun.only))
 

@@ -15,7 +15,7 @@ loop-block-preserved c =
     let k = c.loop-block.block-index in
     let grown = c.in_ok-push.ensures.items in
     record {
-      count = (let now = ap (λ (l : List (Vec Bool Global)). length l) grown in let was = c.loop-block.invariant.count in let sum = length-append told (c.in_ok-free_block.free_block ∷ []) in omega (arith, now, was, sum));
+      count = (let now = ap (λ (l : List (Vec Bool Global)). length l) grown in let was = c.loop-block.invariant.count in let sum = length-append told (c.in_ok-free_block.field-0 ∷ []) in omega (arith, now, was, sum));
       are = rows_more block_view (λ (o : Option (Vec Bool Global)) (b : Block). AreFreeOnce c.args.self.now.flow.now.assignments.items (graph_view c.args.self.now.graph.now) b o) c.args.blocks.now told _ k c.block-item.result _ c.loop-block.invariant.count grown
           c.loop-block-test.true c.block-item.is c.in_ok-free_block.ensures c.loop-block.invariant.are;
     }
