@@ -84,7 +84,8 @@ impl UnitPass for LazyMotion {
     }
 
     fn apply(&self, alloc: Global, unit: &Unit) -> Result<Option<Unit>, AllocError> {
-        move_code(alloc, unit)
+        let moved = move_code(alloc, unit)?;
+        Ok(Some(moved))
     }
 }
 

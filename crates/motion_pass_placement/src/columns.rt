@@ -1,6 +1,6 @@
 //! The computations of a graph, 64 after the other.
 
-ghost use Rattle.std.specs.Prelude.{◌≡◌, ◌<◌, ℕ, Bool, false, IfOk, IfSome, List, [], None, Some, length, map, slice_get, slice_index_or, true};
+ghost use Rattle.std.specs.Prelude.{◌≡◌, ◌<◌, ◌^◌, ℕ, Bool, false, IfOk, List, [], None, Some, length, map, slice_get, slice_index_or, true};
 ghost use Rattle.graph_core.specs.Computations as spec-computation;
 ghost use Rattle.graph_core.specs.Graphs as spec;
 ghost use Rattle.graph_core.specs.Graphs.{block_view};
@@ -85,15 +85,13 @@ impl Placing<'_> {
         Ok(locals)
     }
 
-    /// What is so of a column's computations at each block. None where an operand of one has no name.
-    fn solved(&self, index: u32) -> Result<Option<Solved>, AllocError>
-        requires { IsPlacing self.now }
-        ensures { IfOk result (λ o. IfSome o (λ solved. IsSolved self.now index solved)) }
+    /// What is so of a column's computations at each block.
+    fn solved(&self, index: u32) -> Result<Solved, AllocError>
+        requires placing { IsPlacing self.now }
+        requires index { index < 2 ^ 26 }
+        ensures { IfOk result (λ solved. IsSolved self.now index solved) }
     {
-        let Some(column) = Column::new(self.alloc, self.computations, index, self.graph.name_count)?
-        else {
-            return Ok(None);
-        };
+        let column = Column::new(self.alloc, self.computations, index, self.graph.name_count)?;
         let locals = self.locals(&column)?;
         let problems = Problems {
             alloc: self.alloc,
@@ -104,25 +102,20 @@ impl Placing<'_> {
             locals: &locals,
         };
         let facts = problems.solve()?;
-        Ok(Some(Solved { column, facts }))
+        Ok(Solved { column, facts })
     }
 
-    /// What is so of the computations of all columns. None where there are 2^32 or more.
-    pub fn columns(&self) -> Result<Option<Vec<Solved>>, AllocError>
+    /// What is so of the computations of all columns.
+    pub fn columns(&self) -> Result<Vec<Solved>, AllocError>
         requires { IsPlacing self.now }
-        ensures { IfOk result (λ o. IfSome o (λ columns. AreSolved self.now columns.items)) }
+        ensures { IfOk result (λ columns. AreSolved self.now columns.items) }
     {
-        if self.computations.all.len() > 0xffff_ffff {
-            return Ok(None);
-        }
         let mut columns = Vec::new(self.alloc);
         for index in 0..(self.computations.all.len() / 64 + 1) as u32 {
-            let Some(solved) = self.solved(index)? else {
-                return Ok(None);
-            };
+            let solved = self.solved(index)?;
             columns.push(solved)?;
         }
-        Ok(Some(columns))
+        Ok(columns)
     }
 
     /// What is so where a block does computations.

@@ -1,6 +1,6 @@
 //! Where computations are done, and where their values are read instead.
 
-ghost use Rattle.std.specs.Prelude.{◌≡◌, ◌↔◌, ◌⊎◌, ℕ, ◌+◌, ◌*◌, ◌<◌, ◌^◌, ◌/◌, ◌&&◌, ◌||◌, not, false, IfOk, IfSome, List, [], ◌∷◌, ◌++◌, None, Some, is_some, length, map, slice_get, slice_index_or, true};
+ghost use Rattle.std.specs.Prelude.{◌≡◌, ◌↔◌, ◌⊎◌, ℕ, ◌+◌, ◌*◌, ◌-◌, ◌<◌, ◌≤◌, ◌^◌, ◌/◌, ◌&&◌, ◌||◌, not, false, IfOk, OnOk, List, [], ◌∷◌, ◌++◌, None, Some, is_some, length, map, slice_get, slice_index_or, true};
 ghost use Rattle.graph_core.specs.Computations as spec-computation;
 ghost use Rattle.graph_core.specs.Graphs as spec;
 ghost use Rattle.graph_core.specs.Graphs.{block_view, graph_view, instruction_view};
@@ -12,6 +12,7 @@ ghost use Rattle.motion_pass_points.specs.Columns.{is_number};
 ghost use Rattle.motion_pass_points.specs.Numbers.{AreNumbers, AreOnce, computed_in, views_of};
 ghost use Rattle.motion_pass_points.specs.Words.{has};
 ghost use Rattle.motion_pass_points.specs.Ways.{IsCome, IsInserted, along, within};
+ghost use Rattle.motion_pass_placement.specs.Bounded.{IsBounded};
 ghost use Rattle.motion_pass_placement.specs.Columns.{fates_of, row_of};
 ghost use Rattle.motion_pass_placement.specs.Fates as fate;
 ghost use Rattle.motion_pass_placement.specs.Placed.{AreNumbered, IsAnswered, IsMovedAnywhere, IsMovedBefore, IsPlaced, is_on_edge, moved_by, stays_by};
@@ -299,35 +300,31 @@ struct Numbering {
 }
 
 impl Numbering {
-    /// The next computation has a temporary or none. False where names run out.
-    fn add(&mut self, flag: bool) -> Result<bool, AllocError>
-        ensures numbered { IfOk result (λ whole. whole ≡ true → (first : ℕ) → AreNumbered first self.old.temporaries.items self.old.end_name → AreNumbered first self.new.temporaries.items self.new.end_name) }
-        ensures count { IfOk result (λ whole. whole ≡ true → length self.new.temporaries.items ≡ length self.old.temporaries.items + 1) }
-        ensures before { IfOk result (λ whole. whole ≡ true → (k : ℕ) → k < length self.old.temporaries.items → slice_index_or self.new.temporaries.items k None ≡ slice_index_or self.old.temporaries.items k None) }
-        ensures flagged { IfOk result (λ whole. whole ≡ true → is_some (slice_index_or self.new.temporaries.items (length self.old.temporaries.items) None) ≡ flag) }
+    /// The next computation has a temporary or none.
+    fn add(&mut self, flag: bool) -> Result<(), AllocError>
+        requires { self.old.end_name < 2 ^ 32 - 1 }
+        ensures numbered { OnOk result ((first : ℕ) → AreNumbered first self.old.temporaries.items self.old.end_name → AreNumbered first self.new.temporaries.items self.new.end_name) }
+        ensures count { OnOk result (length self.new.temporaries.items ≡ length self.old.temporaries.items + 1) }
+        ensures before { OnOk result ((k : ℕ) → k < length self.old.temporaries.items → slice_index_or self.new.temporaries.items k None ≡ slice_index_or self.old.temporaries.items k None) }
+        ensures flagged { OnOk result (is_some (slice_index_or self.new.temporaries.items (length self.old.temporaries.items) None) ≡ flag) }
+        ensures end { OnOk result (self.new.end_name ≤ self.old.end_name + 1) }
     {
         if !flag {
             self.temporaries.push(None)?;
-            return Ok(true);
-        }
-        if self.end_name == u32::MAX {
-            return Ok(false);
+            return Ok(());
         }
         self.temporaries.push(Some(Name(self.end_name)))?;
         self.end_name += 1;
-        Ok(true)
+        Ok(())
     }
 }
 
-/// Temporaries for these computations, in order, from a name on. None where names run out.
-fn numbered(
-    alloc: Global,
-    treated: &[bool],
-    first_name: u32,
-) -> Result<Option<Numbering>, AllocError>
-    ensures numbered { IfOk result (λ o. IfSome o (λ made. AreNumbered first_name made.temporaries.items made.end_name)) }
-    ensures flagged { IfOk result (λ o. IfSome o (λ made. (k : ℕ) → k < length treated.now → is_some (slice_index_or made.temporaries.items k None) ≡ slice_index_or treated.now k false)) }
-    ensures size { IfOk result (λ o. IfSome o (λ made. length made.temporaries.items ≡ length treated.now)) }
+/// Temporaries for these computations, in order, from a name on.
+fn numbered(alloc: Global, treated: &[bool], first_name: u32) -> Result<Numbering, AllocError>
+    requires { first_name + length treated.now < 2 ^ 32 }
+    ensures numbered { IfOk result (λ made. AreNumbered first_name made.temporaries.items made.end_name) }
+    ensures flagged { IfOk result (λ made. (k : ℕ) → k < length treated.now → is_some (slice_index_or made.temporaries.items k None) ≡ slice_index_or treated.now k false) }
+    ensures size { IfOk result (λ made. length made.temporaries.items ≡ length treated.now) }
 {
     let mut made = Numbering {
         temporaries: Vec::new(alloc),
@@ -335,28 +332,25 @@ fn numbered(
     };
     for number in 0..treated.len() {
         let flag = treated[number];
-        let whole = made.add(flag)?;
-        if !whole {
-            return Ok(None);
-        }
+        made.add(flag)?;
     }
-    Ok(Some(made))
+    Ok(made)
 }
 
-/// The placement of the computations of reached code. None where names run out.
+/// The placement of the computations of reached code.
 fn placed(
     alloc: Global,
     graph: &Graph,
     order: &[u32],
     computations: Computations,
     reached: Vec<bool>,
-) -> Result<Option<Placement>, AllocError>
-    requires few { length graph.now.blocks.items < 2 ^ 32 }
+) -> Result<Placement, AllocError>
+    requires bounded { IsBounded (graph_view graph.now) }
     requires reached { AreReached (map block_view graph.now.blocks.items) (λ n. slice_index_or reached.items n false) }
     requires once { (m : ℕ) → HasEdge (map block_view graph.now.blocks.items) (λ n. slice_index_or reached.items n false) m 0 → ⊥ }
     requires known { AreNumbers computations }
     requires order { AreOnce (computed_in (λ n. slice_index_or reached.items n false) 0 (map block_view graph.now.blocks.items)) (views_of computations) }
-    ensures { IfOk result (λ o. IfSome o (λ made. IsPlaced (graph_view graph.now) made)) }
+    ensures { IfOk result (IsPlaced (graph_view graph.now)) }
 {
     let numbers = numbers_of(alloc, &graph.blocks, &reached, &computations)?;
     let mut back = Vec::from_slice(alloc, order)?;
@@ -370,15 +364,11 @@ fn placed(
         order,
         back: &back,
     };
-    let Some(columns) = placing.columns()? else {
-        return Ok(None);
-    };
+    let columns = placing.columns()?;
     let fates = placing.fates(&columns)?;
     let treated = treated_of(alloc, &numbers, &fates, computations.all.len())?;
-    let Some(made) = numbered(alloc, &treated, graph.name_count)? else {
-        return Ok(None);
-    };
-    Ok(Some(Placement {
+    let made = numbered(alloc, &treated, graph.name_count)?;
+    Ok(Placement {
         computations,
         temporaries: made.temporaries,
         numbers,
@@ -386,27 +376,21 @@ fn placed(
         columns,
         reached,
         end_name: made.end_name,
-    }))
+    })
 }
 
-/// Where the computations of a graph's reached code are done by lazy code motion. None where there are 2^32 blocks or more, or names run out.
-pub fn place(alloc: Global, graph: &Graph) -> Result<Option<Motion>, AllocError>
-    ensures { IfOk result (λ o. IfSome o (λ motion. IsAnswered (graph_view graph.now) motion)) }
+/// Where the computations of a graph's reached code are done by lazy code motion.
+pub fn place(alloc: Global, graph: &Graph) -> Result<Motion, AllocError>
+    requires { IsBounded (graph_view graph.now) }
+    ensures { IfOk result (IsAnswered (graph_view graph.now)) }
 {
-    if graph.blocks.len() > 0xffff_ffff {
-        return Ok(None);
-    }
     let order = reached_in_order(alloc, &graph.blocks)?;
     let reached = reached_flags(alloc, &graph.blocks)?;
     let back = comes_back(&graph.blocks, &reached);
     if back {
-        return Ok(Some(Motion::EnteredAgain));
+        return Ok(Motion::EnteredAgain);
     }
-    let Some(computations) = Computations::new(alloc, &graph.blocks, &reached)? else {
-        return Ok(None);
-    };
-    let Some(placement) = placed(alloc, graph, &order, computations, reached)? else {
-        return Ok(None);
-    };
-    Ok(Some(Motion::Placed(placement)))
+    let computations = Computations::new(alloc, &graph.blocks, &reached)?;
+    let placement = placed(alloc, graph, &order, computations, reached)?;
+    Ok(Motion::Placed(placement))
 }

@@ -1,5 +1,5 @@
 -- How many computations blocks do, and of what names they are made.
-use Rattle.std.proofs.Common.{ℕ, ◌+◌, ◌≤◌, Bool, true, false, List, [], ◌∷◌, ◌++◌, length, arith}
+use Rattle.std.proofs.Common.{◌≡◌, ℕ, ◌+◌, ◌≤◌, Bool, true, false, Option, Some, None, List, [], ◌∷◌, ◌++◌, length, sym, ap, ◌∙◌, arith}
 use Rattle.std.specs.Prelude.{if◌then◌else◌}
 use Rattle.std.specs.List.{AllByRecursion}
 use Rattle.std.proofs.lemmas.List.{length-append}
@@ -56,3 +56,18 @@ pub blocks_all : (P : Computation → Type 0) (told : ℕ → Bool) (n : ℕ) (b
 blocks_all P told n [] all = tt
 blocks_all P told n (b ∷ more) all =
     both_all P (if told n then computed_along b.instructions else []) (computed_in told (n + 1) more) (told_named (told n) P (computed_along b.instructions) all.0) (blocks_all P told (n + 1) more all.1)
+
+-- what is ahead, where an instruction that computes comes first
+pub one_ahead : (i : Instruction) (e : Computation) (rest all : List Instruction) → computed_by i ≡ Some e → all ≡ i ∷ rest → length (computed_along all) ≡ 1 + length (computed_along rest)
+one_ahead i e rest all is whole = ap (λ xs. length (computed_along xs)) whole ∙ ap (λ o. length (with_some o (computed_along rest))) is
+
+-- where one comes first that does not
+pub none_ahead : (i : Instruction) (rest all : List Instruction) → computed_by i ≡ None → all ≡ i ∷ rest → length (computed_along all) ≡ length (computed_along rest)
+none_ahead i rest all is whole = ap (λ xs. length (computed_along xs)) whole ∙ ap (λ o. length (with_some o (computed_along rest))) is
+
+-- where a block comes first
+pub block_ahead : (told : ℕ → Bool) (n : ℕ) (b : Block) (rest all : List Block) (flag : Bool) → flag ≡ told n → all ≡ b ∷ rest
+    → length (computed_in told n all) ≡ length (if flag then computed_along b.instructions else []) + length (computed_in told (n + 1) rest)
+block_ahead told n b rest all flag same whole =
+    ap (λ bs. length (computed_in told n bs)) whole ∙ length-append (if told n then computed_along b.instructions else []) (computed_in told (n + 1) rest)
+    ∙ ap (λ (f : Bool). length (if f then computed_along b.instructions else []) + length (computed_in told (n + 1) rest)) (sym same)

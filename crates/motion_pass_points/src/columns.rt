@@ -50,7 +50,7 @@ pub struct Column {
 
 /// The name that an operand reads is an operand of the computation of this number.
 fn put_operand(spoiled: &mut [u64], operand: Operand, number: u32)
-    requires named { AllByRecursion (λ x. x < length spoiled.old) (names_of (operand_view operand)) }
+    requires { AllByRecursion (λ x. x < length spoiled.old) (names_of (operand_view operand)) }
     ensures size { length spoiled.new ≡ length spoiled.old }
     ensures marked { (x n : ℕ) → is_marked spoiled.new x n ≡ (is_marked spoiled.old x n || ((n % 64 == number % 64) && is_among x (names_of (operand_view operand)))) }
 {
@@ -64,7 +64,7 @@ fn put_operand(spoiled: &mut [u64], operand: Operand, number: u32)
 
 /// The names of which the computation of a number is made are its operands.
 fn put_computation(spoiled: &mut [u64], computation: Computation, number: u32)
-    requires named { IsNamed (length spoiled.old) (computation_view computation) }
+    requires { IsNamed (length spoiled.old) (computation_view computation) }
     ensures size { length spoiled.new ≡ length spoiled.old }
     ensures marked { (x n : ℕ) → is_marked spoiled.new x n ≡ (is_marked spoiled.old x n || ((n % 64 == number % 64) && is_among x (operands_of (computation_view computation)))) }
 {
@@ -79,7 +79,7 @@ fn put_computation(spoiled: &mut [u64], computation: Computation, number: u32)
 
 /// The same of the computation of a number, if there is one.
 fn put_number(spoiled: &mut [u64], all: &[Computation], number: u32)
-    requires named { AreNamed (length spoiled.old) (map computation_view all.now) }
+    requires { AreNamed (length spoiled.old) (map computation_view all.now) }
     ensures size { length spoiled.new ≡ length spoiled.old }
     ensures marked { (x n : ℕ) → is_marked spoiled.new x n ≡ (is_marked spoiled.old x n || ((n % 64 == number % 64) && is_operand (map computation_view all.now) number x)) }
 {

@@ -91,7 +91,7 @@ impl Computations {
         blocks: &[Block],
         flags: &[bool],
     ) -> Result<Computations, AllocError>
-        requires few { counted_in (map block_view blocks.now) ≤ most_instructions_of_function }
+        requires { counted_in (map block_view blocks.now) ≤ most_instructions_of_function }
         ensures numbers { IfOk result AreNumbers }
         ensures once { IfOk result (λ made. AreOnce (computed_in (λ n. slice_index_or flags.now n false) 0 (map block_view blocks.now)) (views_of made)) }
     {

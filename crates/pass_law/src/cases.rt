@@ -1,6 +1,6 @@
 //! Cases of changes.
 
-ghost use Rattle.std.specs.Prelude.{◌≡◌, ◌<◌, ◌^◌, ◌++◌, IfOk, false, length, true};
+ghost use Rattle.std.specs.Prelude.{◌≡◌, ◌<◌, ◌^◌, ◌++◌, IfOk, OnOk, false, length, true};
 ghost use Rattle.debug_records.specs.Change.{changes};
 ghost use Rattle.std.specs.List.Sorted.{IsPermutation};
 ghost use Rattle.pass_law.specs.Cases.{logged};
@@ -22,7 +22,27 @@ pub struct Case {
     pub var: Var,
 }
 
-/// Puts the cases in order, and appends a change for each to the log. False, with nothing appended, where there are 2^31 of them or more.
+/// Puts the cases in order, and appends a change for each to the log.
+pub fn log_all(
+    log: &mut ChangeLog,
+    pass: PassName,
+    kind: Kind,
+    cases: &mut [Case],
+) -> Result<(), AllocError>
+    requires room { length (changes log.old) < 2 ^ 31 }
+    requires few { length cases.old < 2 ^ 31 }
+    ensures logged { OnOk result (changes log.new ≡ changes log.old ++ logged pass kind (length (changes log.old)) cases.new) }
+    ensures same { OnOk result (IsPermutation cases.old cases.new) }
+    ensures in_order { OnOk result (AreInOrder cases.new) }
+{
+    cases.sort_unstable();
+    for case in &*cases {
+        log.push(pass, kind, case.place, case.var)?;
+    }
+    Ok(())
+}
+
+/// The same. False, with nothing appended, where there are 2^31 cases or more.
 pub fn log_cases(
     log: &mut ChangeLog,
     pass: PassName,
@@ -38,9 +58,6 @@ pub fn log_cases(
     if cases.len() >= 0x8000_0000 {
         return Ok(false);
     }
-    cases.sort_unstable();
-    for case in &*cases {
-        log.push(pass, kind, case.place, case.var)?;
-    }
+    log_all(log, pass, kind, cases)?;
     Ok(true)
 }

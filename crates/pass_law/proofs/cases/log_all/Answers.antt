@@ -1,7 +1,7 @@
 use Rattle.std.proofs.Common.{arith}
 use Rattle.pass_law.proofs.InOrder.{in_order}
 use Rattle.pass_law.proofs.Logging.{longer, one_more}
-use Rattle.pass_law.proofs.cases.log_cases.Goals as goal
+use Rattle.pass_law.proofs.cases.log_all.Goals as goal
 
 pub loop-case-preserved : goal.loop-case-preserved
 loop-case-preserved c = record {
@@ -14,4 +14,4 @@ loop-case-preserved c = record {
 }
 
 pub returns-clause-in_order : goal.returns-clause-in_order
-returns-clause-in_order c = λ _. in_order _ c.sort_unstable.ensures.sorted
+returns-clause-in_order c = in_order _ c.sort_unstable.ensures.sorted
