@@ -83,8 +83,9 @@ fn put_number(spoiled: &mut [u64], all: &[Computation], number: u32)
     ensures size { length spoiled.new ≡ length spoiled.old }
     ensures marked { (x n : ℕ) → is_marked spoiled.new x n ≡ (is_marked spoiled.old x n || ((n % 64 == number % 64) && is_operand (map computation_view all.now) number x)) }
 {
-    if let Some(computation) = all.get(number as usize) {
-        put_computation(spoiled, *computation, number);
+    match all.get(number as usize) {
+        Some(computation) => put_computation(spoiled, *computation, number),
+        None => {}
     }
 }
 
