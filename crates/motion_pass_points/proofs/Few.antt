@@ -1,5 +1,5 @@
 -- How many computations blocks do, and of what names they are made.
-use Rattle.std.proofs.Common.{◌≡◌, ℕ, ◌+◌, ◌≤◌, Bool, true, false, Option, Some, None, List, [], ◌∷◌, ◌++◌, length, sym, ap, ◌∙◌, arith}
+use Rattle.std.proofs.Common.{◌≡◌, ℕ, suc, ◌+◌, ◌≤◌, Bool, true, false, Option, Some, None, List, [], ◌∷◌, ◌++◌, length, sym, ap, ◌∙◌, arith}
 use Rattle.std.specs.Prelude.{if◌then◌else◌}
 use Rattle.std.specs.List.{AllByRecursion}
 use Rattle.std.proofs.lemmas.List.{length-append}
@@ -58,7 +58,7 @@ blocks_all P told n (b ∷ more) all =
     both_all P (if told n then computed_along b.instructions else []) (computed_in told (n + 1) more) (told_named (told n) P (computed_along b.instructions) all.0) (blocks_all P told (n + 1) more all.1)
 
 -- what is ahead, where an instruction that computes comes first
-pub one_ahead : (i : Instruction) (e : Computation) (rest all : List Instruction) → computed_by i ≡ Some e → all ≡ i ∷ rest → length (computed_along all) ≡ 1 + length (computed_along rest)
+pub one_ahead : (i : Instruction) (e : Computation) (rest all : List Instruction) → computed_by i ≡ Some e → all ≡ i ∷ rest → length (computed_along all) ≡ suc (length (computed_along rest))
 one_ahead i e rest all is whole = ap (λ xs. length (computed_along xs)) whole ∙ ap (λ o. length (with_some o (computed_along rest))) is
 
 -- where one comes first that does not
