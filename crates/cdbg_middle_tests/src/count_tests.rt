@@ -28,7 +28,9 @@ fn units(alloc: Global) -> Result<Option<(Unit, Unit)>, AllocError> {
     if !unit.is_valid() {
         return Ok(None);
     }
-    let moved = move_code(alloc, &unit)?;
+    let Some(moved) = move_code(alloc, &unit)? else {
+        return Ok(None);
+    };
     Ok(Some((unit, moved)))
 }
 

@@ -84,8 +84,7 @@ impl UnitPass for LazyMotion {
     }
 
     fn apply(&self, alloc: Global, unit: &Unit) -> Result<Option<Unit>, AllocError> {
-        let moved = move_code(alloc, unit)?;
-        Ok(Some(moved))
+        move_code(alloc, unit)
     }
 }
 

@@ -22,7 +22,7 @@ use crate::moving::moved_graph;
 use debug_records::{Kind, PassName};
 use graph_core::{Graph, Room, Unit};
 use motion_pass_placement::{Motion, Placement, place};
-use pass_law::{Case, log_all};
+use pass_law::{Case, log_cases};
 use std::alloc::{AllocError, Global};
 
 /// The name of the pass.
@@ -129,6 +129,6 @@ pub fn move_code(alloc: Global, unit: &Unit) -> Result<Unit, AllocError>
     let graphs = move_graphs(alloc, unit.room, &unit.graphs, &mut cases)?;
     let mut moved = unit.duplicate(alloc)?;
     moved.graphs = graphs;
-    log_all(&mut moved.log, motion_name(), Kind::Moved, &mut cases)?;
+    log_cases(&mut moved.log, motion_name(), Kind::Moved, &mut cases)?;
     Ok(moved)
 }

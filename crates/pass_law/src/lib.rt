@@ -9,7 +9,7 @@ mod pass;
 mod pass_runs_list;
 mod pass_runs_pass;
 
-pub use cases::{Case, log_all, log_cases};
+pub use cases::{Case, log_cases};
 pub use laws::{changes_are_borne_out, definitions_are_met, keeping_composes, logs_are_bounded};
 pub use list::{MAX_LIST_LENGTH, RunErr, Trail, run_list};
 pub use names::name_of;

@@ -15,8 +15,8 @@ use Rattle.motion_pass.proofs.pass.move_code.Goals as goal
 pub move_graphs-requires-clause-bounded : goal.move_graphs-requires-clause-bounded
 move_graphs-requires-clause-bounded c = subst (λ (gs : List declared-graph.Graph). AreBounded (map graph_view gs)) (sym c.deref.ensures.value) (bounded (unit_view c.args.unit.now) c.requires.valid)
 
-pub log_all-requires-clause-few : goal.log_all-requires-clause-few
-log_all-requires-clause-few c =
+pub log_cases-requires-clause-few : goal.log_cases-requires-clause-few
+log_cases-requires-clause-few c =
     let us = map graph_view c.args.unit.now.graphs.items in
     let vs = map graph_view c.in_ok-graphs.graphs.items in
     let are : AreCasesOf IsMovedAssignment us vs c.move_graphs.new.cases.items = search rules in
@@ -26,16 +26,16 @@ log_all-requires-clause-few c =
 
 pub returns-clause-log : goal.returns-clause-log
 returns-clause-log c =
-    changes_added c.motion_name.result _ Moved c.in_ok-moved.moved _ _ _ _ _ refl (c.in_ok-log_all.ensures.logged) c.in_ok-moved.ensures c.motion_name.ensures
+    changes_added c.motion_name.result _ Moved c.in_ok-moved.moved _ _ _ _ _ refl (c.in_ok-log_cases.ensures.logged) c.in_ok-moved.ensures c.motion_name.ensures
 
 pub returns-clause-changes : goal.returns-clause-changes
 returns-clause-changes c =
     let before = map graph_view c.args.unit.now.graphs.items in
     let after = map graph_view c.in_ok-graphs.graphs.items in
     let are : AreCasesOf IsMovedAssignment before after c.move_graphs.new.cases.items = search rules in
-    changes_of_cases c.motion_name.result _ Moved IsMovedAssignment c.in_ok-moved.moved _ _ _ _ _ _ refl (c.in_ok-log_all.ensures.logged) c.in_ok-moved.ensures c.motion_name.ensures
+    changes_of_cases c.motion_name.result _ Moved IsMovedAssignment c.in_ok-moved.moved _ _ _ _ _ _ refl (c.in_ok-log_cases.ensures.logged) c.in_ok-moved.ensures c.motion_name.ensures
     (subst (AreCasesOf IsMovedAssignment before after) (sym c.deref_mut.ensures.value) are)
-    (c.in_ok-log_all.ensures.same) (c.in_ok-log_all.ensures.in_order)
+    (c.in_ok-log_cases.ensures.same) (c.in_ok-log_cases.ensures.in_order)
 
 pub returns-clause-functions : goal.returns-clause-functions
 returns-clause-functions c =

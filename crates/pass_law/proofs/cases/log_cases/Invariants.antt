@@ -1,7 +1,7 @@
 use Rattle.std.proofs.Common.{◌≡◌, ◌<◌, ◌+◌, ◌++◌, ◌^◌, drop, length}
 use Rattle.debug_records.specs.Change.{changes}
 use Rattle.pass_law.specs.Cases.{logged}
-use Rattle.pass_law.proofs.cases.log_all.Given as goal
+use Rattle.pass_law.proofs.cases.log_cases.Given as goal
 
 abbrev pub invariant-loop-case : goal.invariant-loop-case
 invariant-loop-case l = record {

@@ -1,7 +1,7 @@
 use Rattle.std.proofs.Common.{arith}
 use Rattle.pass_law.proofs.InOrder.{in_order}
 use Rattle.pass_law.proofs.Logging.{longer, one_more}
-use Rattle.pass_law.proofs.cases.log_all.Goals as goal
+use Rattle.pass_law.proofs.cases.log_cases.Goals as goal
 
 pub loop-case-preserved : goal.loop-case-preserved
 loop-case-preserved c = record {
