@@ -35,7 +35,8 @@ fn motion_name() -> PassName
     }
 }
 
-/// The graph with its computations placed so, or an equal one where the unit would not stay within bounds. How much the unit has is kept.
+/// The graph with its computations placed so, or an equal one where the unit would not stay within bounds. How much the
+/// unit has is kept.
 fn moved_within(
     alloc: Global,
     room: Room,
@@ -48,9 +49,14 @@ fn moved_within(
     requires once { IsEnteredAgain (graph_view graph.now).blocks → ⊥ }
     requires few { length (graph_view graph.now).blocks ≤ most_blocks Large }
     requires inside { LeadInside (graph_view graph.now).blocks }
-    ensures becomes { IfOk result (λ h. (before behind : List spec.Graph) → IsAmount amount.old (before ++ graph_view graph.now ∷ behind) → BecomesIn room before (graph_view graph.now) behind (graph_view h)) }
-    ensures amount { IfOk result (λ h. (before behind : List spec.Graph) → IsAmount amount.old (before ++ graph_view graph.now ∷ behind) → IsAmount amount.new (before ++ graph_view h ∷ behind)) }
-    ensures cases { IfOk result (λ h. Adds (IsMovedAssignment (graph_view graph.now) (graph_view h)) cases.old.items cases.new.items) }
+    ensures becomes { IfOk result (λ h.
+        (before behind : List spec.Graph) → IsAmount amount.old (before ++ graph_view graph.now ∷ behind)
+        → BecomesIn room before (graph_view graph.now) behind (graph_view h)) }
+    ensures amount { IfOk result (λ h.
+        (before behind : List spec.Graph) → IsAmount amount.old (before ++ graph_view graph.now ∷ behind)
+        → IsAmount amount.new (before ++ graph_view h ∷ behind)) }
+    ensures cases { IfOk result (λ h.
+        Adds (IsMovedAssignment (graph_view graph.now) (graph_view h)) cases.old.items cases.new.items) }
 {
     let moved = moved_graph(alloc, graph, placement)?;
     let Some(after) = amount.replaced(room, graph, &moved) else {
@@ -62,7 +68,8 @@ fn moved_within(
     Ok(moved)
 }
 
-/// The graph with its computations moved, or an equal one where the unit would not stay within bounds or the first block is entered again.
+/// The graph with its computations moved, or an equal one where the unit would not stay within bounds or the first
+/// block is entered again.
 fn graph_after(
     alloc: Global,
     room: Room,
@@ -72,9 +79,14 @@ fn graph_after(
 ) -> Result<Graph, AllocError>
     requires bounded { IsBounded (graph_view graph.now) }
     requires inside { LeadInside (graph_view graph.now).blocks }
-    ensures becomes { IfOk result (λ h. (before behind : List spec.Graph) → IsAmount amount.old (before ++ graph_view graph.now ∷ behind) → BecomesIn room before (graph_view graph.now) behind (graph_view h)) }
-    ensures amount { IfOk result (λ h. (before behind : List spec.Graph) → IsAmount amount.old (before ++ graph_view graph.now ∷ behind) → IsAmount amount.new (before ++ graph_view h ∷ behind)) }
-    ensures cases { IfOk result (λ h. Adds (IsMovedAssignment (graph_view graph.now) (graph_view h)) cases.old.items cases.new.items) }
+    ensures becomes { IfOk result (λ h.
+        (before behind : List spec.Graph) → IsAmount amount.old (before ++ graph_view graph.now ∷ behind)
+        → BecomesIn room before (graph_view graph.now) behind (graph_view h)) }
+    ensures amount { IfOk result (λ h.
+        (before behind : List spec.Graph) → IsAmount amount.old (before ++ graph_view graph.now ∷ behind)
+        → IsAmount amount.new (before ++ graph_view h ∷ behind)) }
+    ensures cases { IfOk result (λ h.
+        Adds (IsMovedAssignment (graph_view graph.now) (graph_view h)) cases.old.items cases.new.items) }
 {
     let motion = place(alloc, graph)?;
     match motion {
@@ -99,7 +111,8 @@ fn move_graphs(
     requires bounded { AreBounded (map graph_view graphs.now) }
     requires none { cases.old.items ≡ [] }
     ensures moved { IfOk result (λ v. AreAllMoved room (map graph_view graphs.now) (map graph_view v.items)) }
-    ensures cases { IfOk result (λ v. AreCasesOf IsMovedAssignment (map graph_view graphs.now) (map graph_view v.items) cases.new.items) }
+    ensures cases { IfOk result (λ v.
+        AreCasesOf IsMovedAssignment (map graph_view graphs.now) (map graph_view v.items) cases.new.items) }
 {
     let mut amount = Amount::of(graphs);
     let mut moved = Vec::new(alloc);
@@ -111,19 +124,23 @@ fn move_graphs(
     Ok(moved)
 }
 
-/// The unit with its computations moved (Knoop, Rüthing and Steffen 1992), and a change of kind `Moved` for each assignment of a variable that reads a temporary in place of
+/// The unit with its computations moved (Knoop, Rüthing and Steffen 1992), and a change of kind `Moved` for each
+/// assignment of a variable that reads a temporary in place of
 /// its computation, in order of place, then of block and instruction.
 ///
-/// A function whose graph would pass a bound of valid units is left as it was, and one whose first block is entered again. The only error is want of memory.
+/// A function whose graph would pass a bound of valid units is left as it was, and one whose first block is entered
+/// again. The only error is want of memory.
 pub fn move_code(alloc: Global, unit: &Unit) -> Result<Unit, AllocError>
     requires valid { IsValid (unit_view unit.now) }
     requires room { length (unit_view unit.now).log < 2 ^ 31 }
     ensures valid { IfOk result (λ v. IsValid (unit_view v)) }
     ensures shared { IfOk result (λ v. ShareTheSame (unit_view unit.now) (unit_view v)) }
     ensures log { IfOk result (λ v. AddsChanges (pass_name (codes "motion")) Moved (unit_view unit.now) (unit_view v)) }
-    ensures changes { IfOk result (λ v. AddsChangesOf (pass_name (codes "motion")) Moved IsMovedAssignment (unit_view unit.now) (unit_view v)) }
+    ensures changes { IfOk result (λ v.
+        AddsChangesOf (pass_name (codes "motion")) Moved IsMovedAssignment (unit_view unit.now) (unit_view v)) }
     ensures functions { IfOk result (λ v. EachFunction KeepsFunction (unit_view unit.now).graphs (unit_view v).graphs) }
-    ensures moved { IfOk result (λ v. AreAllMoved (unit_view unit.now).room (unit_view unit.now).graphs (unit_view v).graphs) }
+    ensures moved { IfOk result
+        (λ v. AreAllMoved (unit_view unit.now).room (unit_view unit.now).graphs (unit_view v).graphs) }
 {
     let mut cases = Vec::new(alloc);
     let graphs = move_graphs(alloc, unit.room, &unit.graphs, &mut cases)?;

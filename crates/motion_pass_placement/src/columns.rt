@@ -57,9 +57,13 @@ fn put_fates(
 )
     requires { length fates.old ≡ length (block_view block.now).instructions }
     ensures size { length fates.new ≡ length fates.old }
-    ensures told { (blocks : List spec.Block) (reached : ℕ → Bool) (k : ℕ) (e : spec-computation.Computation) → IsBlock blocks reached number (block_view block.now) → IsTreated solved.now.column (block_view block.now) numbers.now k e → HasFacts blocks reached e k solved.now.facts
+    ensures told { (blocks : List spec.Block) (reached : ℕ → Bool) (k : ℕ) (e : spec-computation.Computation)
+        → IsBlock blocks reached number (block_view block.now)
+        → IsTreated solved.now.column (block_view block.now) numbers.now k e
+        → HasFacts blocks reached e k solved.now.facts
         → AreFated blocks number (block_view block.now) numbers.now k e fates.new }
-    ensures others { (index : ℕ) → in_column solved.now.column.index (number_at numbers.now index) ≡ None → fate_of fates.new index ≡ fate_of fates.old index }
+    ensures others { (index : ℕ) → in_column solved.now.column.index (number_at numbers.now index) ≡ None
+        → fate_of fates.new index ≡ fate_of fates.old index }
 {
     let past_start = word_of(&solved.facts.past_starts, number);
     put_late(&solved.column, block, numbers, past_start, fates);
@@ -124,7 +128,9 @@ impl Placing<'_> {
         requires solved { AreSolved self.now columns.now }
         requires within { number < length self.now.graph.now.blocks.items }
         ensures told { IfOk result (λ fates. AreRowFates self.now number fates.items) }
-        ensures size { IfOk result (λ fates. (b : spec.Block) → slice_get (blocks_in self.now) number ≡ Some b → length fates.items ≡ length b.instructions) }
+        ensures size { IfOk result (λ fates.
+            (b : spec.Block) → slice_get (blocks_in self.now) number ≡ Some b
+            → length fates.items ≡ length b.instructions) }
     {
         let block = &self.graph.blocks[number];
         let numbers = row_at(self.numbers, number);
@@ -158,7 +164,9 @@ fn flagged_numbers(
     flag: bool,
     computations: &Computations,
 ) -> Result<Vec<Option<u32>>, AllocError>
-    ensures told { AreNumbers computations.now → flag ≡ true → IfOk result (λ numbers. AreNumbersAlong (views_of computations.now) (block_view block.now).instructions numbers.items) }
+    ensures told { AreNumbers computations.now → flag ≡ true
+        → IfOk result (λ numbers.
+        AreNumbersAlong (views_of computations.now) (block_view block.now).instructions numbers.items) }
     ensures none { flag ≡ false → IfOk result (λ numbers. numbers.items ≡ []) }
 {
     if flag {
@@ -176,7 +184,9 @@ pub fn numbers_of(
     computations: &Computations,
 ) -> Result<Vec<Vec<Option<u32>>>, AllocError>
     requires { AreNumbers computations.now }
-    ensures told { IfOk result (λ rows. AreRows (map block_view blocks.now) (λ n. slice_index_or reached.now n false) (views_of computations.now) rows.items) }
+    ensures told { IfOk result (λ rows.
+        AreRows (map block_view blocks.now) (λ n. slice_index_or reached.now n false) (views_of computations.now)
+        rows.items) }
 {
     let mut all = Vec::new(alloc);
     for number in 0..blocks.len() {

@@ -56,7 +56,8 @@ pub struct Placement {
 /// What the placing of a graph's computations came to.
 #[derive(Drop)]
 pub enum Motion {
-    /// They stay: some path comes to an edge that leads into the first block, so nothing can be done before the entry alone.
+    /// They stay: some path comes to an edge that leads into the first block, so nothing can be done before the entry
+    /// alone.
     EnteredAgain,
     /// They are done so.
     Placed(Placement),
@@ -145,7 +146,8 @@ impl Placement {
 
     /// What becomes of an instruction that does the computation of a number, and does not stay.
     fn moved(&self, number: usize, is_late: bool) -> Action
-        ensures { result ≡ moved_by (slice_get self.now.computations.all.items number) (temporary_of self.now.temporaries.items number) is_late }
+        ensures { result ≡ moved_by (slice_get self.now.computations.all.items number)
+            (temporary_of self.now.temporaries.items number) is_late }
     {
         let computation = computation_at(&self.computations.all, number);
         let temporary = temporary_at(&self.temporaries, number);
@@ -154,8 +156,11 @@ impl Placement {
 
     /// What becomes of an instruction of a block.
     pub fn action(&self, block: u32, index: usize) -> Action
-        ensures by_rule { (g : spec.Graph) → IsPlaced g self.now → (b : spec.Block) → slice_get g.blocks block ≡ Some b → index < length b.instructions → IsCome g.blocks (point_at block b index) → IsActed g.blocks self.now (point_at block b index) result }
-        ensures nowhere { (g : spec.Graph) → IsPlaced g self.now → (b : spec.Block) → slice_get g.blocks block ≡ Some b → (IsCome g.blocks (point_at block b index) → ⊥) → result ≡ Keep }
+        ensures by_rule { (g : spec.Graph) → IsPlaced g self.now → (b : spec.Block) → slice_get g.blocks block ≡ Some b
+            → index < length b.instructions → IsCome g.blocks (point_at block b index)
+            → IsActed g.blocks self.now (point_at block b index) result }
+        ensures nowhere { (g : spec.Graph) → IsPlaced g self.now → (b : spec.Block) → slice_get g.blocks block ≡ Some b
+            → (IsCome g.blocks (point_at block b index) → ⊥) → result ≡ Keep }
     {
         let row = row_at(&self.numbers, block as usize);
         let Some(number) = number_in_row(row, index) else {
@@ -182,8 +187,11 @@ impl Placement {
         flag: bool,
         out: &mut Vec<Instr>,
     ) -> Result<(), AllocError>
-        ensures { (g : spec.Graph) → IsPlaced g self.now → (from to : ℕ) → ((e : spec-computation.Computation) → slice_get (all_of self.now) number ≡ Some e → (flag ≡ true) ↔ IsInserted g.blocks e (along from to)) → IsCome g.blocks (along from to)
-            → AreDone g.blocks self.now (along from to) number (map instruction_view out.old.items) → IfOk result (λ _. AreDone g.blocks self.now (along from to) (number + 1) (map instruction_view out.new.items)) }
+        ensures { (g : spec.Graph) → IsPlaced g self.now → (from to : ℕ) → ((e : spec-computation.Computation)
+            → slice_get (all_of self.now) number ≡ Some e
+            → (flag ≡ true) ↔ IsInserted g.blocks e (along from to)) → IsCome g.blocks (along from to)
+            → AreDone g.blocks self.now (along from to) number (map instruction_view out.old.items) → IfOk result
+            (λ _. AreDone g.blocks self.now (along from to) (number + 1) (map instruction_view out.new.items)) }
     {
         if !flag {
             return Ok(());
@@ -202,8 +210,11 @@ impl Placement {
     /// Appends the computations of bits of a column.
     fn push_bits(&self, column: usize, bits: u64, out: &mut Vec<Instr>) -> Result<(), AllocError>
         requires { column < 4294967296 }
-        ensures { (g : spec.Graph) → IsPlaced g self.now → (from to : ℕ) → ((k : ℕ) (e : spec-computation.Computation) → k / 64 ≡ column → slice_get (all_of self.now) k ≡ Some e → (has bits k ≡ true) ↔ IsInserted g.blocks e (along from to)) → IsCome g.blocks (along from to)
-            → AreDone g.blocks self.now (along from to) (column * 64) (map instruction_view out.old.items) → IfOk result (λ _. AreDone g.blocks self.now (along from to) (column * 64 + 64) (map instruction_view out.new.items)) }
+        ensures { (g : spec.Graph) → IsPlaced g self.now → (from to : ℕ) → ((k : ℕ) (e : spec-computation.Computation)
+            → k / 64 ≡ column → slice_get (all_of self.now) k ≡ Some e
+            → (has bits k ≡ true) ↔ IsInserted g.blocks e (along from to)) → IsCome g.blocks (along from to)
+            → AreDone g.blocks self.now (along from to) (column * 64) (map instruction_view out.old.items) → IfOk result
+            (λ _. AreDone g.blocks self.now (along from to) (column * 64 + 64) (map instruction_view out.new.items)) }
     {
         if bits == 0 {
             return Ok(());
@@ -217,8 +228,12 @@ impl Placement {
 
     /// The computations that are done on the edge from a block to another, in order.
     pub fn on_edge(&self, alloc: Global, from: u32, to: u32) -> Result<Vec<Instr>, AllocError>
-        ensures by_rule { (g : spec.Graph) → IsPlaced g self.now → (b : spec.Block) → slice_get g.blocks to ≡ Some b → IsCome g.blocks (along from to) → IfOk result (λ out. AreDone g.blocks self.now (along from to) (length (all_of self.now)) (map instruction_view out.items)) }
-        ensures nowhere { (g : spec.Graph) → IsPlaced g self.now → (b : spec.Block) → slice_get g.blocks from ≡ Some b → (IsCome g.blocks (within from [] b.end) → ⊥) → IfOk result (λ out. out.items ≡ []) }
+        ensures by_rule { (g : spec.Graph) → IsPlaced g self.now → (b : spec.Block) → slice_get g.blocks to ≡ Some b
+            → IsCome g.blocks (along from to)
+            → IfOk result (λ out.
+            AreDone g.blocks self.now (along from to) (length (all_of self.now)) (map instruction_view out.items)) }
+        ensures nowhere { (g : spec.Graph) → IsPlaced g self.now → (b : spec.Block) → slice_get g.blocks from ≡ Some b
+            → (IsCome g.blocks (within from [] b.end) → ⊥) → IfOk result (λ out. out.items ≡ []) }
     {
         let mut out = Vec::new(alloc);
         if !is_flagged(&self.reached, from as usize) {
@@ -239,7 +254,9 @@ impl Placement {
 /// Marks the computation of a number, if it does not stay.
 fn mark(number: Option<u32>, fate: Fate, treated: &mut [bool])
     ensures size { length treated.new ≡ length treated.old }
-    ensures marked { (k : ℕ) → k < length treated.old → slice_index_or treated.new k false ≡ (slice_index_or treated.old k false || (is_number k number && not (stays_by fate))) }
+    ensures marked { (k : ℕ) → k < length treated.old
+        → slice_index_or treated.new k false ≡
+        (slice_index_or treated.old k false || (is_number k number && not (stays_by fate))) }
 {
     if stays(fate) {
         return;
@@ -254,7 +271,9 @@ fn mark(number: Option<u32>, fate: Fate, treated: &mut [bool])
 /// Marks the computations of a block that do not all stay.
 fn mark_row(numbers: &[Option<u32>], fates: &[Fate], treated: &mut [bool])
     ensures size { length treated.new ≡ length treated.old }
-    ensures marked { (k : ℕ) → k < length treated.old → (slice_index_or treated.new k false ≡ true) ↔ ((slice_index_or treated.old k false ≡ true) ⊎ IsMovedBefore (length fates.now) numbers.now fates.now k) }
+    ensures marked { (k : ℕ) → k < length treated.old
+        → (slice_index_or treated.new k false ≡ true) ↔
+        ((slice_index_or treated.old k false ≡ true) ⊎ IsMovedBefore (length fates.now) numbers.now fates.now k) }
 {
     for index in 0..fates.len() {
         let number = number_in_row(numbers, index);
@@ -281,7 +300,10 @@ fn treated_of(
     count: usize,
 ) -> Result<Vec<bool>, AllocError>
     ensures size { IfOk result (λ treated. length treated.items ≡ count) }
-    ensures marked { IfOk result (λ treated. (k : ℕ) → k < count → (slice_index_or treated.items k false ≡ true) ↔ IsMovedAnywhere (length fates.now) numbers.now fates.now k) }
+    ensures marked { IfOk result (λ treated.
+        (k : ℕ) → k < count
+        → (slice_index_or treated.items k false ≡ true) ↔ IsMovedAnywhere (length fates.now) numbers.now fates.now
+        k) }
 {
     let mut treated = vec![in alloc; false; count]?;
     for block in 0..fates.len() {
@@ -303,10 +325,15 @@ impl Numbering {
     /// The next computation has a temporary or none.
     fn add(&mut self, flag: bool) -> Result<(), AllocError>
         requires { self.old.end_name < 2 ^ 32 - 1 }
-        ensures numbered { OnOk result ((first : ℕ) → AreNumbered first self.old.temporaries.items self.old.end_name → AreNumbered first self.new.temporaries.items self.new.end_name) }
+        ensures numbered { OnOk result
+            ((first : ℕ) → AreNumbered first self.old.temporaries.items self.old.end_name
+            → AreNumbered first self.new.temporaries.items self.new.end_name) }
         ensures count { OnOk result (length self.new.temporaries.items ≡ length self.old.temporaries.items + 1) }
-        ensures before { OnOk result ((k : ℕ) → k < length self.old.temporaries.items → slice_index_or self.new.temporaries.items k None ≡ slice_index_or self.old.temporaries.items k None) }
-        ensures flagged { OnOk result (is_some (slice_index_or self.new.temporaries.items (length self.old.temporaries.items) None) ≡ flag) }
+        ensures before { OnOk result
+            ((k : ℕ) → k < length self.old.temporaries.items → slice_index_or self.new.temporaries.items k None
+            ≡ slice_index_or self.old.temporaries.items k None) }
+        ensures flagged { OnOk result
+            (is_some (slice_index_or self.new.temporaries.items (length self.old.temporaries.items) None) ≡ flag) }
         ensures end { OnOk result (self.new.end_name ≤ self.old.end_name + 1) }
     {
         if !flag {
@@ -323,7 +350,9 @@ impl Numbering {
 fn numbered(alloc: Global, treated: &[bool], first_name: u32) -> Result<Numbering, AllocError>
     requires { first_name + length treated.now < 2 ^ 32 }
     ensures numbered { IfOk result (λ made. AreNumbered first_name made.temporaries.items made.end_name) }
-    ensures flagged { IfOk result (λ made. (k : ℕ) → k < length treated.now → is_some (slice_index_or made.temporaries.items k None) ≡ slice_index_or treated.now k false) }
+    ensures flagged { IfOk result (λ made.
+        (k : ℕ) → k < length treated.now
+        → is_some (slice_index_or made.temporaries.items k None) ≡ slice_index_or treated.now k false) }
     ensures size { IfOk result (λ made. length made.temporaries.items ≡ length treated.now) }
 {
     let mut made = Numbering {
@@ -347,9 +376,12 @@ fn placed(
 ) -> Result<Placement, AllocError>
     requires bounded { IsBounded (graph_view graph.now) }
     requires reached { AreReached (map block_view graph.now.blocks.items) (λ n. slice_index_or reached.items n false) }
-    requires once { (m : ℕ) → HasEdge (map block_view graph.now.blocks.items) (λ n. slice_index_or reached.items n false) m 0 → ⊥ }
+    requires once { (m : ℕ)
+        → HasEdge (map block_view graph.now.blocks.items) (λ n. slice_index_or reached.items n false) m 0 → ⊥ }
     requires known { AreNumbers computations }
-    requires order { AreOnce (computed_in (λ n. slice_index_or reached.items n false) 0 (map block_view graph.now.blocks.items)) (views_of computations) }
+    requires order { AreOnce
+        (computed_in (λ n. slice_index_or reached.items n false) 0 (map block_view graph.now.blocks.items))
+        (views_of computations) }
     ensures { IfOk result (IsPlaced (graph_view graph.now)) }
 {
     let numbers = numbers_of(alloc, &graph.blocks, &reached, &computations)?;

@@ -52,7 +52,9 @@ pub struct Column {
 fn put_operand(spoiled: &mut [u64], operand: Operand, number: u32)
     requires { AllByRecursion (λ x. x < length spoiled.old) (names_of (operand_view operand)) }
     ensures size { length spoiled.new ≡ length spoiled.old }
-    ensures marked { (x n : ℕ) → is_marked spoiled.new x n ≡ (is_marked spoiled.old x n || ((n % 64 == number % 64) && is_among x (names_of (operand_view operand)))) }
+    ensures marked { (x n : ℕ)
+        → is_marked spoiled.new x n ≡
+        (is_marked spoiled.old x n || ((n % 64 == number % 64) && is_among x (names_of (operand_view operand)))) }
 {
     match operand {
         Operand::Name(name) => {
@@ -66,7 +68,10 @@ fn put_operand(spoiled: &mut [u64], operand: Operand, number: u32)
 fn put_computation(spoiled: &mut [u64], computation: Computation, number: u32)
     requires { IsNamed (length spoiled.old) (computation_view computation) }
     ensures size { length spoiled.new ≡ length spoiled.old }
-    ensures marked { (x n : ℕ) → is_marked spoiled.new x n ≡ (is_marked spoiled.old x n || ((n % 64 == number % 64) && is_among x (operands_of (computation_view computation)))) }
+    ensures marked { (x n : ℕ)
+        → is_marked spoiled.new x n ≡
+        (is_marked spoiled.old x n ||
+        ((n % 64 == number % 64) && is_among x (operands_of (computation_view computation)))) }
 {
     match computation {
         Computation::Operated { left, right, .. } | Computation::Compared { left, right } => {
@@ -81,7 +86,10 @@ fn put_computation(spoiled: &mut [u64], computation: Computation, number: u32)
 fn put_number(spoiled: &mut [u64], all: &[Computation], number: u32)
     requires { AreNamed (length spoiled.old) (map computation_view all.now) }
     ensures size { length spoiled.new ≡ length spoiled.old }
-    ensures marked { (x n : ℕ) → is_marked spoiled.new x n ≡ (is_marked spoiled.old x n || ((n % 64 == number % 64) && is_operand (map computation_view all.now) number x)) }
+    ensures marked { (x n : ℕ)
+        → is_marked spoiled.new x n ≡
+        (is_marked spoiled.old x n ||
+        ((n % 64 == number % 64) && is_operand (map computation_view all.now) number x)) }
 {
     match all.get(number as usize) {
         Some(computation) => put_computation(spoiled, *computation, number),
@@ -137,7 +145,8 @@ impl Column {
 
     /// The computations of the column of which a name is an operand that is written.
     pub fn spoiled_by(&self, target: Option<Name>) -> u64
-        ensures { (n : ℕ) → has result n ≡ is_spoiled self.now.spoiled.items n (option_map (λ (x : declared-name.Name). x.0) target) }
+        ensures { (n : ℕ)
+            → has result n ≡ is_spoiled self.now.spoiled.items n (option_map (λ (x : declared-name.Name). x.0) target) }
     {
         match target {
             Some(name) => match self.spoiled.get(name.0 as usize) {
@@ -150,8 +159,10 @@ impl Column {
 
     /// What a block does, whose instructions do the computations of these numbers.
     pub fn local_of(&self, block: &Block, numbers: &[Option<u32>], all: &Computations) -> Local
-        ensures { IsColumn (views_of all.now) self.now.index self.now.spoiled.items → AreNumbers all.now → AreNumbersAlong (views_of all.now) (block_view block.now).instructions numbers.now
-            → (n : ℕ) (e : spec.Computation) → n / 64 ≡ self.now.index → slice_get (views_of all.now) n ≡ Some e → told_in result n ≡ told_along e (block_view block.now).instructions nothing }
+        ensures { IsColumn (views_of all.now) self.now.index self.now.spoiled.items → AreNumbers all.now
+            → AreNumbersAlong (views_of all.now) (block_view block.now).instructions numbers.now
+            → (n : ℕ) (e : spec.Computation) → n / 64 ≡ self.now.index → slice_get (views_of all.now) n ≡ Some e
+            → told_in result n ≡ told_along e (block_view block.now).instructions nothing }
     {
         let mut local = NOTHING;
         for index in 0..block.instructions.len() {
@@ -176,7 +187,8 @@ fn number_of(numbers: &[Option<u32>], index: usize) -> Option<u32>
     }
 }
 
-/// What a block does as far as one instruction further, which does this computation and then writes an operand of those.
+/// What a block does as far as one instruction further, which does this computation and then writes an operand of
+/// those.
 fn behind(local: Local, done: u64, written: u64) -> Local
     ensures { (n : ℕ) → told_in result n ≡ told_written (has written n) (told_done (has done n) (told_in local n)) }
 {

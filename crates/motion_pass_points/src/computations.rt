@@ -39,7 +39,9 @@ impl Computations {
         requires numbers { AreNumbers self.old }
         requires few { length self.old.all.items < 2 ^ 32 }
         ensures numbers { OnOk result (AreNumbers self.new) }
-        ensures once { OnOk result ((list : List spec.Computation) → AreOnce list (views_of self.old) → AreOnce (list ++ computation_view computation ∷ []) (views_of self.new)) }
+        ensures once { OnOk result
+            ((list : List spec.Computation) → AreOnce list (views_of self.old)
+            → AreOnce (list ++ computation_view computation ∷ []) (views_of self.new)) }
         ensures count { OnOk result (length self.new.all.items ≤ length self.old.all.items + 1) }
     {
         let key = computation.key();
@@ -55,10 +57,15 @@ impl Computations {
     /// Appends those of a block.
     fn add_block(&mut self, block: &Block) -> Result<(), AllocError>
         requires numbers { AreNumbers self.old }
-        requires few { length self.old.all.items + length (computed_along (block_view block.now).instructions) < 2 ^ 32 }
+        requires few { length self.old.all.items + length (computed_along (block_view block.now).instructions)
+            < 2 ^ 32 }
         ensures numbers { OnOk result (AreNumbers self.new) }
-        ensures once { OnOk result ((list : List spec.Computation) → AreOnce list (views_of self.old) → AreOnce (list ++ computed_along (block_view block.now).instructions) (views_of self.new)) }
-        ensures count { OnOk result (length self.new.all.items ≤ length self.old.all.items + length (computed_along (block_view block.now).instructions)) }
+        ensures once { OnOk result
+            ((list : List spec.Computation) → AreOnce list (views_of self.old)
+            → AreOnce (list ++ computed_along (block_view block.now).instructions) (views_of self.new)) }
+        ensures count { OnOk result
+            (length self.new.all.items
+            ≤ length self.old.all.items + length (computed_along (block_view block.now).instructions)) }
     {
         let mut ahead = block.instructions.as_slice();
         while let [instruction, rest @ ..] = ahead {
@@ -73,27 +80,28 @@ impl Computations {
     /// Appends those of a block, if it is flagged.
     fn add_flagged(&mut self, block: &Block, flag: bool) -> Result<(), AllocError>
         requires numbers { AreNumbers self.old }
-        requires few { length self.old.all.items + length (if flag then computed_along (block_view block.now).instructions else []) < 2 ^ 32 }
+        requires few { length self.old.all.items
+            + length (if flag then computed_along (block_view block.now).instructions else [])
+            < 2 ^ 32 }
         ensures numbers { OnOk result (AreNumbers self.new) }
-        ensures once { OnOk result ((list : List spec.Computation) → AreOnce list (views_of self.old) → AreOnce (list ++ (if flag then computed_along (block_view block.now).instructions else [])) (views_of self.new)) }
-        ensures count { OnOk result (length self.new.all.items ≤ length self.old.all.items + length (if flag then computed_along (block_view block.now).instructions else [])) }
+        ensures once { OnOk result
+            ((list : List spec.Computation) → AreOnce list (views_of self.old) → AreOnce
+            (list ++ (if flag then computed_along (block_view block.now).instructions else []))
+            (views_of self.new)) }
+        ensures count { OnOk result
+            (length self.new.all.items ≤ length self.old.all.items
+            + length (if flag then computed_along (block_view block.now).instructions else [])) }
     {
-        if flag {
-            self.add_block(block)
-        } else {
-            Ok(())
-        }
+        if flag { self.add_block(block) } else { Ok(()) }
     }
 
     /// The computations of the blocks of a graph that are flagged.
-    pub fn new(
-        alloc: Global,
-        blocks: &[Block],
-        flags: &[bool],
-    ) -> Result<Computations, AllocError>
+    pub fn new(alloc: Global, blocks: &[Block], flags: &[bool]) -> Result<Computations, AllocError>
         requires { counted_in (map block_view blocks.now) ≤ most_instructions_of_function }
         ensures numbers { IfOk result AreNumbers }
-        ensures once { IfOk result (λ made. AreOnce (computed_in (λ n. slice_index_or flags.now n false) 0 (map block_view blocks.now)) (views_of made)) }
+        ensures once { IfOk result (λ made.
+            AreOnce (computed_in (λ n. slice_index_or flags.now n false) 0 (map block_view blocks.now))
+            (views_of made)) }
     {
         let mut made = Computations {
             all: Vec::new(alloc),
@@ -111,7 +119,8 @@ impl Computations {
 
     /// The number of the computation that an instruction does, if it is one of them.
     pub fn number_of(&self, instruction: &Instr) -> Option<u32>
-        ensures { AreNumbers self.now → IsNumberOf (views_of self.now) (computed_by (instruction_view instruction.now)) result }
+        ensures { AreNumbers self.now
+            → IsNumberOf (views_of self.now) (computed_by (instruction_view instruction.now)) result }
     {
         let Some(computation) = Computation::of(instruction) else {
             return None;
@@ -126,7 +135,9 @@ impl Computations {
         alloc: Global,
         block: &Block,
     ) -> Result<Vec<Option<u32>>, AllocError>
-        ensures { AreNumbers self.now → IfOk result (λ numbers. AreNumbersAlong (views_of self.now) (block_view block.now).instructions numbers.items) }
+        ensures { AreNumbers self.now
+            → IfOk result (λ numbers.
+            AreNumbersAlong (views_of self.now) (block_view block.now).instructions numbers.items) }
     {
         let mut numbers = Vec::new(alloc);
         for index in 0..block.instructions.len() {

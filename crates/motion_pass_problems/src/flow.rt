@@ -105,7 +105,8 @@ impl Transfer for Flow<'_> {
 impl Flow<'_> {
     ghost use Rattle.motion_pass_problems.specs.Flowing.{AreBroughtThere};
 
-    /// To each block just the facts that some way brings to it, where these begin. The order in which blocks are visited decides how long that takes, and nothing else.
+    /// To each block just the facts that some way brings to it, where these begin. The order in which blocks are
+    /// visited decides how long that takes, and nothing else.
     pub fn solve(
         &self,
         alloc: Global,

@@ -8,14 +8,14 @@ use Rattle.motion_pass_points.proofs.Marking.{column_more}
 use Rattle.motion_pass_points.proofs.columns.put_all.Goals as goal
 
 pub loop-bit-init : goal.loop-bit-init
-loop-bit-init c = record { size = refl; marked = λ x n of. c.requires.clear x n ∙ sym (ap (λ b. b && is_operand (map computation_view c.args.all.now) n x) (le-ltb (n % 64) 0 (omega arith))); }
+loop-bit-init c = record { size = refl; marked = λ x n of. c.requires.clear x n ∙ sym (ap (λ b. b && is_operand (map computation_view c.args.all.now) n x) (le-ltb (n % 64) 0 (omega arith))) }
 
 pub loop-bit-preserved : goal.loop-bit-preserved
 loop-bit-preserved c = record {
   size = c.put_number.ensures.size ∙ c.loop-bit.invariant.size;
   marked = λ x n of.
-    (let small : c.loop-bit.bit < 64 = omega (arith, c.loop-bit-test.true) in
-    column_more (map computation_view c.args.all.now) c.args.index c.loop-bit.bit x n small of _ _ (c.loop-bit.invariant.marked x n of) (c.put_number.ensures.marked x n));
+      (let small : c.loop-bit.bit < 64 = omega (arith, c.loop-bit-test.true) in
+      column_more (map computation_view c.args.all.now) c.args.index c.loop-bit.bit x n small of _ _ (c.loop-bit.invariant.marked x n of) (c.put_number.ensures.marked x n));
 }
 
 pub put_number-requires : goal.put_number-requires
