@@ -40,11 +40,12 @@ returns c = record {
   enough = λ k e at.
       (let inside = slice_get_within (all_in c.args.self.now) k e at in
       let size = length-map c.args.self.now.computations.now.all.items computation_view in
-      omega (arith, inside, size, c.len-2.ensures, c.loop-index-test.false, c.loop-index.invariant.count));
+      let few = c.requires.computed in
+      omega (arith, inside, size, few, c.len.ensures, c.loop-index-test.false, c.loop-index.invariant.count));
 }
 
 pub solved-requires-clause-index : goal.solved-requires-clause-index
 solved-requires-clause-index c =
     let size = length-map c.args.self.now.computations.now.all.items computation_view in
     let few = c.requires.computed in
-    omega (arith, few, size, c.len-2.ensures, c.loop-index-test.true)
+    omega (arith, few, size, c.len.ensures, c.loop-index-test.true)
