@@ -126,7 +126,8 @@ fn push_unit(units: &mut Vec<Unit>, unit: Unit) -> Result<(), AllocError>
     Ok(())
 }
 
-/// Runs the passes of these names on a unit, in order. Of two passes of one name the first is taken. The error tells the first
+/// Runs the passes of these names on a unit, in order. Of two passes of one name the first is taken. The error tells
+/// the first
 /// name that is no pass's, or that memory was refused.
 pub fn run_list(
     alloc: Global,
@@ -138,7 +139,8 @@ pub fn run_list(
     requires marked { AreWellMarked (unit_view unit) }
     requires unchanged { (unit_view unit).log ≡ [] }
     ensures first { IfOk result (λ t. slice_get (map unit_view t.units.items) 0 ≡ Some (unit_view unit)) }
-    ensures trail { IfOk result (λ t. IsTrail (λ p. named p) (λ p. steps p) passes.now names.now (map unit_view t.units.items)) }
+    ensures trail { IfOk result
+        (λ t. IsTrail (λ p. named p) (λ p. steps p) passes.now names.now (map unit_view t.units.items)) }
     ensures keeps { IfOk result (λ t. AllPairs Keeps (map unit_view t.units.items)) }
     ensures reason { IfErr result (λ e. IsReason (λ p. named p) passes.now names.now e) }
 {
@@ -154,7 +156,8 @@ pub fn run_list(
     Ok(Trail { units })
 }
 
-/// Runs the passes of these names on a well marked unit without changes, in order, each by one step; of two passes of one
+/// Runs the passes of these names on a well marked unit without changes, in order, each by one step; of two passes of
+/// one
 /// name the first is taken. What is made of it keeps what the unit does, and so does what each step makes of the unit
 /// before it, with no more in the log than its pass may log. No names give the unit back. `AllocError` where memory was
 /// refused.
