@@ -1,7 +1,6 @@
 -- Passes of a name.
-use Rattle.std.proofs.Common.{◌≡◌, ◌≢◌, ℕ, ◌<◌, ◌+◌, List, ◌∷◌, sym, subst, ap, ◌∙◌, take, length, get_or, map}
+use Rattle.std.proofs.Common.{◌≡◌, ◌≢◌, ℕ, ◌<◌, ◌+◌, List, sym, subst, ap, ◌∙◌, take, length, get_or, map}
 use Rattle.std.specs.Prelude.{Bool, true, false}
-use Rattle.std.specs.List.{All, Any}
 use Rattle.std.proofs.lemmas.List.{take_more, length-map, get_or-map, map_more}
 use Rattle.std.proofs.lemmas.List.Elements.{All-push}
 use Rattle.debug_records.specs.declared.change.PassName.{PassName}

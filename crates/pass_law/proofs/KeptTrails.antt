@@ -1,6 +1,6 @@
 -- Trails grow by a step, and of every two of their units the earlier is kept by the later.
 use Rattle.std.proofs.Common.{◌≡◌, ℕ, zero, suc, ◌<◌, ◌≤◌, ◌+◌, ◌*◌, ◌^◌, List, [], ◌∷◌, ◌++◌, Some, refl, sym, ap, ◌∙◌, subst, map, take, length, length-append, get_or, length-take, below_more, arith}
-use Rattle.std.specs.Prelude.{slice_get, option_map, AllPairs, IsSomeAnd}
+use Rattle.std.specs.Prelude.{slice_get, option_map, AllPairs}
 use Rattle.std.specs.List.{All}
 use Rattle.std.proofs.lemmas.List.{take_more, length-map}
 use Rattle.std.proofs.lemmas.List.Elements.{All-nil, All-cons, All-weaker}
