@@ -24,3 +24,4 @@ pub mod Shape
 pub mod LogsLittle
 pub mod FewCases
 pub mod LoggedWell
+pub mod LogLonger

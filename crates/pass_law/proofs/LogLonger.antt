@@ -125,7 +125,8 @@ module _ (u : UnitForm) (added : List Logged) where
     graphs = all_map (IsGraph u) (IsGraph longer) is_graph u.graphs h.graphs;
   }
 
-  still_marked : AreWellMarked u → AreWellMarked longer
+  -- it is well marked where that one is
+  pub still_marked : AreWellMarked u → AreWellMarked longer
   still_marked h = record { valid = valid h.valid; graphs = λ f g is. well_marked g (h.graphs f g is) }
 
   -- each step is the same

@@ -1,0 +1,1 @@
+use Rattle.home_assign.proofs.FewShared.{few_shared}
