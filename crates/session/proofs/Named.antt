@@ -1,9 +1,8 @@
 -- The passes that a job names are at most 32.
-use Rattle.std.proofs.Common.{◌≡◌, ◌≤◌, List, length, Bool, true, false, Option, Some, None, arith, lit≤, refl, subst}
+use Rattle.std.proofs.Common.{◌≡◌, ◌≤◌, ℕ, List, [], length, Bool, true, false, Option, Some, None, arith, lit≤, refl, subst}
 use Rattle.std.specs.Prelude.{if◌then◌else◌, nat_le, codes, option_map, unwrap_or}
 use Rattle.std.specs.List.{list_all}
 use Rattle.std.specs.Str.{bytes_eq}
-use Rattle.std.specs.Prelude.{ℕ}
 use Rattle.base_laws.proofs.Numbers.{at_most}
 use Rattle.debug_records.specs.declared.change.PassName.{PassName}
 use Rattle.debug_records.specs.declared.mode.Mode.{Mode}
