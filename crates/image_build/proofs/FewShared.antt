@@ -32,9 +32,9 @@ few_from (s ∷ all) least pairs each most =
     let here = each 0 s (omega arith) in
     let rest = few_from all (key s + 1) (λ i j d below within. pairs (suc i) (suc j) d (omega (arith, below)) (omega (arith, within)))
     (λ j d within.
-        let other = each (suc j) d (omega (arith, within)) in
-        let up = before_key s (get_or all j d) here.low (pairs 0 (suc j) d (omega arith) (omega (arith, within))) in
-        record { at_least = omega (arith, up); low = other.low; below = other.below })
+    let other = each (suc j) d (omega (arith, within)) in
+    let up = before_key s (get_or all j d) here.low (pairs 0 (suc j) d (omega arith) (omega (arith, within))) in
+    record { at_least = omega (arith, up); low = other.low; below = other.below })
     (omega (arith, here.below)) in
     omega (arith, rest, here.at_least)
 

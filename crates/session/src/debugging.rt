@@ -17,12 +17,7 @@ use pass_law::Pass;
 use std::alloc::Global;
 
 /// The image of the source of a job, and its bytes.
-fn make(
-    alloc: Global,
-    source: &[u8],
-    passes: &[Box<dyn Pass>],
-    job: &Debug,
-) -> Result<Made, Status>
+fn make(alloc: Global, source: &[u8], passes: &[Box<dyn Pass>], job: &Debug) -> Result<Made, Status>
     requires { CanRun (λ p. named p) passes.now (given.debug_given job.now).passes }
     ensures { MakeEnds (λ p. named p) (λ p. (steps p).leads) passes.now result source.now
         (given.debug_given job.now).passes job.now.mode }

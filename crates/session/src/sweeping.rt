@@ -77,12 +77,7 @@ fn swept(alloc: Global, job: &Sweep, passes: &[Box<dyn Pass>]) -> Result<Summary
 }
 
 /// Generates a program, compiles it, steps its run to the end, and puts out the summary. Nothing is loaded or saved, whatever a shelf holds.
-pub fn sweep<K: Sink>(
-    alloc: Global,
-    job: &Sweep,
-    passes: &[Box<dyn Pass>],
-    sink: &mut K,
-) -> Status
+pub fn sweep<K: Sink>(alloc: Global, job: &Sweep, passes: &[Box<dyn Pass>], sink: &mut K) -> Status
     requires { CanRun (λ p. named p) passes.now default_names }
     ensures { (loads saves : ℕ) (shelf_tells : Bool) (held : List ℕ → Option (List ℕ)) →
         Ends (λ p. named p) (λ p. (steps p).leads) passes.now (given.sweep (given.sweep_given job.now))

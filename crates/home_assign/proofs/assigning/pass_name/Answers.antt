@@ -1,1 +1,0 @@
-use Rattle.home_assign.proofs.FewShared.{few_shared}
