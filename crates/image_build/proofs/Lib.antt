@@ -50,5 +50,3 @@ pub mod Noted
 pub mod PassesTruthWords
 pub mod Nodes
 pub mod Coming
-pub mod FewShared
-pub mod Homed
