@@ -27,3 +27,6 @@ pub returns-clause-logs : goal.returns-clause-logs
 returns-clause-logs c =
     subst (λ name. IfOk c.propagate_copies.result (λ v. LogsWell name (unit_view c.args.unit.now) (unit_view v))) (sym c.args.self.now.called)
     (made_so PropagatesCopies (LogsWell (pass_name (codes "copy"))) copies_logged (unit_view c.args.unit.now) c.propagate_copies.result (returns-clause-step c))
+
+pub propagate_copies-requires-clause-valid : goal.propagate_copies-requires-clause-valid
+propagate_copies-requires-clause-valid c = c.requires.marked.valid

@@ -28,3 +28,6 @@ pub returns-clause-logs : goal.returns-clause-logs
 returns-clause-logs c =
     subst (λ name. IfOk c.remove_dead.result (λ v. LogsWell name (unit_view c.args.unit.now) (unit_view v))) (sym c.args.self.now.called)
     (made_so RemovesDead (LogsWell (pass_name (codes "dead"))) dead_logged (unit_view c.args.unit.now) c.remove_dead.result (returns-clause-step c))
+
+pub remove_dead-requires-clause-valid : goal.remove_dead-requires-clause-valid
+remove_dead-requires-clause-valid c = c.requires.marked.valid

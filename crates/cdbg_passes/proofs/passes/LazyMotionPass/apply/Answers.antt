@@ -25,3 +25,6 @@ pub returns-clause-logs : goal.returns-clause-logs
 returns-clause-logs c =
     subst (λ name. IfOk c.move_code.result (λ v. LogsWell name (unit_view c.args.unit.now) (unit_view v))) (sym c.args.self.now.called)
     (made_so MovesCode (LogsWell (pass_name (codes "motion"))) motion_logged (unit_view c.args.unit.now) c.move_code.result (returns-clause-step c))
+
+pub move_code-requires-clause-valid : goal.move_code-requires-clause-valid
+move_code-requires-clause-valid c = c.requires.marked.valid
