@@ -24,7 +24,7 @@ use c_tree::Program;
 use debug_records::{Mode, PassName};
 use home_assign::assign;
 use image_form_drafts::spelled_image;
-use pass_law::{MAX_LIST_LENGTH, Pass};
+use pass_law::Pass;
 use std::alloc::{AllocError, Global};
 
 /// Whether no pass is run and variables are kept in slots.
@@ -50,7 +50,7 @@ pub fn image_of_program(
     requires laws { IsWellFormed (program_view program) }
     requires names { HasNames (program_view program) }
     requires spots { HasSpots (program_view program) }
-    requires few { length names.now ≤ MAX_LIST_LENGTH }
+    requires few { length names.now ≤ 32 }
     requires handed_in { AreHandedIn (λ p. named p) passes.now (map letters names.now) }
     ensures image { IfOk result (λ o. IfSome o (λ b. IsImage (form b.image))) }
     ensures bytes { IfOk result (λ o. IfSome o (λ b. b.bytes.items ≡ spelling (form b.image))) }

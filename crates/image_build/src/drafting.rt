@@ -30,7 +30,7 @@ use graph_homes::HomedUnit;
 use image_build_tables::{Parts, image_of};
 use image_form::Image;
 use image_form_drafts::tables_fit;
-use pass_law::{MAX_LIST_LENGTH, Pass, run_passes};
+use pass_law::{Pass, run_passes};
 use rv_emit::emit;
 use std::alloc::{AllocError, Global};
 
@@ -45,7 +45,7 @@ pub fn unit_of(
 ) -> Result<Unit, AllocError>
     requires fits { Fits32 (program_view program.now) }
     requires laws { IsWellFormed (program_view program.now) }
-    requires few { length names.now ≤ MAX_LIST_LENGTH }
+    requires few { length names.now ≤ 32 }
     requires handed_in { AreHandedIn (λ p. named p) passes.now (map letters names.now) }
     ensures valid { IfOk result (λ u. IsValid (unit_view u)) }
     ensures marked { IfOk result (λ u. AreWellMarked (unit_view u)) }

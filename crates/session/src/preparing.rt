@@ -123,7 +123,8 @@ fn lines_for(
         (map (λ line. line.items) lines.items)) }
 {
     let unit = unit_of(alloc, program, passes, names)?;
-    change_lines(alloc, program, unit.log.changes())
+    let lines = change_lines(alloc, program, unit.log.changes())?;
+    Ok(lines)
 }
 
 /// The lines of the changes that the passes of these names make in a source, which else is refused for the first rule of

@@ -44,3 +44,9 @@ run_passes-requires-clause-unchanged g c = c.in_ok-unit.ensures.built.forms.log
 
 pub returns-clause-few_changes : goal.returns-clause-few_changes
 returns-clause-few_changes g c = few_by (unit_view c.in_ok-unit.unit) c.run_passes.result (length c.args.names.now) c.requires.few c.run_passes.ensures.few_changes
+
+pub run_passes-requires-clause-few : goal.run_passes-requires-clause-few
+run_passes-requires-clause-few g c = c.requires.few
+
+pub run_passes-requires-clause-handed_in : goal.run_passes-requires-clause-handed_in
+run_passes-requires-clause-handed_in g c = c.requires.handed_in

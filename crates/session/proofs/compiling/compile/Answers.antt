@@ -105,3 +105,6 @@ returns g c = λ puts tells taken. record {
   };
   transcript = search rules;
 }
+
+pub make-requires : goal.make-requires
+make-requires g c = c.requires

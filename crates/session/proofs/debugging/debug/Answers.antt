@@ -238,3 +238,6 @@ returns g c = record {
     done = search rules;
   };
 }
+
+pub make-requires : goal.make-requires
+make-requires g c = c.requires

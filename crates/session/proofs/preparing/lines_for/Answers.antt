@@ -1,6 +1,5 @@
 use Rattle.std.proofs.Common.{◌≤◌, map, ap, subst, ◌∙◌}
 use Rattle.std.proofs.lemmas.List.{length-map}
-use Rattle.std.proofs.lemmas.Result.{IfOk-weaker}
 use Rattle.c_tree.specs.Programs.{program_view}
 use Rattle.graph_core.specs.Graphs.{logged, unit_view}
 use Rattle.session_lines.specs.ChangeLinesLines.{lines_of}
@@ -24,5 +23,5 @@ pub returns : goal.returns
 returns g c =
     let p = program_view c.args.program.now in
     let is = c.in_ok-unit.ensures in
-    IfOk-weaker c.change_lines.result _ _
-    (λ lines are. lines_are p c.args.names.now (unit_view c.in_ok-unit.unit) (map (λ line. line.items) lines.items) is.comes is.valid is.shape is.built (are ∙ ap (λ cs. lines_of p 1 (map logged cs)) c.changes.ensures)) c.change_lines.ensures
+    lines_are p c.args.names.now (unit_view c.in_ok-unit.unit) (map (λ line. line.items) c.in_ok-lines.lines.items) is.comes is.valid is.shape is.built
+    (c.in_ok-lines.ensures ∙ ap (λ cs. lines_of p 1 (map logged cs)) c.changes.ensures)
