@@ -1,22 +1,28 @@
 -- Functions, one after the other.
-use Rattle.std.proofs.Common.{◌≡◌, ℕ, zero, suc, ◌+◌, ◌≤◌, List, [], ◌∷◌, ◌++◌, length, drop, Option, Some, None, refl, sym, ap, ◌∙◌, subst, arith, append_assoc}
+use Rattle.std.proofs.Common.{◌≡◌, ℕ, zero, suc, ◌+◌, ◌<◌, ◌≤◌, List, [], ◌∷◌, ◌++◌, length, drop, Option, Some, None, refl, sym, ap, ◌∙◌, subst, arith, append_assoc}
 use Rattle.std.specs.Prelude.{slice_get}
 use Rattle.std.specs.List.{AllByRecursion}
 use Rattle.std.proofs.lemmas.List.{append-nil, drop_all}
 use Rattle.std.proofs.lemmas.Option.{none-some, same_Some}
 use Rattle.memory_map.specs.declared.map.Room.{Room}
 use Rattle.graph_core.proofs.Rooms.{instructions_in, blocks_in}
-use Rattle.graph_core.specs.Graphs.{Block, Graph, UnitForm}
+use Rattle.graph_core.specs.Computations.{Computation, computed_by}
+use Rattle.graph_core.specs.Graphs.{Block, Graph, Instruction, Operate, Truncate, Same, Operand, Name, Constant, StaticAddress, UnitForm}
+use Rattle.graph_core.specs.Uses.{names_of}
 use Rattle.graph_core.specs.Paths.{Among, front, behind}
-use Rattle.graph_core.specs.Validity.{IsBlock, IsGraph, IsKept, IsValid, place_at_end, total}
+use Rattle.graph_core.specs.Validity.{IsBlock, IsGraph, IsInstruction, IsKept, IsOperand, IsValid, place_at_end, total}
 use Rattle.pass_law.specs.declared.cases.Case.{Case}
 use Rattle.pass_law.specs.Changes.{Below, IsCaseOf}
 use Rattle.pass_law.specs.Kept.{EachFunction, KeepsFunction}
 use Rattle.pass_law.proofs.Adding.{all_same}
 use Rattle.pass_law.proofs.OfFunctions.{AreCasesBelow}
 use Rattle.motion_pass_problems.proofs.Inner.{drop_at}
+use Rattle.base_laws.proofs.Lists.{all_weaker, both_all}
+use Rattle.motion_pass_points.specs.MotionPointsComputing.{computed_along, with_some}
+use Rattle.motion_pass_points.specs.Named.{AreNamed}
 use Rattle.motion_pass_points.proofs.Numbering.{snoc_old}
 use Rattle.motion_pass_placement.proofs.Rows.{got_below}
+use Rattle.motion_pass_placement.specs.Bounded.{IsBounded}
 use Rattle.motion_pass_placement.specs.Moves.{BecomesIn, moves, passes_a_bound, is_entered_again, BecomeIn, no_function, one_function}
 use Rattle.motion_pass.specs.declared.bounds.Amount.{Amount}
 use Rattle.motion_pass.specs.Amounts.{AreBounded, IsAmount}
@@ -109,11 +115,40 @@ kept_there : (place : Option ℕ) (o : Option Block) → IsKept place o → (c :
 kept_there place None kept = absurd kept
 kept_there place (Some c) kept = (c, refl)
 
+-- an operand of a graph is a name of it
+operand_named : (u : UnitForm) (g : Graph) (a : Operand) → IsOperand u.statics g a → AllByRecursion (λ y. y < g.name_count) (names_of a)
+operand_named u g (Name x) is = (is, tt)
+operand_named u g (Constant w) is = tt
+operand_named u g (StaticAddress object offset) is = tt
+
+-- an instruction computes of names of its graph
+made_named : (u : UnitForm) (g : Graph) (i : Instruction) (more : List Computation) → IsInstruction u g i → AreNamed g.name_count more → AreNamed g.name_count (with_some (computed_by i) more)
+made_named u g (Operate x o a b) more is rest = (both_all (λ y. y < g.name_count) (names_of a) (names_of b) (operand_named u g a is.1.0) (operand_named u g b is.1.1), rest)
+made_named u g (Truncate x t a) more is rest = (operand_named u g a is.1, rest)
+made_named u g (Same x a b) more is rest = (both_all (λ y. y < g.name_count) (names_of a) (names_of b) (operand_named u g a is.1.0) (operand_named u g b is.1.1), rest)
+made_named u g _ more is rest = rest
+
+all_named : (u : UnitForm) (g : Graph) (all : List Instruction) → AllByRecursion (IsInstruction u g) all → AreNamed g.name_count (computed_along all)
+all_named u g [] are = tt
+all_named u g (i ∷ rest) are = made_named u g i (computed_along rest) are.0 (all_named u g rest are.1)
+
+-- a graph of a valid unit is within the bounds of a function
+graph_bounded : (u : UnitForm) → IsValid u → (n : ℕ) (g : Graph) → slice_get u.graphs n ≡ Some g → IsBounded g
+graph_bounded u valid n g at =
+    let graph = all_at (IsGraph u) u.graphs n g at valid.graphs in
+    record {
+      blocks = (let one = one_of_total (λ (f : Graph). length f.blocks) u.graphs n g at in let all = valid.blocks in omega (arith, one, all, blocks_in u.room));
+      instructions = graph.instructions;
+      names = graph.names;
+      named = all_weaker (IsBlock u g) (λ (b : Block). AreNamed g.name_count (computed_along b.instructions)) g.blocks (λ b is. all_named u g b.instructions is.instructions) graph.blocks;
+    }
+
 -- the graphs of a valid unit
 pub bounded : (u : UnitForm) → IsValid u → AreBounded u.graphs
 bounded u valid = record {
   instructions = (let few = valid.instructions in omega (arith, few, instructions_in u.room));
   blocks = (let few = valid.blocks in omega (arith, few, blocks_in u.room));
+  each = graph_bounded u valid;
   inside = λ n g at m b here l among.
       (let graph = all_at (IsGraph u) u.graphs n g at valid.graphs in
       let block = all_at (IsBlock u g) g.blocks m b here graph.blocks in

@@ -16,3 +16,4 @@ mod Within
 mod Leading
 mod More
 mod Entering
+pub mod FewMoved

@@ -39,7 +39,8 @@ fn counted(instructions: &[Instr]) -> u64
 }
 
 fn counted_along(blocks: &[Block]) -> u64
-    ensures { result ≡ min (total (λ (b : spec.Block). total counts b.instructions) (map block_view blocks.now)) (2 ^ 64 - 1) }
+    ensures { result
+        ≡ min (total (λ (b : spec.Block). total counts b.instructions) (map block_view blocks.now)) (2 ^ 64 - 1) }
 {
     blocks.iter().fold(
         0,
@@ -77,8 +78,10 @@ impl Amount {
 
     /// How much these graphs have.
     pub fn of(graphs: &[Graph]) -> Amount
-        ensures instructions { result.instructions ≡ min (total instructions_of (map graph_view graphs.now)) (2 ^ 64 - 1) }
-        ensures blocks { result.blocks ≡ min (total (λ (g : spec.Graph). length g.blocks) (map graph_view graphs.now)) (2 ^ 64 - 1) }
+        ensures instructions { result.instructions
+            ≡ min (total instructions_of (map graph_view graphs.now)) (2 ^ 64 - 1) }
+        ensures blocks { result.blocks
+            ≡ min (total (λ (g : spec.Graph). length g.blocks) (map graph_view graphs.now)) (2 ^ 64 - 1) }
     {
         Amount {
             instructions: counted_in(graphs),
@@ -88,8 +91,12 @@ impl Amount {
 
     /// How much there is with a graph in place of another, or the greatest number where it is more.
     fn with(self, graph: &Graph, moved: &Graph) -> Amount
-        ensures instructions { (before behind : List spec.Graph) → IsAmount self (before ++ graph_view graph.now ∷ behind) → result.instructions ≡ min (total instructions_of (before ++ graph_view moved.now ∷ behind)) (2 ^ 64 - 1) }
-        ensures blocks { (before behind : List spec.Graph) → IsAmount self (before ++ graph_view graph.now ∷ behind) → result.blocks ≡ min (total (λ (g : spec.Graph). length g.blocks) (before ++ graph_view moved.now ∷ behind)) (2 ^ 64 - 1) }
+        ensures instructions { (before behind : List spec.Graph)
+            → IsAmount self (before ++ graph_view graph.now ∷ behind)
+            → result.instructions ≡ min (total instructions_of (before ++ graph_view moved.now ∷ behind)) (2 ^ 64 - 1) }
+        ensures blocks { (before behind : List spec.Graph) → IsAmount self (before ++ graph_view graph.now ∷ behind)
+            → result.blocks ≡ min
+            (total (λ (g : spec.Graph). length g.blocks) (before ++ graph_view moved.now ∷ behind)) (2 ^ 64 - 1) }
     {
         let was = counted_of(graph);
         let own = counted_of(moved);
@@ -103,11 +110,16 @@ impl Amount {
         }
     }
 
-    /// How much there is with a graph in place of another, if that is within the bounds of a unit of this room, and the graph within those of a function.
+    /// How much there is with a graph in place of another, if that is within the bounds of a unit of this room, and the
+    /// graph within those of a function.
     pub fn replaced(self, room: Room, graph: &Graph, moved: &Graph) -> Option<Amount>
-        ensures within { (before behind : List spec.Graph) → IsAmount self (before ++ graph_view graph.now ∷ behind) → IfSome result (λ a. IsWithin room (graph_view moved.now) (before ++ graph_view moved.now ∷ behind)) }
-        ensures amount { (before behind : List spec.Graph) → IsAmount self (before ++ graph_view graph.now ∷ behind) → IfSome result (λ a. IsAmount a (before ++ graph_view moved.now ∷ behind)) }
-        ensures beyond { (before behind : List spec.Graph) → IsAmount self (before ++ graph_view graph.now ∷ behind) → result ≡ None → IsWithin room (graph_view moved.now) (before ++ graph_view moved.now ∷ behind) → ⊥ }
+        ensures within { (before behind : List spec.Graph) → IsAmount self (before ++ graph_view graph.now ∷ behind)
+            → IfSome result (λ a. IsWithin room (graph_view moved.now) (before ++ graph_view moved.now ∷ behind)) }
+        ensures amount { (before behind : List spec.Graph) → IsAmount self (before ++ graph_view graph.now ∷ behind)
+            → IfSome result (λ a. IsAmount a (before ++ graph_view moved.now ∷ behind)) }
+        ensures beyond { (before behind : List spec.Graph) → IsAmount self (before ++ graph_view graph.now ∷ behind)
+            → result ≡ None
+            → IsWithin room (graph_view moved.now) (before ++ graph_view moved.now ∷ behind) → ⊥ }
     {
         let own = counted_of(moved);
         let all = self.with(graph, moved);

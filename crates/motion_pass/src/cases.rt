@@ -22,7 +22,8 @@ use motion_pass_placement::{Action, Placement};
 use pass_law::Case;
 use std::alloc::AllocError;
 
-/// A point of a graph: the place in force there, if there is one, its block, how many instructions stand before it, and whether a temporary is read there.
+/// A point of a graph: the place in force there, if there is one, its block, how many instructions stand before it, and
+/// whether a temporary is read there.
 #[derive(Drop)]
 struct Point {
     place: Option<Place>,
@@ -33,7 +34,9 @@ struct Point {
 
 /// Whether an instruction reads a temporary.
 fn reads_at(placement: &Placement, number: u32, index: usize) -> bool
-    ensures { (g : spec.Graph) → IsPlaced g placement.now → (b : spec.Block) → slice_get g.blocks number ≡ Some b → index < length b.instructions → (result ≡ true) ↔ ((e : Computation) × IsReadAt g.blocks e (point_at number b index)) }
+    ensures { (g : spec.Graph) → IsPlaced g placement.now → (b : spec.Block) → slice_get g.blocks number ≡ Some b
+        → index < length b.instructions
+        → (result ≡ true) ↔ ((e : Computation) × IsReadAt g.blocks e (point_at number b index)) }
 {
     match placement.action(number, index) {
         Action::Keep => false,
@@ -59,7 +62,9 @@ fn add_case(
     target: Option<Name>,
     cases: &mut Vec<Case>,
 ) -> Result<(), AllocError>
-    ensures { OnOk result (Adds (IsReadingAt (map scalar_view scalars.now) point.now.reads (placed point.now.place) point.now.block point.now.index (option_map (λ (n : declared-name.Name). n.0) target)) cases.old.items cases.new.items) }
+    ensures { OnOk result
+        (Adds (IsReadingAt (map scalar_view scalars.now) point.now.reads (placed point.now.place) point.now.block
+        point.now.index (option_map (λ (n : declared-name.Name). n.0) target)) cases.old.items cases.new.items) }
 {
     if !point.reads {
         return Ok(());
@@ -93,7 +98,10 @@ fn add_block(
 ) -> Result<(), AllocError>
     requires are { IsPlaced (graph_view graph.now) placement.now }
     requires at { slice_get (graph_view graph.now).blocks number ≡ Some (block_view block.now) }
-    ensures { OnOk result (Adds (IsReadingIn (graph_view graph.now).scalars (graph_view graph.now).blocks number (block_view block.now)) cases.old.items cases.new.items) }
+    ensures { OnOk result
+        (Adds
+        (IsReadingIn (graph_view graph.now).scalars (graph_view graph.now).blocks number (block_view block.now))
+        cases.old.items cases.new.items) }
 {
     let mut place = block.place;
     for index in 0..block.instructions.len() {
@@ -110,7 +118,8 @@ fn add_block(
     Ok(())
 }
 
-/// Appends the cases of a function: the assignments of scalars that read temporaries, as its computations are placed. They come block by block.
+/// Appends the cases of a function: the assignments of scalars that read temporaries, as its computations are placed.
+/// They come block by block.
 pub fn add_moved(
     graph: &Graph,
     placement: &Placement,

@@ -27,7 +27,10 @@ struct Moving<'a> {
 
 /// Appends the instruction that reads a temporary in place of a computation.
 fn push_read(instruction: &Instr, temporary: Name, out: &mut Vec<Instr>) -> Result<(), AllocError>
-    ensures { (x : ℕ) → target_of (instruction_view instruction.now) ≡ Some x → OnOk result (map instruction_view out.new.items ≡ map instruction_view out.old.items ++ spec.Move x (spec.Name temporary.0) ∷ []) }
+    ensures { (x : ℕ) → target_of (instruction_view instruction.now) ≡ Some x
+        → OnOk result
+        (map instruction_view out.new.items
+        ≡ map instruction_view out.old.items ++ spec.Move x (spec.Name temporary.0) ∷ []) }
 {
     let Some(target) = instruction.target() else {
         return Ok(());
@@ -63,8 +66,10 @@ impl Moving<'_> {
         out: &mut Vec<Instr>,
     ) -> Result<(), AllocError>
         requires { IsMoving self.now }
-        ensures { (b : spec.Block) → slice_get (blocks_of self.now) number ≡ Some b → slice_get b.instructions index ≡ Some (instruction_view instruction.now)
-            → OnOk result (IsPushed self.now (point_at number b index) (instruction_view instruction.now) (map instruction_view out.old.items) (map instruction_view out.new.items)) }
+        ensures { (b : spec.Block) → slice_get (blocks_of self.now) number ≡ Some b → slice_get b.instructions index
+            ≡ Some (instruction_view instruction.now)
+            → OnOk result (IsPushed self.now (point_at number b index) (instruction_view instruction.now)
+            (map instruction_view out.old.items) (map instruction_view out.new.items)) }
     {
         match self.placement.action(number, index) {
             Action::Keep => {
@@ -89,7 +94,9 @@ impl Moving<'_> {
     fn instructions(&self, number: u32, block: &Block) -> Result<Vec<Instr>, AllocError>
         requires moving { IsMoving self.now }
         requires at { slice_get (blocks_of self.now) number ≡ Some (block_view block.now) }
-        ensures { IfOk result (λ made. AreMoved (blocks_of self.now) (first_of self.now) (treated_in self.now) number (block_view block.now).end (block_view block.now).instructions (map instruction_view made.items)) }
+        ensures { IfOk result (λ made.
+            AreMoved (blocks_of self.now) (first_of self.now) (treated_in self.now) number
+            (block_view block.now).end (block_view block.now).instructions (map instruction_view made.items)) }
     {
         let mut made = Vec::new(self.alloc);
         for index in 0..block.instructions.len() {
@@ -110,7 +117,9 @@ impl Moving<'_> {
         requires moving { IsMoving self.now }
         requires edge { IsEdge self.now from to.0 }
         requires room { length (blocks_of self.now) + length added.old.items < 2 ^ 32 }
-        ensures { IfOk result (λ label. IsLedBehind self.now from (placed place) to.0 label.0 (map block_view added.old.items) (map block_view added.new.items)) }
+        ensures { IfOk result (λ label.
+            IsLedBehind self.now from (placed place) to.0 label.0 (map block_view added.old.items)
+            (map block_view added.new.items)) }
     {
         let instructions = self.placement.on_edge(self.alloc, from, to.0)?;
         if instructions.is_empty() {
@@ -137,7 +146,10 @@ impl Moving<'_> {
         requires moving { IsMoving self.now }
         requires at { IsEndOf self.now from (end_view end) }
         requires room { length (blocks_of self.now) + length added.old.items + 1 < 2 ^ 32 }
-        ensures { IfOk result (λ made. IsEndBehind self.now from (placed place) (end_view end) (end_view made) (map instruction_view out.old.items) (map instruction_view out.new.items) (map block_view added.old.items) (map block_view added.new.items)) }
+        ensures { IfOk result (λ made.
+            IsEndBehind self.now from (placed place) (end_view end) (end_view made)
+            (map instruction_view out.old.items) (map instruction_view out.new.items)
+            (map block_view added.old.items) (map block_view added.new.items)) }
     {
         match end {
             End::Return(_) => Ok(end),
@@ -171,7 +183,9 @@ impl Moving<'_> {
         requires moving { IsMoving self.now }
         requires at { slice_get (blocks_of self.now) number ≡ Some (block_view block.now) }
         requires room { length (blocks_of self.now) + length added.old.items + 1 < 2 ^ 32 }
-        ensures { IfOk result (λ made. IsBlockBehind self.now number (block_view block.now) (block_view made) (map block_view added.old.items) (map block_view added.new.items)) }
+        ensures { IfOk result (λ made.
+            IsBlockBehind self.now number (block_view block.now) (block_view made) (map block_view added.old.items)
+            (map block_view added.new.items)) }
     {
         let mut instructions = self.instructions(number, block)?;
         let place = end_place(block);

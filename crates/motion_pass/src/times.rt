@@ -66,7 +66,8 @@ fn once(e: &Computation, instruction: &Instr) -> u64
 
 /// How often instructions do a computation, or the greatest number where it is more often.
 fn times_in(e: &Computation, instructions: &[Instr]) -> u64
-    ensures { result ≡ min (total (once (computation_view e.now)) (map instruction_view instructions.now)) (2 ^ 64 - 1) }
+    ensures { result
+        ≡ min (total (once (computation_view e.now)) (map instruction_view instructions.now)) (2 ^ 64 - 1) }
 {
     instructions.iter().fold(
         0,
@@ -76,7 +77,8 @@ fn times_in(e: &Computation, instructions: &[Instr]) -> u64
 
 /// How often the block of a number does a computation, or the greatest number where it is more often.
 fn times_of(e: &Computation, graph: &Graph, number: u32) -> u64
-    ensures { result ≡ min (times_in (computation_view e.now) (slice_get (graph_view graph.now).blocks number)) (2 ^ 64 - 1) }
+    ensures { result
+        ≡ min (times_in (computation_view e.now) (slice_get (graph_view graph.now).blocks number)) (2 ^ 64 - 1) }
 {
     match graph.blocks.get(number as usize) {
         Some(block) => times_in(e, &block.instructions),
@@ -111,7 +113,8 @@ fn leads_to(graph: &Graph, from: u32, to: u32) -> bool
     is_among(to, block.end.targets().as_slice())
 }
 
-/// Whether the block at an index of a list is one that execution may enter there: the first block of the graph at the beginning, and a target of the one before behind it.
+/// Whether the block at an index of a list is one that execution may enter there: the first block of the graph at the
+/// beginning, and a target of the one before behind it.
 fn is_entered(graph: &Graph, path: &[u32], index: usize) -> bool
     requires { index < length path.now }
     ensures { IsTrue result ↔ IsEntered (graph_view graph.now).blocks path.now index }
@@ -138,15 +141,20 @@ fn is_path(graph: &Graph, path: &[u32]) -> bool
     !path.is_empty()
 }
 
-/// How often a computation is done along a list of blocks, or the greatest number where it is more often. None where the list is no path from the entry.
+/// How often a computation is done along a list of blocks, or the greatest number where it is more often. None where
+/// the list is no path from the entry.
 pub fn counts(
     _alloc: Global,
     graph: &Graph,
     path: &[u32],
     e: &Computation,
 ) -> Result<Option<u32>, AllocError>
-    ensures path { IfOk result (λ o. MatchOption o (IsPath (graph_view graph.now).blocks path.now → ⊥) (λ c. IsPath (graph_view graph.now).blocks path.now)) }
-    ensures counted { IfOk result (λ o. IfSome o (λ c. c ≡ min (times_along (graph_view graph.now).blocks (computation_view e.now) path.now) (2 ^ 32 - 1))) }
+    ensures path { IfOk result (λ o.
+        MatchOption o (IsPath (graph_view graph.now).blocks path.now → ⊥) (λ c.
+        IsPath (graph_view graph.now).blocks path.now)) }
+    ensures counted { IfOk result (λ o.
+        IfSome o (λ c.
+        c ≡ min (times_along (graph_view graph.now).blocks (computation_view e.now) path.now) (2 ^ 32 - 1))) }
 {
     if !is_path(graph, path) {
         return Ok(None);

@@ -6,3 +6,4 @@ pub mod Acted
 pub mod Edges
 pub mod Marks
 pub mod Named
+pub mod Bounds

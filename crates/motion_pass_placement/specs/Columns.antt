@@ -1,13 +1,15 @@
 -- The computations of a graph, 64 after the other.
-use Rattle.std.specs.Prelude.{◌≡◌, ℕ, ◌/◌, ◌<◌, ◌^◌, Bool, true, false, Option, Some, List, [], length, map, slice_get, slice_index_or}
+use Rattle.std.specs.Prelude.{◌≡◌, ℕ, ◌/◌, ◌<◌, ◌≤◌, ◌^◌, Bool, true, false, Option, Some, List, [], length, map, slice_get, slice_index_or}
 use Rattle.std.specs.Option.{option_map_or}
 use Rattle.std.specs.Global.{Vec}
+use Rattle.graph_core.specs.Bounds.{most_instructions_of_function}
 use Rattle.graph_core.specs.Graphs.{Block, block_view}
 use Rattle.graph_core.specs.Computations.{Computation}
 use Rattle.motion_pass_points.specs.declared.columns.Column.{Column}
 use Rattle.motion_pass_points.specs.declared.columns.Local.{Local}
 use Rattle.motion_pass_points.specs.MotionPointsComputing.{nothing, told_along}
 use Rattle.motion_pass_points.specs.Columns.{AreNumbersAlong, IsColumn, told_in}
+use Rattle.motion_pass_points.specs.Named.{AreNamed}
 use Rattle.motion_pass_points.specs.Numbers.{AreNumbers, views_of}
 use Rattle.motion_pass_problems.specs.Flowing.{HasEdge, is_at}
 use Rattle.motion_pass_problems.specs.Facts.{AreFacts, AreReached}
@@ -50,12 +52,14 @@ reached_in p n = slice_index_or p.reached.now n false
 abbrev pub all_in : Placing → List Computation
 all_in p = views_of p.computations.now
 
--- What is placed is a graph, with just the blocks told that paths reach, none of which leads to the first, and with the numbers of its computations.
+-- What is placed is a graph, with just the blocks told that paths reach, none of which leads to the first, and with the numbers of its computations, which are few and made of its names.
 pub record IsPlacing (p : Placing) : Type 0 where
   pub few : length (blocks_in p) < 2 ^ 32
   pub reached : AreReached (blocks_in p) (reached_in p)
   pub once : (m : ℕ) → HasEdge (blocks_in p) (reached_in p) m 0 → ⊥
   pub known : AreNumbers p.computations.now
+  pub computed : length (all_in p) ≤ most_instructions_of_function
+  pub named : AreNamed p.graph.now.name_count (all_in p)
   pub rows : AreRows (blocks_in p) (reached_in p) (all_in p) p.numbers.now
 
 -- words for blocks tell what they do to the computations of a column

@@ -3,3 +3,4 @@ pub mod Columns
 pub mod Placed
 pub mod Moving
 pub mod Moves
+pub mod Bounded

@@ -1,6 +1,6 @@
 //! The computations of a graph, 64 after the other.
 
-ghost use Rattle.std.specs.Prelude.{◌≡◌, ◌<◌, ℕ, Bool, false, IfOk, IfSome, List, [], None, Some, length, map, slice_get, slice_index_or, true};
+ghost use Rattle.std.specs.Prelude.{◌≡◌, ◌<◌, ◌^◌, ℕ, Bool, false, IfOk, List, [], None, Some, length, map, slice_get, slice_index_or, true};
 ghost use Rattle.graph_core.specs.Computations as spec-computation;
 ghost use Rattle.graph_core.specs.Graphs as spec;
 ghost use Rattle.graph_core.specs.Graphs.{block_view};
@@ -57,9 +57,13 @@ fn put_fates(
 )
     requires { length fates.old ≡ length (block_view block.now).instructions }
     ensures size { length fates.new ≡ length fates.old }
-    ensures told { (blocks : List spec.Block) (reached : ℕ → Bool) (k : ℕ) (e : spec-computation.Computation) → IsBlock blocks reached number (block_view block.now) → IsTreated solved.now.column (block_view block.now) numbers.now k e → HasFacts blocks reached e k solved.now.facts
+    ensures told { (blocks : List spec.Block) (reached : ℕ → Bool) (k : ℕ) (e : spec-computation.Computation)
+        → IsBlock blocks reached number (block_view block.now)
+        → IsTreated solved.now.column (block_view block.now) numbers.now k e
+        → HasFacts blocks reached e k solved.now.facts
         → AreFated blocks number (block_view block.now) numbers.now k e fates.new }
-    ensures others { (index : ℕ) → in_column solved.now.column.index (number_at numbers.now index) ≡ None → fate_of fates.new index ≡ fate_of fates.old index }
+    ensures others { (index : ℕ) → in_column solved.now.column.index (number_at numbers.now index) ≡ None
+        → fate_of fates.new index ≡ fate_of fates.old index }
 {
     let past_start = word_of(&solved.facts.past_starts, number);
     put_late(&solved.column, block, numbers, past_start, fates);
@@ -85,15 +89,13 @@ impl Placing<'_> {
         Ok(locals)
     }
 
-    /// What is so of a column's computations at each block. None where an operand of one has no name.
-    fn solved(&self, index: u32) -> Result<Option<Solved>, AllocError>
-        requires { IsPlacing self.now }
-        ensures { IfOk result (λ o. IfSome o (λ solved. IsSolved self.now index solved)) }
+    /// What is so of a column's computations at each block.
+    fn solved(&self, index: u32) -> Result<Solved, AllocError>
+        requires placing { IsPlacing self.now }
+        requires index { index < 2 ^ 26 }
+        ensures { IfOk result (λ solved. IsSolved self.now index solved) }
     {
-        let Some(column) = Column::new(self.alloc, self.computations, index, self.graph.name_count)?
-        else {
-            return Ok(None);
-        };
+        let column = Column::new(self.alloc, self.computations, index, self.graph.name_count)?;
         let locals = self.locals(&column)?;
         let problems = Problems {
             alloc: self.alloc,
@@ -104,25 +106,20 @@ impl Placing<'_> {
             locals: &locals,
         };
         let facts = problems.solve()?;
-        Ok(Some(Solved { column, facts }))
+        Ok(Solved { column, facts })
     }
 
-    /// What is so of the computations of all columns. None where there are 2^32 or more.
-    pub fn columns(&self) -> Result<Option<Vec<Solved>>, AllocError>
+    /// What is so of the computations of all columns.
+    pub fn columns(&self) -> Result<Vec<Solved>, AllocError>
         requires { IsPlacing self.now }
-        ensures { IfOk result (λ o. IfSome o (λ columns. AreSolved self.now columns.items)) }
+        ensures { IfOk result (λ columns. AreSolved self.now columns.items) }
     {
-        if self.computations.all.len() > 0xffff_ffff {
-            return Ok(None);
-        }
         let mut columns = Vec::new(self.alloc);
         for index in 0..(self.computations.all.len() / 64 + 1) as u32 {
-            let Some(solved) = self.solved(index)? else {
-                return Ok(None);
-            };
+            let solved = self.solved(index)?;
             columns.push(solved)?;
         }
-        Ok(Some(columns))
+        Ok(columns)
     }
 
     /// What is so where a block does computations.
@@ -131,7 +128,9 @@ impl Placing<'_> {
         requires solved { AreSolved self.now columns.now }
         requires within { number < length self.now.graph.now.blocks.items }
         ensures told { IfOk result (λ fates. AreRowFates self.now number fates.items) }
-        ensures size { IfOk result (λ fates. (b : spec.Block) → slice_get (blocks_in self.now) number ≡ Some b → length fates.items ≡ length b.instructions) }
+        ensures size { IfOk result (λ fates.
+            (b : spec.Block) → slice_get (blocks_in self.now) number ≡ Some b
+            → length fates.items ≡ length b.instructions) }
     {
         let block = &self.graph.blocks[number];
         let numbers = row_at(self.numbers, number);
@@ -165,7 +164,9 @@ fn flagged_numbers(
     flag: bool,
     computations: &Computations,
 ) -> Result<Vec<Option<u32>>, AllocError>
-    ensures told { AreNumbers computations.now → flag ≡ true → IfOk result (λ numbers. AreNumbersAlong (views_of computations.now) (block_view block.now).instructions numbers.items) }
+    ensures told { AreNumbers computations.now → flag ≡ true
+        → IfOk result (λ numbers.
+        AreNumbersAlong (views_of computations.now) (block_view block.now).instructions numbers.items) }
     ensures none { flag ≡ false → IfOk result (λ numbers. numbers.items ≡ []) }
 {
     if flag {
@@ -183,7 +184,9 @@ pub fn numbers_of(
     computations: &Computations,
 ) -> Result<Vec<Vec<Option<u32>>>, AllocError>
     requires { AreNumbers computations.now }
-    ensures told { IfOk result (λ rows. AreRows (map block_view blocks.now) (λ n. slice_index_or reached.now n false) (views_of computations.now) rows.items) }
+    ensures told { IfOk result (λ rows.
+        AreRows (map block_view blocks.now) (λ n. slice_index_or reached.now n false) (views_of computations.now)
+        rows.items) }
 {
     let mut all = Vec::new(alloc);
     for number in 0..blocks.len() {

@@ -16,7 +16,8 @@ use graph_core::{Block, Name};
 use motion_pass_points::{Column, either, is_in, without};
 use std::alloc::{AllocError, Global};
 
-/// What is so where an instruction does a computation: whether this can be delayed to it, and whether its value is used behind it.
+/// What is so where an instruction does a computation: whether this can be delayed to it, and whether its value is used
+/// behind it.
 #[derive(Clone, Copy)]
 pub struct Fate {
     pub is_late: bool,
@@ -65,7 +66,8 @@ fn number_in(column: &Column, numbers: &[Option<u32>], index: usize) -> Option<u
 /// Tells whether a computation can be delayed to an instruction that does it.
 fn put_is_late(fates: &mut [Fate], index: usize, number: Option<u32>, past: u64)
     ensures size { length fates.new ≡ length fates.old }
-    ensures here { index < length fates.old → (k : ℕ) → number ≡ Some k → (fate_of fates.new index).is_late ≡ not (has past k) }
+    ensures here { index < length fates.old → (k : ℕ) → number ≡ Some k → (fate_of fates.new index).is_late
+        ≡ not (has past k) }
     ensures others { (j : ℕ) → (j ≡ index → ⊥) → fate_of fates.new j ≡ fate_of fates.old j }
     ensures none { number ≡ None → fates.new ≡ fates.old }
 {
@@ -82,7 +84,10 @@ fn put_is_late(fates: &mut [Fate], index: usize, number: Option<u32>, past: u64)
 
 /// Those that can't be delayed to behind an instruction that does this computation, and then writes a name.
 fn past_behind(column: &Column, past: u64, number: Option<u32>, target: Option<Name>) -> u64
-    ensures { (k : ℕ) → k / 64 ≡ column.now.index → has result k ≡ ((has past k || is_number k number) && not (is_spoiled column.now.spoiled.items k (option_map (λ (x : declared-name.Name). x.0) target))) }
+    ensures { (k : ℕ) → k / 64 ≡ column.now.index
+        → has result k ≡
+        ((has past k || is_number k number) && not
+        (is_spoiled column.now.spoiled.items k (option_map (λ (x : declared-name.Name). x.0) target))) }
 {
     let done = column.bit_of(number);
     let open = either(past, done);
@@ -100,9 +105,12 @@ pub fn put_late(
 )
     requires { length fates.old ≡ length (block_view block.now).instructions }
     ensures size { length fates.new ≡ length fates.old }
-    ensures late { (blocks : List spec.Block) (reached : ℕ → Bool) (n k : ℕ) (e : Computation) → IsBlock blocks reached n (block_view block.now) → IsTreated column.now (block_view block.now) numbers.now k e
-        → ((has past_start k ≡ true) ↔ IsPast blocks e (point_at n (block_view block.now) 0)) → AreLate blocks n (block_view block.now) numbers.now k e fates.new }
-    ensures others { (index : ℕ) → in_column column.now.index (number_at numbers.now index) ≡ None → fate_of fates.new index ≡ fate_of fates.old index }
+    ensures late { (blocks : List spec.Block) (reached : ℕ → Bool) (n k : ℕ) (e : Computation)
+        → IsBlock blocks reached n (block_view block.now) → IsTreated column.now (block_view block.now) numbers.now k e
+        → ((has past_start k ≡ true) ↔ IsPast blocks e (point_at n (block_view block.now) 0))
+        → AreLate blocks n (block_view block.now) numbers.now k e fates.new }
+    ensures others { (index : ℕ) → in_column column.now.index (number_at numbers.now index) ≡ None
+        → fate_of fates.new index ≡ fate_of fates.old index }
 {
     let mut past = past_start;
     for index in 0..block.instructions.len() {
@@ -117,7 +125,8 @@ pub fn put_late(
 /// Tells whether the value of a computation is used behind an instruction that does it.
 fn put_is_used(fates: &mut [Fate], index: usize, number: Option<u32>, used: u64)
     ensures size { length fates.new ≡ length fates.old }
-    ensures here { index < length fates.old → (k : ℕ) → number ≡ Some k → (fate_of fates.new index).is_used ≡ has used k }
+    ensures here { index < length fates.old → (k : ℕ) → number ≡ Some k → (fate_of fates.new index).is_used
+        ≡ has used k }
     ensures late { (j : ℕ) → (fate_of fates.new j).is_late ≡ (fate_of fates.old j).is_late }
     ensures others { (j : ℕ) → (j ≡ index → ⊥) → fate_of fates.new j ≡ fate_of fates.old j }
     ensures none { number ≡ None → fates.new ≡ fates.old }
@@ -135,7 +144,8 @@ fn put_is_used(fates: &mut [Fate], index: usize, number: Option<u32>, used: u64)
 
 /// Those whose values are used before an instruction that does this computation, to which it can be delayed or not.
 fn used_before(column: &Column, used: u64, number: Option<u32>, is_late: bool) -> u64
-    ensures { (k : ℕ) → k / 64 ≡ column.now.index → has result k ≡ (if is_number k number then not is_late else has used k) }
+    ensures { (k : ℕ) → k / 64 ≡ column.now.index → has result k
+        ≡ (if is_number k number then not is_late else has used k) }
 {
     let done = column.bit_of(number);
     if is_late {
@@ -145,7 +155,8 @@ fn used_before(column: &Column, used: u64, number: Option<u32>, is_late: bool) -
     }
 }
 
-/// Tells of the computations of a column where their values are used behind them, in a block where it is told to where they can be delayed.
+/// Tells of the computations of a column where their values are used behind them, in a block where it is told to where
+/// they can be delayed.
 pub fn put_used(
     column: &Column,
     block: &Block,
@@ -156,9 +167,13 @@ pub fn put_used(
     requires { length fates.old ≡ length (block_view block.now).instructions }
     ensures size { length fates.new ≡ length fates.old }
     ensures late { (index : ℕ) → (fate_of fates.new index).is_late ≡ (fate_of fates.old index).is_late }
-    ensures used { (blocks : List spec.Block) (reached : ℕ → Bool) (n k : ℕ) (e : Computation) → IsBlock blocks reached n (block_view block.now) → IsTreated column.now (block_view block.now) numbers.now k e
-        → AreLate blocks n (block_view block.now) numbers.now k e fates.old → ((has used_end k ≡ true) ↔ IsUsed blocks e (within n [] (block_view block.now).end)) → AreUsed blocks n (block_view block.now) numbers.now k e fates.new }
-    ensures others { (index : ℕ) → in_column column.now.index (number_at numbers.now index) ≡ None → fate_of fates.new index ≡ fate_of fates.old index }
+    ensures used { (blocks : List spec.Block) (reached : ℕ → Bool) (n k : ℕ) (e : Computation)
+        → IsBlock blocks reached n (block_view block.now) → IsTreated column.now (block_view block.now) numbers.now k e
+        → AreLate blocks n (block_view block.now) numbers.now k e fates.old
+        → ((has used_end k ≡ true) ↔ IsUsed blocks e (within n [] (block_view block.now).end))
+        → AreUsed blocks n (block_view block.now) numbers.now k e fates.new }
+    ensures others { (index : ℕ) → in_column column.now.index (number_at numbers.now index) ≡ None
+        → fate_of fates.new index ≡ fate_of fates.old index }
 {
     let mut used = used_end;
     let mut left = block.instructions.len();

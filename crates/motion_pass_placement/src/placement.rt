@@ -1,6 +1,6 @@
 //! Where computations are done, and where their values are read instead.
 
-ghost use Rattle.std.specs.Prelude.{◌≡◌, ◌↔◌, ◌⊎◌, ℕ, ◌+◌, ◌*◌, ◌<◌, ◌^◌, ◌/◌, ◌&&◌, ◌||◌, not, false, IfOk, IfSome, List, [], ◌∷◌, ◌++◌, None, Some, is_some, length, map, slice_get, slice_index_or, true};
+ghost use Rattle.std.specs.Prelude.{◌≡◌, ◌↔◌, ◌⊎◌, ℕ, ◌+◌, ◌*◌, ◌-◌, ◌<◌, ◌≤◌, ◌^◌, ◌/◌, ◌&&◌, ◌||◌, not, false, IfOk, OnOk, List, [], ◌∷◌, ◌++◌, None, Some, is_some, length, map, slice_get, slice_index_or, true};
 ghost use Rattle.graph_core.specs.Computations as spec-computation;
 ghost use Rattle.graph_core.specs.Graphs as spec;
 ghost use Rattle.graph_core.specs.Graphs.{block_view, graph_view, instruction_view};
@@ -12,6 +12,7 @@ ghost use Rattle.motion_pass_points.specs.Columns.{is_number};
 ghost use Rattle.motion_pass_points.specs.Numbers.{AreNumbers, AreOnce, computed_in, views_of};
 ghost use Rattle.motion_pass_points.specs.Words.{has};
 ghost use Rattle.motion_pass_points.specs.Ways.{IsCome, IsInserted, along, within};
+ghost use Rattle.motion_pass_placement.specs.Bounded.{IsBounded};
 ghost use Rattle.motion_pass_placement.specs.Columns.{fates_of, row_of};
 ghost use Rattle.motion_pass_placement.specs.Fates as fate;
 ghost use Rattle.motion_pass_placement.specs.Placed.{AreNumbered, IsAnswered, IsMovedAnywhere, IsMovedBefore, IsPlaced, is_on_edge, moved_by, stays_by};
@@ -55,7 +56,8 @@ pub struct Placement {
 /// What the placing of a graph's computations came to.
 #[derive(Drop)]
 pub enum Motion {
-    /// They stay: some path comes to an edge that leads into the first block, so nothing can be done before the entry alone.
+    /// They stay: some path comes to an edge that leads into the first block, so nothing can be done before the entry
+    /// alone.
     EnteredAgain,
     /// They are done so.
     Placed(Placement),
@@ -144,7 +146,8 @@ impl Placement {
 
     /// What becomes of an instruction that does the computation of a number, and does not stay.
     fn moved(&self, number: usize, is_late: bool) -> Action
-        ensures { result ≡ moved_by (slice_get self.now.computations.all.items number) (temporary_of self.now.temporaries.items number) is_late }
+        ensures { result ≡ moved_by (slice_get self.now.computations.all.items number)
+            (temporary_of self.now.temporaries.items number) is_late }
     {
         let computation = computation_at(&self.computations.all, number);
         let temporary = temporary_at(&self.temporaries, number);
@@ -153,8 +156,11 @@ impl Placement {
 
     /// What becomes of an instruction of a block.
     pub fn action(&self, block: u32, index: usize) -> Action
-        ensures by_rule { (g : spec.Graph) → IsPlaced g self.now → (b : spec.Block) → slice_get g.blocks block ≡ Some b → index < length b.instructions → IsCome g.blocks (point_at block b index) → IsActed g.blocks self.now (point_at block b index) result }
-        ensures nowhere { (g : spec.Graph) → IsPlaced g self.now → (b : spec.Block) → slice_get g.blocks block ≡ Some b → (IsCome g.blocks (point_at block b index) → ⊥) → result ≡ Keep }
+        ensures by_rule { (g : spec.Graph) → IsPlaced g self.now → (b : spec.Block) → slice_get g.blocks block ≡ Some b
+            → index < length b.instructions → IsCome g.blocks (point_at block b index)
+            → IsActed g.blocks self.now (point_at block b index) result }
+        ensures nowhere { (g : spec.Graph) → IsPlaced g self.now → (b : spec.Block) → slice_get g.blocks block ≡ Some b
+            → (IsCome g.blocks (point_at block b index) → ⊥) → result ≡ Keep }
     {
         let row = row_at(&self.numbers, block as usize);
         let Some(number) = number_in_row(row, index) else {
@@ -181,8 +187,11 @@ impl Placement {
         flag: bool,
         out: &mut Vec<Instr>,
     ) -> Result<(), AllocError>
-        ensures { (g : spec.Graph) → IsPlaced g self.now → (from to : ℕ) → ((e : spec-computation.Computation) → slice_get (all_of self.now) number ≡ Some e → (flag ≡ true) ↔ IsInserted g.blocks e (along from to)) → IsCome g.blocks (along from to)
-            → AreDone g.blocks self.now (along from to) number (map instruction_view out.old.items) → IfOk result (λ _. AreDone g.blocks self.now (along from to) (number + 1) (map instruction_view out.new.items)) }
+        ensures { (g : spec.Graph) → IsPlaced g self.now → (from to : ℕ) → ((e : spec-computation.Computation)
+            → slice_get (all_of self.now) number ≡ Some e
+            → (flag ≡ true) ↔ IsInserted g.blocks e (along from to)) → IsCome g.blocks (along from to)
+            → AreDone g.blocks self.now (along from to) number (map instruction_view out.old.items) → IfOk result
+            (λ _. AreDone g.blocks self.now (along from to) (number + 1) (map instruction_view out.new.items)) }
     {
         if !flag {
             return Ok(());
@@ -201,8 +210,11 @@ impl Placement {
     /// Appends the computations of bits of a column.
     fn push_bits(&self, column: usize, bits: u64, out: &mut Vec<Instr>) -> Result<(), AllocError>
         requires { column < 4294967296 }
-        ensures { (g : spec.Graph) → IsPlaced g self.now → (from to : ℕ) → ((k : ℕ) (e : spec-computation.Computation) → k / 64 ≡ column → slice_get (all_of self.now) k ≡ Some e → (has bits k ≡ true) ↔ IsInserted g.blocks e (along from to)) → IsCome g.blocks (along from to)
-            → AreDone g.blocks self.now (along from to) (column * 64) (map instruction_view out.old.items) → IfOk result (λ _. AreDone g.blocks self.now (along from to) (column * 64 + 64) (map instruction_view out.new.items)) }
+        ensures { (g : spec.Graph) → IsPlaced g self.now → (from to : ℕ) → ((k : ℕ) (e : spec-computation.Computation)
+            → k / 64 ≡ column → slice_get (all_of self.now) k ≡ Some e
+            → (has bits k ≡ true) ↔ IsInserted g.blocks e (along from to)) → IsCome g.blocks (along from to)
+            → AreDone g.blocks self.now (along from to) (column * 64) (map instruction_view out.old.items) → IfOk result
+            (λ _. AreDone g.blocks self.now (along from to) (column * 64 + 64) (map instruction_view out.new.items)) }
     {
         if bits == 0 {
             return Ok(());
@@ -216,8 +228,12 @@ impl Placement {
 
     /// The computations that are done on the edge from a block to another, in order.
     pub fn on_edge(&self, alloc: Global, from: u32, to: u32) -> Result<Vec<Instr>, AllocError>
-        ensures by_rule { (g : spec.Graph) → IsPlaced g self.now → (b : spec.Block) → slice_get g.blocks to ≡ Some b → IsCome g.blocks (along from to) → IfOk result (λ out. AreDone g.blocks self.now (along from to) (length (all_of self.now)) (map instruction_view out.items)) }
-        ensures nowhere { (g : spec.Graph) → IsPlaced g self.now → (b : spec.Block) → slice_get g.blocks from ≡ Some b → (IsCome g.blocks (within from [] b.end) → ⊥) → IfOk result (λ out. out.items ≡ []) }
+        ensures by_rule { (g : spec.Graph) → IsPlaced g self.now → (b : spec.Block) → slice_get g.blocks to ≡ Some b
+            → IsCome g.blocks (along from to)
+            → IfOk result (λ out.
+            AreDone g.blocks self.now (along from to) (length (all_of self.now)) (map instruction_view out.items)) }
+        ensures nowhere { (g : spec.Graph) → IsPlaced g self.now → (b : spec.Block) → slice_get g.blocks from ≡ Some b
+            → (IsCome g.blocks (within from [] b.end) → ⊥) → IfOk result (λ out. out.items ≡ []) }
     {
         let mut out = Vec::new(alloc);
         if !is_flagged(&self.reached, from as usize) {
@@ -238,7 +254,9 @@ impl Placement {
 /// Marks the computation of a number, if it does not stay.
 fn mark(number: Option<u32>, fate: Fate, treated: &mut [bool])
     ensures size { length treated.new ≡ length treated.old }
-    ensures marked { (k : ℕ) → k < length treated.old → slice_index_or treated.new k false ≡ (slice_index_or treated.old k false || (is_number k number && not (stays_by fate))) }
+    ensures marked { (k : ℕ) → k < length treated.old
+        → slice_index_or treated.new k false ≡
+        (slice_index_or treated.old k false || (is_number k number && not (stays_by fate))) }
 {
     if stays(fate) {
         return;
@@ -253,7 +271,9 @@ fn mark(number: Option<u32>, fate: Fate, treated: &mut [bool])
 /// Marks the computations of a block that do not all stay.
 fn mark_row(numbers: &[Option<u32>], fates: &[Fate], treated: &mut [bool])
     ensures size { length treated.new ≡ length treated.old }
-    ensures marked { (k : ℕ) → k < length treated.old → (slice_index_or treated.new k false ≡ true) ↔ ((slice_index_or treated.old k false ≡ true) ⊎ IsMovedBefore (length fates.now) numbers.now fates.now k) }
+    ensures marked { (k : ℕ) → k < length treated.old
+        → (slice_index_or treated.new k false ≡ true) ↔
+        ((slice_index_or treated.old k false ≡ true) ⊎ IsMovedBefore (length fates.now) numbers.now fates.now k) }
 {
     for index in 0..fates.len() {
         let number = number_in_row(numbers, index);
@@ -280,7 +300,10 @@ fn treated_of(
     count: usize,
 ) -> Result<Vec<bool>, AllocError>
     ensures size { IfOk result (λ treated. length treated.items ≡ count) }
-    ensures marked { IfOk result (λ treated. (k : ℕ) → k < count → (slice_index_or treated.items k false ≡ true) ↔ IsMovedAnywhere (length fates.now) numbers.now fates.now k) }
+    ensures marked { IfOk result (λ treated.
+        (k : ℕ) → k < count
+        → (slice_index_or treated.items k false ≡ true) ↔ IsMovedAnywhere (length fates.now) numbers.now fates.now
+        k) }
 {
     let mut treated = vec![in alloc; false; count]?;
     for block in 0..fates.len() {
@@ -299,35 +322,38 @@ struct Numbering {
 }
 
 impl Numbering {
-    /// The next computation has a temporary or none. False where names run out.
-    fn add(&mut self, flag: bool) -> Result<bool, AllocError>
-        ensures numbered { IfOk result (λ whole. whole ≡ true → (first : ℕ) → AreNumbered first self.old.temporaries.items self.old.end_name → AreNumbered first self.new.temporaries.items self.new.end_name) }
-        ensures count { IfOk result (λ whole. whole ≡ true → length self.new.temporaries.items ≡ length self.old.temporaries.items + 1) }
-        ensures before { IfOk result (λ whole. whole ≡ true → (k : ℕ) → k < length self.old.temporaries.items → slice_index_or self.new.temporaries.items k None ≡ slice_index_or self.old.temporaries.items k None) }
-        ensures flagged { IfOk result (λ whole. whole ≡ true → is_some (slice_index_or self.new.temporaries.items (length self.old.temporaries.items) None) ≡ flag) }
+    /// The next computation has a temporary or none.
+    fn add(&mut self, flag: bool) -> Result<(), AllocError>
+        requires { self.old.end_name < 2 ^ 32 - 1 }
+        ensures numbered { OnOk result
+            ((first : ℕ) → AreNumbered first self.old.temporaries.items self.old.end_name
+            → AreNumbered first self.new.temporaries.items self.new.end_name) }
+        ensures count { OnOk result (length self.new.temporaries.items ≡ length self.old.temporaries.items + 1) }
+        ensures before { OnOk result
+            ((k : ℕ) → k < length self.old.temporaries.items → slice_index_or self.new.temporaries.items k None
+            ≡ slice_index_or self.old.temporaries.items k None) }
+        ensures flagged { OnOk result
+            (is_some (slice_index_or self.new.temporaries.items (length self.old.temporaries.items) None) ≡ flag) }
+        ensures end { OnOk result (self.new.end_name ≤ self.old.end_name + 1) }
     {
         if !flag {
             self.temporaries.push(None)?;
-            return Ok(true);
-        }
-        if self.end_name == u32::MAX {
-            return Ok(false);
+            return Ok(());
         }
         self.temporaries.push(Some(Name(self.end_name)))?;
         self.end_name += 1;
-        Ok(true)
+        Ok(())
     }
 }
 
-/// Temporaries for these computations, in order, from a name on. None where names run out.
-fn numbered(
-    alloc: Global,
-    treated: &[bool],
-    first_name: u32,
-) -> Result<Option<Numbering>, AllocError>
-    ensures numbered { IfOk result (λ o. IfSome o (λ made. AreNumbered first_name made.temporaries.items made.end_name)) }
-    ensures flagged { IfOk result (λ o. IfSome o (λ made. (k : ℕ) → k < length treated.now → is_some (slice_index_or made.temporaries.items k None) ≡ slice_index_or treated.now k false)) }
-    ensures size { IfOk result (λ o. IfSome o (λ made. length made.temporaries.items ≡ length treated.now)) }
+/// Temporaries for these computations, in order, from a name on.
+fn numbered(alloc: Global, treated: &[bool], first_name: u32) -> Result<Numbering, AllocError>
+    requires { first_name + length treated.now < 2 ^ 32 }
+    ensures numbered { IfOk result (λ made. AreNumbered first_name made.temporaries.items made.end_name) }
+    ensures flagged { IfOk result (λ made.
+        (k : ℕ) → k < length treated.now
+        → is_some (slice_index_or made.temporaries.items k None) ≡ slice_index_or treated.now k false) }
+    ensures size { IfOk result (λ made. length made.temporaries.items ≡ length treated.now) }
 {
     let mut made = Numbering {
         temporaries: Vec::new(alloc),
@@ -335,28 +361,28 @@ fn numbered(
     };
     for number in 0..treated.len() {
         let flag = treated[number];
-        let whole = made.add(flag)?;
-        if !whole {
-            return Ok(None);
-        }
+        made.add(flag)?;
     }
-    Ok(Some(made))
+    Ok(made)
 }
 
-/// The placement of the computations of reached code. None where names run out.
+/// The placement of the computations of reached code.
 fn placed(
     alloc: Global,
     graph: &Graph,
     order: &[u32],
     computations: Computations,
     reached: Vec<bool>,
-) -> Result<Option<Placement>, AllocError>
-    requires few { length graph.now.blocks.items < 2 ^ 32 }
+) -> Result<Placement, AllocError>
+    requires bounded { IsBounded (graph_view graph.now) }
     requires reached { AreReached (map block_view graph.now.blocks.items) (λ n. slice_index_or reached.items n false) }
-    requires once { (m : ℕ) → HasEdge (map block_view graph.now.blocks.items) (λ n. slice_index_or reached.items n false) m 0 → ⊥ }
+    requires once { (m : ℕ)
+        → HasEdge (map block_view graph.now.blocks.items) (λ n. slice_index_or reached.items n false) m 0 → ⊥ }
     requires known { AreNumbers computations }
-    requires order { AreOnce (computed_in (λ n. slice_index_or reached.items n false) 0 (map block_view graph.now.blocks.items)) (views_of computations) }
-    ensures { IfOk result (λ o. IfSome o (λ made. IsPlaced (graph_view graph.now) made)) }
+    requires order { AreOnce
+        (computed_in (λ n. slice_index_or reached.items n false) 0 (map block_view graph.now.blocks.items))
+        (views_of computations) }
+    ensures { IfOk result (IsPlaced (graph_view graph.now)) }
 {
     let numbers = numbers_of(alloc, &graph.blocks, &reached, &computations)?;
     let mut back = Vec::from_slice(alloc, order)?;
@@ -370,15 +396,11 @@ fn placed(
         order,
         back: &back,
     };
-    let Some(columns) = placing.columns()? else {
-        return Ok(None);
-    };
+    let columns = placing.columns()?;
     let fates = placing.fates(&columns)?;
     let treated = treated_of(alloc, &numbers, &fates, computations.all.len())?;
-    let Some(made) = numbered(alloc, &treated, graph.name_count)? else {
-        return Ok(None);
-    };
-    Ok(Some(Placement {
+    let made = numbered(alloc, &treated, graph.name_count)?;
+    Ok(Placement {
         computations,
         temporaries: made.temporaries,
         numbers,
@@ -386,27 +408,21 @@ fn placed(
         columns,
         reached,
         end_name: made.end_name,
-    }))
+    })
 }
 
-/// Where the computations of a graph's reached code are done by lazy code motion. None where there are 2^32 blocks or more, or names run out.
-pub fn place(alloc: Global, graph: &Graph) -> Result<Option<Motion>, AllocError>
-    ensures { IfOk result (λ o. IfSome o (λ motion. IsAnswered (graph_view graph.now) motion)) }
+/// Where the computations of a graph's reached code are done by lazy code motion.
+pub fn place(alloc: Global, graph: &Graph) -> Result<Motion, AllocError>
+    requires { IsBounded (graph_view graph.now) }
+    ensures { IfOk result (IsAnswered (graph_view graph.now)) }
 {
-    if graph.blocks.len() > 0xffff_ffff {
-        return Ok(None);
-    }
     let order = reached_in_order(alloc, &graph.blocks)?;
     let reached = reached_flags(alloc, &graph.blocks)?;
     let back = comes_back(&graph.blocks, &reached);
     if back {
-        return Ok(Some(Motion::EnteredAgain));
+        return Ok(Motion::EnteredAgain);
     }
-    let Some(computations) = Computations::new(alloc, &graph.blocks, &reached)? else {
-        return Ok(None);
-    };
-    let Some(placement) = placed(alloc, graph, &order, computations, reached)? else {
-        return Ok(None);
-    };
-    Ok(Some(Motion::Placed(placement)))
+    let computations = Computations::new(alloc, &graph.blocks, &reached)?;
+    let placement = placed(alloc, graph, &order, computations, reached)?;
+    Ok(Motion::Placed(placement))
 }

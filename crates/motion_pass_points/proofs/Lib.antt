@@ -7,3 +7,4 @@ pub mod Numbering
 pub mod Passing
 pub mod Telling
 pub mod Marking
+pub mod Few

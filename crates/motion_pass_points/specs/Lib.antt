@@ -4,3 +4,4 @@ pub mod Words
 pub mod MotionPointsComputing
 pub mod Numbers
 pub mod Columns
+pub mod Named

@@ -1,6 +1,7 @@
 //! What the blocks of a graph do to its computations, for 64 of them at once.
 
-ghost use Rattle.std.specs.Prelude.{◌≡◌, ℕ, ◌/◌, ◌%◌, ◌<◌, ◌^◌, ◌&&◌, ◌||◌, ◌==◌, false, IfOk, IfSome, Some, map, option_map, slice_get, true};
+ghost use Rattle.std.specs.Prelude.{◌≡◌, ℕ, ◌/◌, ◌%◌, ◌<◌, ◌^◌, ◌&&◌, ◌||◌, ◌==◌, false, IfOk, Some, length, map, option_map, slice_get};
+ghost use Rattle.std.specs.List.{AllByRecursion};
 ghost use Rattle.graph_core.specs.declared.name.Name as declared-name;
 ghost use Rattle.graph_core.specs.Computations as spec;
 ghost use Rattle.graph_core.specs.Computations.{operands_of};
@@ -9,6 +10,7 @@ ghost use Rattle.graph_core.specs.Uses.{names_of};
 ghost use Rattle.motion_pass_points.specs.Words.{has};
 ghost use Rattle.motion_pass_points.specs.MotionPointsComputing.{computation_view, nothing, told_along, told_done, told_written};
 ghost use Rattle.motion_pass_points.specs.Columns.{AreNumbersAlong, IsColumn, is_among, is_marked, is_number, is_operand, is_spoiled, number_at, told_in};
+ghost use Rattle.motion_pass_points.specs.Named.{AreNamed, IsNamed};
 ghost use Rattle.motion_pass_points.specs.Numbers.{AreNumbers, views_of};
 
 use crate::computation::Computation;
@@ -46,78 +48,83 @@ pub struct Column {
     pub spoiled: Vec<u64>,
 }
 
-/// The name that an operand reads is an operand of the computation of this number. False where there is no such name.
-fn put_operand(spoiled: &mut [u64], operand: Operand, number: u32) -> bool
-    ensures { result ≡ true → (x n : ℕ) → is_marked spoiled.new x n ≡ (is_marked spoiled.old x n || ((n % 64 == number % 64) && is_among x (names_of (operand_view operand)))) }
+/// The name that an operand reads is an operand of the computation of this number.
+fn put_operand(spoiled: &mut [u64], operand: Operand, number: u32)
+    requires { AllByRecursion (λ x. x < length spoiled.old) (names_of (operand_view operand)) }
+    ensures size { length spoiled.new ≡ length spoiled.old }
+    ensures marked { (x n : ℕ)
+        → is_marked spoiled.new x n ≡
+        (is_marked spoiled.old x n || ((n % 64 == number % 64) && is_among x (names_of (operand_view operand)))) }
 {
     match operand {
         Operand::Name(name) => {
-            if name.0 as usize >= spoiled.len() {
-                return false;
-            }
             spoiled[name.0 as usize] = either(spoiled[name.0 as usize], only(number));
-            true
         }
-        Operand::Constant(_) | Operand::StaticAddress { .. } => true,
+        Operand::Constant(_) | Operand::StaticAddress { .. } => {}
     }
 }
 
-/// The names of which the computation of a number is made are its operands. False where one is no name.
-fn put_computation(spoiled: &mut [u64], computation: Computation, number: u32) -> bool
-    ensures { result ≡ true → (x n : ℕ) → is_marked spoiled.new x n ≡ (is_marked spoiled.old x n || ((n % 64 == number % 64) && is_among x (operands_of (computation_view computation)))) }
+/// The names of which the computation of a number is made are its operands.
+fn put_computation(spoiled: &mut [u64], computation: Computation, number: u32)
+    requires { IsNamed (length spoiled.old) (computation_view computation) }
+    ensures size { length spoiled.new ≡ length spoiled.old }
+    ensures marked { (x n : ℕ)
+        → is_marked spoiled.new x n ≡
+        (is_marked spoiled.old x n ||
+        ((n % 64 == number % 64) && is_among x (operands_of (computation_view computation)))) }
 {
     match computation {
         Computation::Operated { left, right, .. } | Computation::Compared { left, right } => {
-            put_operand(spoiled, left, number) && put_operand(spoiled, right, number)
+            put_operand(spoiled, left, number);
+            put_operand(spoiled, right, number);
         }
         Computation::Truncated { from, .. } => put_operand(spoiled, from, number),
     }
 }
 
 /// The same of the computation of a number, if there is one.
-fn put_number(spoiled: &mut [u64], all: &[Computation], number: u32) -> bool
-    ensures { result ≡ true → (x n : ℕ) → is_marked spoiled.new x n ≡ (is_marked spoiled.old x n || ((n % 64 == number % 64) && is_operand (map computation_view all.now) number x)) }
+fn put_number(spoiled: &mut [u64], all: &[Computation], number: u32)
+    requires { AreNamed (length spoiled.old) (map computation_view all.now) }
+    ensures size { length spoiled.new ≡ length spoiled.old }
+    ensures marked { (x n : ℕ)
+        → is_marked spoiled.new x n ≡
+        (is_marked spoiled.old x n ||
+        ((n % 64 == number % 64) && is_operand (map computation_view all.now) number x)) }
 {
     match all.get(number as usize) {
         Some(computation) => put_computation(spoiled, *computation, number),
-        None => true,
+        None => {}
     }
 }
 
-/// The same of each computation of a column. False where one is made of what is no name.
-fn put_all(spoiled: &mut [u64], all: &[Computation], index: u32) -> bool
+/// The same of each computation of a column.
+fn put_all(spoiled: &mut [u64], all: &[Computation], index: u32)
     requires index { index < 2 ^ 26 }
+    requires named { AreNamed (length spoiled.old) (map computation_view all.now) }
     requires clear { (x n : ℕ) → is_marked spoiled.old x n ≡ false }
-    ensures { result ≡ true → IsColumn (map computation_view all.now) index spoiled.new }
+    ensures { IsColumn (map computation_view all.now) index spoiled.new }
 {
     for bit in 0..64u32 {
-        let are_names = put_number(spoiled, all, index * 64 + bit);
-        if !are_names {
-            return false;
-        }
+        put_number(spoiled, all, index * 64 + bit);
     }
-    true
 }
 
 impl Column {
-    /// The computations whose numbers have this quotient by 64, in a graph with so many names. None where one of them is made of what is no name of it.
+    /// The computations whose numbers have this quotient by 64, in a graph with so many names.
     pub fn new(
         alloc: Global,
         computations: &Computations,
         index: u32,
         names: u32,
-    ) -> Result<Option<Column>, AllocError>
-        ensures index { IfOk result (λ o. IfSome o (λ made. made.index ≡ index)) }
-        ensures column { IfOk result (λ o. IfSome o (λ made. IsColumn (views_of computations.now) index made.spoiled.items)) }
+    ) -> Result<Column, AllocError>
+        requires index { index < 2 ^ 26 }
+        requires named { AreNamed names (views_of computations.now) }
+        ensures index { IfOk result (λ made. made.index ≡ index) }
+        ensures column { IfOk result (λ made. IsColumn (views_of computations.now) index made.spoiled.items) }
     {
-        if index >= 0x400_0000 {
-            return Ok(None);
-        }
         let mut spoiled = vec![in alloc; 0u64; names as usize]?;
-        if !put_all(&mut spoiled, &computations.all, index) {
-            return Ok(None);
-        }
-        Ok(Some(Column { index, spoiled }))
+        put_all(&mut spoiled, &computations.all, index);
+        Ok(Column { index, spoiled })
     }
 
     /// The computation of a number, if it is of the column, as a bit.
@@ -138,7 +145,8 @@ impl Column {
 
     /// The computations of the column of which a name is an operand that is written.
     pub fn spoiled_by(&self, target: Option<Name>) -> u64
-        ensures { (n : ℕ) → has result n ≡ is_spoiled self.now.spoiled.items n (option_map (λ (x : declared-name.Name). x.0) target) }
+        ensures { (n : ℕ)
+            → has result n ≡ is_spoiled self.now.spoiled.items n (option_map (λ (x : declared-name.Name). x.0) target) }
     {
         match target {
             Some(name) => match self.spoiled.get(name.0 as usize) {
@@ -151,8 +159,10 @@ impl Column {
 
     /// What a block does, whose instructions do the computations of these numbers.
     pub fn local_of(&self, block: &Block, numbers: &[Option<u32>], all: &Computations) -> Local
-        ensures { IsColumn (views_of all.now) self.now.index self.now.spoiled.items → AreNumbers all.now → AreNumbersAlong (views_of all.now) (block_view block.now).instructions numbers.now
-            → (n : ℕ) (e : spec.Computation) → n / 64 ≡ self.now.index → slice_get (views_of all.now) n ≡ Some e → told_in result n ≡ told_along e (block_view block.now).instructions nothing }
+        ensures { IsColumn (views_of all.now) self.now.index self.now.spoiled.items → AreNumbers all.now
+            → AreNumbersAlong (views_of all.now) (block_view block.now).instructions numbers.now
+            → (n : ℕ) (e : spec.Computation) → n / 64 ≡ self.now.index → slice_get (views_of all.now) n ≡ Some e
+            → told_in result n ≡ told_along e (block_view block.now).instructions nothing }
     {
         let mut local = NOTHING;
         for index in 0..block.instructions.len() {
@@ -177,7 +187,8 @@ fn number_of(numbers: &[Option<u32>], index: usize) -> Option<u32>
     }
 }
 
-/// What a block does as far as one instruction further, which does this computation and then writes an operand of those.
+/// What a block does as far as one instruction further, which does this computation and then writes an operand of
+/// those.
 fn behind(local: Local, done: u64, written: u64) -> Local
     ensures { (n : ℕ) → told_in result n ≡ told_written (has written n) (told_done (has done n) (told_in local n)) }
 {

@@ -70,7 +70,8 @@ fn words_of(alloc: Global, rows: &Marks, count: u32) -> Result<Vec<u64>, AllocEr
     requires count { count ≤ rows.now.count }
     requires width { rows.now.width ≡ 64 }
     ensures size { IfOk result (λ words. length words.items ≡ count) }
-    ensures same { IfOk result (λ words. (n k : ℕ) → n < count → k < 64 → is_at words.items k n ≡ bits_of rows.now n k) }
+    ensures same { IfOk result (λ words. (n k : ℕ) → n < count → k < 64
+        → is_at words.items k n ≡ bits_of rows.now n k) }
 {
     let mut words = Vec::new(alloc);
     for number in 0..count {
@@ -105,7 +106,8 @@ impl Transfer for Flow<'_> {
 impl Flow<'_> {
     ghost use Rattle.motion_pass_problems.specs.Flowing.{AreBroughtThere};
 
-    /// To each block just the facts that some way brings to it, where these begin. The order in which blocks are visited decides how long that takes, and nothing else.
+    /// To each block just the facts that some way brings to it, where these begin. The order in which blocks are
+    /// visited decides how long that takes, and nothing else.
     pub fn solve(
         &self,
         alloc: Global,

@@ -17,13 +17,15 @@ use std::alloc::{AllocError, Global};
 /// What is so of 64 computations at each block, in a word for each.
 #[derive(Drop)]
 pub struct Facts {
-    /// From the block's start some way comes to a write of an operand, or to an end of the function, before the computation: it is not down-safe there.
+    /// From the block's start some way comes to a write of an operand, or to an end of the function, before the
+    /// computation: it is not down-safe there.
     pub unsafe_starts: Vec<u64>,
     /// It can't be delayed to the block's start.
     pub past_starts: Vec<u64>,
     /// It can't be delayed to the edges from the block's end, but where it is not down-safe.
     pub past_ends: Vec<u64>,
-    /// What is computed before the block's start is used from there on: a computation comes that is not the latest point itself.
+    /// What is computed before the block's start is used from there on: a computation comes that is not the latest
+    /// point itself.
     pub used_starts: Vec<u64>,
     /// The same of the block's end.
     pub used_ends: Vec<u64>,
@@ -123,7 +125,8 @@ fn leaving_all(alloc: Global, passages: &[Passage], comes: &[u64]) -> Result<Vec
 /// What two lists of words have both.
 fn both_all(alloc: Global, some: &[u64], other: &[u64]) -> Result<Vec<u64>, AllocError>
     ensures size { IfOk result (λ words. length words.items ≡ length some.now) }
-    ensures each { IfOk result (λ words. (n k : ℕ) → is_at words.items k n ≡ (is_at some.now k n && is_at other.now k n)) }
+    ensures each { IfOk result
+        (λ words. (n k : ℕ) → is_at words.items k n ≡ (is_at some.now k n && is_at other.now k n)) }
 {
     let mut words = Vec::new(alloc);
     for number in 0..some.len() {
@@ -207,7 +210,9 @@ impl Problems<'_> {
     /// For each block what is not down-safe since it leads to none.
     fn unsafe_begins(&self) -> Result<Vec<u64>, AllocError>
         ensures size { IfOk result (λ words. length words.items ≡ length (blocks_of self.now)) }
-        ensures each { IfOk result (λ words. (k n : ℕ) (b : spec.Block) → slice_get (blocks_of self.now) n ≡ Some b → is_at words.items k n ≡ is_return b.end) }
+        ensures each { IfOk result (λ words.
+            (k n : ℕ) (b : spec.Block) → slice_get (blocks_of self.now) n ≡ Some b
+            → is_at words.items k n ≡ is_return b.end) }
     {
         let mut words = Vec::new(self.alloc);
         for number in 0..self.blocks.len() {
@@ -243,7 +248,8 @@ impl Problems<'_> {
         Ok(passages)
     }
 
-    /// At the end of each block those that are not down-safe there, and were nowhere on some path since an operand was written.
+    /// At the end of each block those that are not down-safe there, and were nowhere on some path since an operand was
+    /// written.
     fn unhad_ends(&self, unsafe_ends: &[u64]) -> Result<Vec<u64>, AllocError>
         requires few { length (blocks_of self.now) < 2 ^ 32 }
         requires open { TellUnsafeEnds self.now unsafe_ends.now }
@@ -287,7 +293,8 @@ impl Problems<'_> {
         requires open { TellUnsafeEnds self.now unsafe_ends.now }
         requires starts { TellUnsafeStarts self.now unsafe_starts.now }
         requires had { TellUnhadEnds self.now unhad_ends.now }
-        ensures { IfOk result (λ words. TellPast self.now unsafe_starts.now unhad_ends.now words.starts.items words.ends.items) }
+        ensures { IfOk result (λ words.
+            TellPast self.now unsafe_starts.now unhad_ends.now words.starts.items words.ends.items) }
     {
         let passages = self.past_passages(unsafe_ends, unhad_ends)?;
         let starts = self.brought(&passages, true, unsafe_starts)?;
@@ -317,7 +324,8 @@ impl Problems<'_> {
     /// At the start of each block, and then at its end, those whose values are used from there on.
     fn used(&self, past_starts: &[u64], past_ends: &[u64]) -> Result<BlockWords, AllocError>
         requires few { length (blocks_of self.now) < 2 ^ 32 }
-        ensures { IfOk result (λ words. TellUsed self.now past_starts.now past_ends.now words.starts.items words.ends.items) }
+        ensures { IfOk result
+            (λ words. TellUsed self.now past_starts.now past_ends.now words.starts.items words.ends.items) }
     {
         let passages = self.used_passages(past_starts, past_ends)?;
         let none = vec![in self.alloc; 0u64; self.blocks.len()]?;

@@ -43,8 +43,10 @@ fn leads_to_first(end: &End) -> bool
 
 /// Whether a block that paths reach leads to the first.
 pub fn comes_back(blocks: &[Block], reached: &[bool]) -> bool
-    ensures never { result ≡ false → (m : ℕ) → HasEdge (map block_view blocks.now) (λ n. slice_index_or reached.now n false) m 0 → ⊥ }
-    ensures comes { result ≡ true → (m : ℕ) × HasEdge (map block_view blocks.now) (λ n. slice_index_or reached.now n false) m 0 }
+    ensures never { result ≡ false → (m : ℕ)
+        → HasEdge (map block_view blocks.now) (λ n. slice_index_or reached.now n false) m 0 → ⊥ }
+    ensures comes { result ≡ true → (m : ℕ)
+        × HasEdge (map block_view blocks.now) (λ n. slice_index_or reached.now n false) m 0 }
 {
     for number in 0..blocks.len() {
         let block = &blocks[number];

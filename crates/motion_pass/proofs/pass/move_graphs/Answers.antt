@@ -1,15 +1,14 @@
 use Rattle.std.proofs.Common.{◌≡◌, ◌+◌, ◌++◌, List, [], ◌∷◌, Some, length, drop, map, refl, sym, ap, ◌∙◌, subst, arith}
-use Rattle.std.specs.Prelude.{IfSome, option_map, slice_get}
+use Rattle.std.specs.Prelude.{option_map, slice_get}
 use Rattle.std.proofs.lemmas.List.{length-append, length-map, map-append}
 use Rattle.std.proofs.lemmas.Option.{slice_get-map, slice_get_read}
 use Rattle.graph_core.specs.declared.graph.Graph as declared-graph
 use Rattle.graph_core.specs.Graphs.{Graph, graph_view}
-use Rattle.pass_law.specs.Changes.{Adds}
 use Rattle.pass_law.proofs.OfFunctions.{AreCasesBelow, cases_first, cases_last, cases_next, function_step}
 use Rattle.motion_pass_points.proofs.Numbering.{snoc_new}
-use Rattle.motion_pass_placement.specs.Moves.{BecomesIn, IsMovedAssignment}
+use Rattle.motion_pass_placement.specs.Moves.{IsMovedAssignment}
 use Rattle.motion_pass.specs.Amounts.{IsAmount}
-use Rattle.motion_pass.proofs.Functions.{IsAhead, ahead_none, ahead_one, ahead_all, amount_at, amount_behind, cases_longer, one_of_total}
+use Rattle.motion_pass.proofs.Functions.{IsAhead, ahead_none, ahead_one, ahead_all, amount_at, amount_behind, cases_longer}
 use Rattle.motion_pass.proofs.pass.move_graphs.Goals as goal
 
 pub loop-number-init : goal.loop-number-init
@@ -27,15 +26,13 @@ loop-number-init c =
       cases = subst (λ hs. AreCasesBelow IsMovedAssignment gs hs 0 c.args.cases.now.items) (sym none) (subst (λ all. AreCasesBelow IsMovedAssignment gs [] 0 all) (sym c.requires.none) (cases_first IsMovedAssignment gs []));
     }
 
-pub graph_after-requires-clause-few : goal.graph_after-requires-clause-few
-graph_after-requires-clause-few c =
+pub graph_after-requires-clause-bounded : goal.graph_after-requires-clause-bounded
+graph_after-requires-clause-bounded c =
     let xs = c.args.graphs.now in
     let k = c.loop-number.number in
     let g = c.index-graphs-number.result in
     let there : slice_get (map graph_view xs) k ≡ Some (graph_view g) = slice_get-map graph_view xs k ∙ ap (option_map graph_view) (slice_get_read xs (length xs) k g refl c.loop-number-test.true c.index-graphs-number.is) in
-    let one = one_of_total (λ (f : Graph). length f.blocks) (map graph_view xs) k (graph_view g) there in
-    let all = c.requires.bounded.blocks in
-    omega (arith, one, all)
+    c.requires.bounded.each k (graph_view g) there
 
 pub graph_after-requires-clause-inside : goal.graph_after-requires-clause-inside
 graph_after-requires-clause-inside c =
@@ -51,7 +48,7 @@ loop-number-preserved c =
     let gs = map graph_view xs in
     let k = c.loop-number.number in
     let g = graph_view c.index-graphs-number.result in
-    let h = graph_view c.in-Some.next in
+    let h = graph_view c.in_ok-next.next in
     let hs = map graph_view c.loop-number.moved.items in
     let longer = map graph_view c.push.new.self.items in
     let inv = c.loop-number.invariant in
@@ -61,9 +58,9 @@ loop-number-preserved c =
     let was = inv.count in
     let count : length longer ≡ k + 1 = omega (arith, more, was) in
     let before = amount_at gs k g there c.loop-number.amount hs inv.amount in
-    let becomes = subst (λ o. IfSome o (λ (v : declared-graph.Graph). (b a : List Graph) → IsAmount c.loop-number.amount (b ++ g ∷ a) → BecomesIn c.args.room b g a (graph_view v))) c.in-Some.is c.in_ok-next.ensures.becomes in
-    let amount = subst (λ o. IfSome o (λ (v : declared-graph.Graph). (b a : List Graph) → IsAmount c.loop-number.amount (b ++ g ∷ a) → IsAmount c.graph_after.new.amount (b ++ graph_view v ∷ a))) c.in-Some.is c.in_ok-next.ensures.amount in
-    let added = subst (λ o. IfSome o (λ (v : declared-graph.Graph). Adds (IsMovedAssignment g (graph_view v)) c.loop-number.cases.items c.graph_after.new.cases.items)) c.in-Some.is c.in_ok-next.ensures.cases in
+    let becomes = c.in_ok-next.ensures.becomes in
+    let amount = c.in_ok-next.ensures.amount in
+    let added = c.in_ok-next.ensures.cases in
     let stands : slice_get longer k ≡ Some h = ap (λ l. slice_get l k) grown ∙ ap (slice_get (hs ++ h ∷ [])) (sym inv.count) ∙ snoc_new hs h in
     record {
       count = count;

@@ -1,24 +1,22 @@
 use Rattle.std.proofs.Common.{◌≡◌, ◌↔◌, ℕ, ◌/◌, ◌<◌, Bool, true, false, List, Option, Some, None, length, map, refl, sym, ap, ◌∙◌, subst, arith}
-use Rattle.std.specs.Prelude.{IfSome, is_some, slice_index_or}
+use Rattle.std.specs.Prelude.{is_some, slice_index_or}
 use Rattle.std.specs.BTreeMap.{get}
 use Rattle.std.proofs.lemmas.List.{length-map}
 use Rattle.std.proofs.lemmas.Option.{slice_get_within}
 use Rattle.std.specs.Global.{Vec}
 use Rattle.graph_core.specs.declared.block.Block as declared-block
-use Rattle.graph_core.specs.Graphs.{Block, block_view}
+use Rattle.graph_core.specs.Graphs.{Block, block_view, graph_view}
 use Rattle.graph_core.specs.Computations.{Computation}
 use Rattle.motion_pass_points.specs.MotionPointsComputing.{computation_view}
 use Rattle.motion_pass_points.specs.Numbers.{key_cmp, views_of}
 use Rattle.motion_pass_problems.proofs.Inner.{at_inside}
 use Rattle.motion_pass_problems.specs.Flowing.{HasEdge}
 use Rattle.motion_pass_problems.specs.Facts.{AreReached}
-use Rattle.motion_pass_placement.specs.declared.columns.Placing.{Placing}
-use Rattle.motion_pass_placement.specs.declared.columns.Solved.{Solved}
 use Rattle.motion_pass_placement.specs.declared.fates.Fate.{Fate}
-use Rattle.motion_pass_placement.specs.declared.placement.Numbering.{Numbering}
-use Rattle.motion_pass_placement.specs.Columns.{AreFated, AreRows, AreSolved, HasFacts, fates_of, row_of}
-use Rattle.motion_pass_placement.specs.Placed.{AreNumbered, IsMovedAnywhere, temporary_of}
+use Rattle.motion_pass_placement.specs.Columns.{AreFated, AreRows, HasFacts, fates_of, row_of}
+use Rattle.motion_pass_placement.specs.Placed.{IsMovedAnywhere, temporary_of}
 use Rattle.motion_pass_placement.proofs.Acted.{AreToldOf}
+use Rattle.motion_pass_placement.proofs.Bounds.{computed_named, few_blocks, few_computed}
 use Rattle.motion_pass_placement.proofs.Named.{named_rule}
 use Rattle.motion_pass_placement.proofs.placement.placed.Goals as goal
 
@@ -32,25 +30,33 @@ numbers_of-requires c = c.requires.known
 
 pub columns-requires : goal.columns-requires
 columns-requires c = record {
-  few = omega (arith, c.requires.few, length-map c.args.graph.now.blocks.items block_view);
+  few = few_blocks (graph_view c.args.graph.now) c.requires.bounded;
   reached = subst (λ (rs : List Bool). AreReached (map block_view c.args.graph.now.blocks.items) (λ n. slice_index_or rs n false)) (sym c.deref-4.ensures.value) c.requires.reached;
   once = subst (λ (rs : List Bool). (m : ℕ) → HasEdge (map block_view c.args.graph.now.blocks.items) (λ n. slice_index_or rs n false) m 0 → ⊥) (sym c.deref-4.ensures.value) c.requires.once;
   known = c.requires.known;
+  computed = few_computed (graph_view c.args.graph.now) c.requires.bounded (λ n. slice_index_or c.args.reached.items n false) (views_of c.args.computations) c.requires.order;
+  named = computed_named (graph_view c.args.graph.now) c.requires.bounded (λ n. slice_index_or c.args.reached.items n false) (views_of c.args.computations) c.requires.order;
   rows = moved_rows (views_of c.args.computations) c.deref.ensures.value (c.deref-2.ensures.value ∙ sym c.deref-4.ensures.value) (sym c.deref-3.ensures.value) c.in_ok-numbers.ensures.told;
 }
 
 pub fates-requires-clause-placing : goal.fates-requires-clause-placing
 fates-requires-clause-placing c = record {
-  few = omega (arith, c.requires.few, length-map c.args.graph.now.blocks.items block_view);
+  few = few_blocks (graph_view c.args.graph.now) c.requires.bounded;
   reached = subst (λ (rs : List Bool). AreReached (map block_view c.args.graph.now.blocks.items) (λ n. slice_index_or rs n false)) (sym c.deref-4.ensures.value) c.requires.reached;
   once = subst (λ (rs : List Bool). (m : ℕ) → HasEdge (map block_view c.args.graph.now.blocks.items) (λ n. slice_index_or rs n false) m 0 → ⊥) (sym c.deref-4.ensures.value) c.requires.once;
   known = c.requires.known;
+  computed = few_computed (graph_view c.args.graph.now) c.requires.bounded (λ n. slice_index_or c.args.reached.items n false) (views_of c.args.computations) c.requires.order;
+  named = computed_named (graph_view c.args.graph.now) c.requires.bounded (λ n. slice_index_or c.args.reached.items n false) (views_of c.args.computations) c.requires.order;
   rows = moved_rows (views_of c.args.computations) c.deref.ensures.value (c.deref-2.ensures.value ∙ sym c.deref-4.ensures.value) (sym c.deref-3.ensures.value) c.in_ok-numbers.ensures.told;
 }
 
--- the columns that are made are solved
-some_solved : (p : Placing) (o : Option (Vec Solved)) (columns : Vec Solved) → o ≡ Some columns → IfSome o (λ (cs : Vec Solved). AreSolved p cs.items) → AreSolved p columns.items
-some_solved p o columns is solved = subst (λ made. IfSome made (λ (cs : Vec Solved). AreSolved p cs.items)) is solved
+pub numbered-requires : goal.numbered-requires
+numbered-requires c =
+    let size = length-map c.args.computations.all.items computation_view in
+    let count : length c.deref-9.result.now ≡ c.len.result = ap length c.deref-9.ensures.value ∙ c.in_ok-treated.ensures.size in
+    let few = few_computed (graph_view c.args.graph.now) c.requires.bounded (λ n. slice_index_or c.args.reached.items n false) (views_of c.args.computations) c.requires.order in
+    let names = c.requires.bounded.names in
+    omega (arith, size, count, few, names, c.len.ensures)
 
 pub returns : goal.returns
 returns c =
@@ -59,10 +65,10 @@ returns c =
     let all = views_of c.args.computations in
     let rows = c.in_ok-numbers.numbers.items in
     let fates = c.in_ok-fates.fates.items in
-    let columns = c.in-Some.columns.items in
-    let made = c.in-Some-2.made in
+    let columns = c.in_ok-columns.columns.items in
+    let made = c.in_ok-made.made in
     let flags_are : ◌≡◌ {A = ℕ → Bool} (λ n. slice_index_or c.deref-4.result.now n false) reached = λ i n. slice_index_or (c.deref-4.ensures.value i) n false in
-    let solved = some_solved _ _ _ c.in-Some.is c.in_ok-columns.ensures in
+    let solved = c.in_ok-columns.ensures in
     let are_rows : AreRows blocks reached all rows = moved_rows all c.deref.ensures.value c.deref-2.ensures.value refl c.in_ok-numbers.ensures.told in
     let told : AreToldOf blocks reached all rows fates = record {
       whole = c.requires.reached;
@@ -70,9 +76,9 @@ returns c =
       along = are_rows;
       told = λ n b at comes k e is_it. subst (λ (ns : List (Vec (Option ℕ))). AreFated blocks n b (row_of ns n) k e (fates_of fates n)) c.deref-3.ensures.value (c.in_ok-fates.ensures.told n b at ((λ i. flags_are i n) ∙ comes) k e is_it);
     } in
-    let numbered = subst (λ o. IfSome o (λ (m : Numbering). AreNumbered c.args.graph.now.name_count m.temporaries.items m.end_name)) c.in-Some-2.is c.in_ok-made.ensures.numbered in
-    let flagged = subst (λ o. IfSome o (λ (m : Numbering). (k : ℕ) → k < length c.deref-9.result.now → is_some (slice_index_or m.temporaries.items k None) ≡ slice_index_or c.deref-9.result.now k false)) c.in-Some-2.is c.in_ok-made.ensures.flagged in
-    let sized = subst (λ o. IfSome o (λ (m : Numbering). length m.temporaries.items ≡ length c.deref-9.result.now)) c.in-Some-2.is c.in_ok-made.ensures.size in
+    let numbered = c.in_ok-made.ensures.numbered in
+    let flagged = c.in_ok-made.ensures.flagged in
+    let sized = c.in_ok-made.ensures.size in
     record {
       reached = c.requires.reached;
       known = c.requires.known;

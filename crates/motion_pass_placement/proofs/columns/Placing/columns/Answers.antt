@@ -1,5 +1,5 @@
 use Rattle.std.proofs.Common.{◌≡◌, inl, inr, Some, sym, ap, ◌∙◌, subst, arith}
-use Rattle.std.specs.Prelude.{IfSome, slice_get}
+use Rattle.std.specs.Prelude.{slice_get}
 use Rattle.std.proofs.lemmas.Bool.{cases_lt}
 use Rattle.std.proofs.lemmas.List.{length-map}
 use Rattle.std.proofs.lemmas.Option.{same_Some, slice_get_within}
@@ -16,11 +16,11 @@ loop-index-preserved c =
     let index = c.loop-index.index in
     let all = c.loop-index.columns.items in
     let longer = c.push.new.self.items in
-    let solved = c.in-Some.solved in
+    let solved = c.in_ok-solved.solved in
     let count = c.loop-index.invariant.count in
     let grown = c.in_ok-push.ensures.items in
     let more = count_on all longer solved index grown count in
-    let is : IsSolved s index solved = subst (λ o. IfSome o (λ (one : Solved). IsSolved s index one)) c.in-Some.is c.in_ok-solved.ensures in
+    let is : IsSolved s index solved = c.in_ok-solved.ensures in
     record {
       count = more;
       each = λ i one at. elim (cases_lt i index) [
@@ -40,5 +40,12 @@ returns c = record {
   enough = λ k e at.
       (let inside = slice_get_within (all_in c.args.self.now) k e at in
       let size = length-map c.args.self.now.computations.now.all.items computation_view in
-      omega (arith, inside, size, c.len-2.ensures, c.loop-index-test.false, c.loop-index.invariant.count));
+      let few = c.requires.computed in
+      omega (arith, inside, size, few, c.len.ensures, c.loop-index-test.false, c.loop-index.invariant.count));
 }
+
+pub solved-requires-clause-index : goal.solved-requires-clause-index
+solved-requires-clause-index c =
+    let size = length-map c.args.self.now.computations.now.all.items computation_view in
+    let few = c.requires.computed in
+    omega (arith, few, size, c.len.ensures, c.loop-index-test.true)
