@@ -5,3 +5,5 @@ pub mod Rows
 pub mod Reader
 pub mod Known
 pub mod Alike
+pub mod Order
+pub mod Found

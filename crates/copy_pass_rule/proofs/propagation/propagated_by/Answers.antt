@@ -6,7 +6,7 @@ use Rattle.copy_pass_rule.specs.Copying.{IsPropagated}
 use Rattle.copy_pass_rule.specs.Flow.{AreFound, AreReadBlocks, lines_of}
 use Rattle.graph_paths.specs.PathMarksTable.{bits_of}
 use Rattle.copy_pass_rule.proofs.ByRule as rule
-use Rattle.copy_pass_rule.proofs.blocks.propagated.Goals as goal
+use Rattle.copy_pass_rule.proofs.propagation.propagated_by.Goals as goal
 
 pub returns : goal.returns
 returns c =
