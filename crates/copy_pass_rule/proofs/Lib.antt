@@ -11,3 +11,6 @@ pub mod Naming
 pub mod Keeping
 pub mod Alike
 pub mod Valid
+pub mod LaterCopies
+pub mod Found
+pub mod Ordering

@@ -7,3 +7,4 @@ pub mod Known
 pub mod Alike
 pub mod Order
 pub mod Found
+pub mod Countable

@@ -2,8 +2,8 @@
 
 ghost use Rattle.std.specs.Prelude.{◌≡◌, ℕ, suc, ◌+◌, ◌<◌, ◌^◌, IfOk, MatchOption, OnOk, Some, length, map, slice_get};
 ghost use Rattle.graph_core.specs.Graphs.{block_view, graph_view, instruction_view};
-ghost use Rattle.graph_core.specs.Validity.{instructions_of};
 ghost use Rattle.copy_pass_rule.specs.declared.copies.CopyAt as declared-copy;
+ghost use Rattle.copy_pass_rule.specs.Countable.{IsCountable};
 ghost use Rattle.copy_pass_rule.specs.Flow.{line_of, missing_where};
 ghost use Rattle.copy_pass_rule.specs.Found.{AreCopiesOf};
 ghost use Rattle.graph_paths.specs.Flood.{AreSameBut};
@@ -26,7 +26,14 @@ fn walk_to(
     number: u32,
     block: &Block,
     left: usize,
-) {
+)
+    requires row { row < marks.old.count }
+    requires width { marks.old.width ≡ length copies.now.all.now + 1 }
+    requires narrow { length copies.now.all.now + 1 < 2 ^ 32 }
+    ensures walked { (k : ℕ) (c : declared-copy.CopyAt) → slice_get copies.now.all.now k ≡ Some c → bits_of marks.new row (suc k) ≡ missing_where c number left (line_of (block_view block.now)).writes (bits_of marks.old row (suc k)) }
+    ensures same_count { marks.new.count ≡ marks.old.count }
+    ensures same_width { marks.new.width ≡ marks.old.width }
+{
     let mut ahead: &[Instr] = &block.instructions;
     while let [instruction, rest @ ..] = ahead {
         if ahead.len() == left {
@@ -96,10 +103,7 @@ fn find_in(
 /// They are found one after the other, each as it is read by those that were found before: a copy that reaches a point on every path stands before it
 /// on the way by which the order comes there.
 pub fn find_copies(alloc: Global, graph: &Graph) -> Result<Vec<CopyAt>, AllocError>
-    requires some { 0 < length (graph_view graph.now).blocks }
-    requires few_blocks { length (graph_view graph.now).blocks < 2 ^ 31 }
-    requires few_scalars { length (graph_view graph.now).scalars < 2 ^ 31 }
-    requires few_instructions { instructions_of (graph_view graph.now) < 2 ^ 31 }
+    requires countable { IsCountable (graph_view graph.now) }
     ensures copies { IfOk result (λ found. AreCopiesOf (graph_view graph.now) found.items) }
     ensures few { IfOk result (λ found. length found.items < 2 ^ 31) }
 {

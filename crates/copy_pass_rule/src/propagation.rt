@@ -2,8 +2,8 @@
 
 ghost use Rattle.std.specs.Prelude.{◌≡◌, ◌<◌, ◌^◌, IfOk, MatchOption, length};
 ghost use Rattle.graph_core.specs.Graphs.{graph_view};
-ghost use Rattle.graph_core.specs.Validity.{instructions_of};
 ghost use Rattle.copy_pass_rule.specs.Copying.{IsPropagated};
+ghost use Rattle.copy_pass_rule.specs.Countable.{IsCountable};
 ghost use Rattle.copy_pass_rule.specs.Found.{AreCopiesOf};
 
 use crate::blocks::read_blocks;
@@ -19,9 +19,7 @@ fn propagated_by(
     graph: &Graph,
     copies: &[CopyAt],
 ) -> Result<Option<Graph>, AllocError>
-    requires some { 0 < length (graph_view graph.now).blocks }
-    requires few_blocks { length (graph_view graph.now).blocks < 2 ^ 31 }
-    requires few_scalars { length (graph_view graph.now).scalars < 2 ^ 31 }
+    requires countable { IsCountable (graph_view graph.now) }
     requires few_copies { length copies.now < 2 ^ 31 }
     ensures { IfOk result (λ o. MatchOption o (AreCopiesOf (graph_view graph.now) copies.now → ⊥) (λ made. IsPropagated (graph_view graph.now) (graph_view made))) }
 {
@@ -46,10 +44,7 @@ fn propagated_by(
 
 /// What copy propagation makes of a graph: by these copies, if they are those of the graph, else by those that are found.
 pub fn propagated(alloc: Global, graph: &Graph, copies: &[CopyAt]) -> Result<Graph, AllocError>
-    requires some { 0 < length (graph_view graph.now).blocks }
-    requires few_blocks { length (graph_view graph.now).blocks < 2 ^ 31 }
-    requires few_scalars { length (graph_view graph.now).scalars < 2 ^ 31 }
-    requires few_instructions { instructions_of (graph_view graph.now) < 2 ^ 31 }
+    requires countable { IsCountable (graph_view graph.now) }
     ensures { IfOk result (λ made. IsPropagated (graph_view graph.now) (graph_view made)) }
 {
     if copies.len() < 0x8000_0000 {
