@@ -52,7 +52,8 @@ impl UnitPass for CopyPropagation {
     }
 
     fn apply(&self, alloc: Global, unit: &Unit) -> Result<Option<Unit>, AllocError> {
-        propagate_copies(alloc, unit)
+        let made = propagate_copies(alloc, unit)?;
+        Ok(Some(made))
     }
 }
 

@@ -14,3 +14,5 @@ pub mod Valid
 pub mod LaterCopies
 pub mod Found
 pub mod Ordering
+pub mod Turns
+pub mod AlongBlocks

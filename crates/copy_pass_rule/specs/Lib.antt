@@ -8,3 +8,4 @@ pub mod Alike
 pub mod Order
 pub mod Found
 pub mod Countable
+pub mod Along

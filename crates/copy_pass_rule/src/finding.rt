@@ -1,11 +1,12 @@
 //! The copies of a graph, found one after the other.
 
-ghost use Rattle.std.specs.Prelude.{◌≡◌, ℕ, suc, ◌+◌, ◌<◌, ◌^◌, IfOk, MatchOption, OnOk, Some, length, map, slice_get};
+ghost use Rattle.std.specs.Prelude.{◌≡◌, ◌≢◌, ◌≤◌, ℕ, suc, ◌+◌, ◌<◌, ◌^◌, IfOk, MatchOption, OnOk, Some, length, map, slice_get};
 ghost use Rattle.graph_core.specs.Graphs.{block_view, graph_view, instruction_view};
 ghost use Rattle.copy_pass_rule.specs.declared.copies.CopyAt as declared-copy;
 ghost use Rattle.copy_pass_rule.specs.Countable.{IsCountable};
 ghost use Rattle.copy_pass_rule.specs.Flow.{line_of, missing_where};
-ghost use Rattle.copy_pass_rule.specs.Found.{AreCopiesOf};
+ghost use Rattle.copy_pass_rule.specs.Along.{FindsIn, IsPoint, Makes, MakesNone, counted_in};
+ghost use Rattle.copy_pass_rule.specs.Found.{AreCopiesOf, AreNumerable};
 ghost use Rattle.graph_paths.specs.Flood.{AreSameBut};
 ghost use Rattle.graph_paths.specs.PathMarksTable.{bits_of};
 
@@ -53,7 +54,13 @@ fn copy_at(
     number: u32,
     instruction: &Instr,
     left: usize,
-) -> Result<Option<CopyAt>, AllocError> {
+) -> Result<Option<CopyAt>, AllocError>
+    requires countable { IsCountable (graph_view graph.now) }
+    requires numerable { AreNumerable found.now (length (graph_view graph.now).blocks) (length (graph_view graph.now).scalars) }
+    requires few { length found.now < 2 ^ 31 }
+    requires stands { IsPoint (graph_view graph.now) number (instruction_view instruction.now) left }
+    ensures { IfOk result (λ o. MatchOption o (MakesNone (graph_view graph.now) number left (instruction_view instruction.now) found.now) (Makes (graph_view graph.now) number left (instruction_view instruction.now) found.now)) }
+{
     let scalars = graph.scalars.len() as u32;
     let Some(copies) = Copies::new(alloc, found, graph.blocks.len(), scalars)? else {
         unreachable!()
@@ -86,7 +93,15 @@ fn find_in(
     graph: &Graph,
     found: &mut Vec<CopyAt>,
     number: u32,
-) -> Result<(), AllocError> {
+) -> Result<(), AllocError>
+    requires countable { IsCountable (graph_view graph.now) }
+    requires numerable { AreNumerable found.old.items (length (graph_view graph.now).blocks) (length (graph_view graph.now).scalars) }
+    requires few { length found.old.items + counted_in (slice_get (graph_view graph.now).blocks number) < 2 ^ 31 }
+    requires new_block { (k : ℕ) (c : declared-copy.CopyAt) → slice_get found.old.items k ≡ Some c → c.block ≢ number }
+    requires block { number < length (graph_view graph.now).blocks }
+    ensures found { OnOk result (FindsIn (graph_view graph.now) number found.old.items found.new.items) }
+    ensures count { OnOk result (length found.new.items ≤ length found.old.items + counted_in (slice_get (graph_view graph.now).blocks number)) }
+{
     let block = &graph.blocks[number as usize];
     let mut ahead: &[Instr] = &block.instructions;
     while let [instruction, rest @ ..] = ahead {
