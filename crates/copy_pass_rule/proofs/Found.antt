@@ -22,7 +22,7 @@ snoc_cases [] y z (suc k) at = absurd (none-some z at)
 snoc_cases (x ∷ xs) y z zero at = inl at
 snoc_cases (x ∷ xs) y z (suc k) at = elim (snoc_cases xs y z k at) [ | inl f ↦ inl f | inr f ↦ inr (ap suc f.0, f.1) ]
 
-tail : {A : Type 0} → List A → List A
+abbrev tail : {A : Type 0} → List A → List A
 tail [] = []
 tail (x ∷ xs) = xs
 
@@ -56,6 +56,11 @@ pub same_bits : (lines : List Line) (copies : List CopyAt) (bits others : Bits) 
 same_bits lines copies bits others one two n k c lt at =
     same_bit (bits n (suc k)) (others n (suc k)) (λ e. missed_told lines copies others two k c at (one.is_missed n k c lt at e) lt) (λ e. missed_told lines copies bits one k c at (two.is_missed n k c lt at e) lt)
 
+-- the copies of the next instruction are known
+abbrev KnownNext : Graph → List CopyAt → Bits → (n : ℕ) → Block → List Instruction → Type 0
+KnownNext g copies bits n b [] = ⊥
+KnownNext g copies bits n b (i ∷ rest) = IsKnownAt g copies bits n b i rest
+
 module _ (g : Graph) where
   -- The copies that are made at points that are done: they are known there.
   pub record AreFoundTo (Done : (n left : ℕ) → Type 0) (found : List CopyAt) : Type 0 where
@@ -78,10 +83,10 @@ module _ (g : Graph) where
 
     -- it is read the same by any bits
     same_made : (others : Bits) → AreFound (lines_of g.blocks) found others → (m : ℕ → Bool) → AreMissingAt found others n b (i ∷ rest) m → reading (source_among found m 0) i ≡ made
-    same_made others found_too m so = ap (λ f. reading f i) (fun_ext (λ x. source_same found m missing 0 x (λ k c there. at_zero k (so k c there ∙ ap (missing_where c n (length (i ∷ rest)) (map target_of b.instructions)) (same_bits (lines_of g.blocks) found others bits found_too is n k c inside there) ∙ sym (are k c there)))))
+    same_made others found_too m so = ap (λ f. reading f i) (fun_ext (λ x. source_same found m missing 0 x (λ k c there. at_zero m k (so k c there ∙ ap (missing_where c n (length (i ∷ rest)) (map target_of b.instructions)) (same_bits (lines_of g.blocks) found others bits found_too is n k c inside there) ∙ sym (are k c there)))))
       where
-        at_zero : {m : ℕ → Bool} (k : ℕ) → m k ≡ missing k → m (0 + k) ≡ missing (0 + k)
-        at_zero {m} k e = (let z : 0 + k ≡ k = omega arith in ap m z ∙ e ∙ ap missing (sym z))
+        at_zero : (m : ℕ → Bool) (k : ℕ) → m k ≡ missing k → m (0 + k) ≡ missing (0 + k)
+        at_zero m k e = (let z : 0 + k ≡ k = omega arith in ap m z ∙ e ∙ ap missing (sym z))
 
     none_stands : (k : ℕ) (c : CopyAt) → slice_get found k ≡ Some c → stands_at c n (length rest) ≡ true → ⊥
     none_stands k c there stands = (let p = point_is c n (length rest) stands in fresh (subst (λ l. Done n l) (sym p.1) (subst (λ m. Done m c.left) (sym p.0) (so_far.own k c there))))
@@ -116,11 +121,7 @@ module _ (g : Graph) where
             }
 
             moved : (i ∷ rest) ≡ (j ∷ later) → IsKnownAt g found others n b j later
-            moved e = subst (λ (js : List Instruction). KnownOf js) e own_point
-              where
-                abbrev KnownOf : List Instruction → Type 0
-                KnownOf [] = ⊥
-                KnownOf (k ∷ ks) = IsKnownAt g found others n b k ks
+            moved e = subst (λ (js : List Instruction). KnownNext g found others n b js) e own_point
 
     -- a copy is made there, that is missing at all points that are done
     pub found_one : (c : CopyAt) → c.block ≡ n → c.left ≡ length rest → made ≡ Move c.target (Name c.source) → AreOfOneType g.scalars c.target c.source
@@ -143,8 +144,8 @@ module _ (g : Graph) where
           | inl old ↦ so_far.numerable.within k d old
           | inr new ↦ subst (λ (e : CopyAt). e.block < length g.blocks) new.1 (subst (λ m. m < length g.blocks) (sym block) (slice_get_within g.blocks n b at))
         ];
-        scalars = λ k d there. elim (snoc_cases found c d k there) [
-          | inl old ↦ so_far.numerable.scalars k d old
+        of_scalars = λ k d there. elim (snoc_cases found c d k there) [
+          | inl old ↦ so_far.numerable.of_scalars k d old
           | inr new ↦ subst (λ (e : CopyAt). (e.target < length g.scalars) × (e.source < length g.scalars)) new.1 (slice_get_within g.scalars c.target typed.target typed.target_is, slice_get_within g.scalars c.source typed.source typed.source_is)
         ];
       };
@@ -164,8 +165,8 @@ module _ (g : Graph) where
         first_of : {others : Bits} → AreFound (lines_of g.blocks) (found ++ c ∷ []) others → AreFound (lines_of g.blocks) found others
         first_of {others} whole = found_of_first (lines_of g.blocks) found (c ∷ []) others whole
 
-        first_missing : {others : Bits} (k : ℕ) (d : Block) (js : List Instruction) (m : ℕ → Bool) → AreMissingAt (found ++ c ∷ []) others k d js m → AreMissingAt found others k d js m
-        first_missing k d js m so l e there = so l e (snoc_old found (c ∷ []) l e there)
+        first_missing : (others : Bits) (k : ℕ) (d : Block) (js : List Instruction) (m : ℕ → Bool) → AreMissingAt (found ++ c ∷ []) others k d js m → AreMissingAt found others k d js m
+        first_missing others k d js m so l e there = so l e (snoc_old found (c ∷ []) l e there)
 
         last_missing : (others : Bits) → AreFound (lines_of g.blocks) (found ++ c ∷ []) others → (k : ℕ) (d : Block) (front later : List Instruction) (j : Instruction) → slice_get g.blocks k ≡ Some d → d.instructions ≡ front ++ j ∷ later
             → And Done n (length rest) k (length later) → (m : ℕ → Bool) → AreMissingAt (found ++ c ∷ []) others k d (j ∷ later) m → m (0 + length found) ≡ true
@@ -180,7 +181,7 @@ module _ (g : Graph) where
         at_old : (others : Bits) → AreFound (lines_of g.blocks) (found ++ c ∷ []) others → (k : ℕ) (d : Block) (front later : List Instruction) (j : Instruction) → slice_get g.blocks k ≡ Some d → d.instructions ≡ front ++ j ∷ later
             → Done k (length later) → IsKnownAt g (found ++ c ∷ []) others k d j later
         at_old others whole k d front later j there split done m so =
-            let was : IsKnown g.scalars found k (length later) (reading (source_among found m 0) j) = so_far.known others (first_of whole) k d front later j there split done m (first_missing k d (j ∷ later) m so) in
+            let was : IsKnown g.scalars found k (length later) (reading (source_among found m 0) j) = so_far.known others (first_of whole) k d front later j there split done m (first_missing others k d (j ∷ later) m so) in
             subst (λ i. IsKnown g.scalars (found ++ c ∷ []) k (length later) i) (sym (same_reading others whole k d front later j there split (inl done) m so)) (record {
               listed = λ l e stood stands. elim (snoc_cases found c e l stood) [
                 | inl old ↦ was.listed l e old stands
@@ -192,7 +193,7 @@ module _ (g : Graph) where
 
         own_point : (others : Bits) → AreFound (lines_of g.blocks) (found ++ c ∷ []) others → IsKnownAt g (found ++ c ∷ []) others n b i rest
         own_point others whole m so =
-            let same : reading (source_among (found ++ c ∷ []) m 0) i ≡ made = same_reading others whole n b before rest i at parts (inr (refl, refl)) m so ∙ same_made others (first_of whole) m (first_missing n b (i ∷ rest) m so) in
+            let same : reading (source_among (found ++ c ∷ []) m 0) i ≡ made = same_reading others whole n b before rest i at parts (inr (refl, refl)) m so ∙ same_made others (first_of whole) m (first_missing others n b (i ∷ rest) m so) in
             subst (λ i. IsKnown g.scalars (found ++ c ∷ []) n (length rest) i) (sym same) (record {
               listed = λ l e stood stands. elim (snoc_cases found c e l stood) [
                 | inl old ↦ absurd (none_stands l e old stands)
@@ -211,8 +212,4 @@ module _ (g : Graph) where
             subst (λ m. IsKnownAt g (found ++ c ∷ []) others m d j later) (sym q) (subst (λ (e : Block). IsKnownAt g (found ++ c ∷ []) others n e j later) is_here.0 (moved is_here.1))
           where
             moved : (i ∷ rest) ≡ (j ∷ later) → IsKnownAt g (found ++ c ∷ []) others n b j later
-            moved e = subst (λ (js : List Instruction). KnownOf js) e (own_point others whole)
-              where
-                abbrev KnownOf : List Instruction → Type 0
-                KnownOf [] = ⊥
-                KnownOf (k ∷ ks) = IsKnownAt g (found ++ c ∷ []) others n b k ks
+            moved e = subst (λ (js : List Instruction). KnownNext g (found ++ c ∷ []) others n b js) e (own_point others whole)

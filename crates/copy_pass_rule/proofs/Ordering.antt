@@ -45,6 +45,31 @@ module _ (blocks : List Block) where
     pub once : (j k n : ℕ) → slice_get order j ≡ Some n → slice_get order k ≡ Some n → j ≡ k
     pub led : (k n : ℕ) → slice_get order k ≡ Some n → 0 < k → IsLedEarlier blocks order k n
 
+  only_false : (n k : ℕ) → slice_get (replicate n false) k ≡ Some true → ⊥
+  only_false zero k e = none-some true e
+  only_false (suc n) zero e = true≢false (sym (same_Some false true e))
+  only_false (suc n) (suc k) e = only_false n k e
+
+  as_long : (n : ℕ) → length (replicate n false) ≡ n
+  as_long zero = refl
+  as_long (suc n) = ap suc (as_long n)
+
+  -- the first block is put
+  pub begun : {order : List ℕ} {has : List Bool} (n : ℕ) → IsAdded 0 [] (replicate n false) order has → n ≡ length blocks → 0 < n → AreOrdered order has
+  begun n (stood is) many lt = absurd (only_false n 0 (is (let long = as_long n in omega (arith, long, lt))))
+  begun n (put at) many lt = record {
+    count = length-set (replicate n false) 0 true ∙ as_long n ∙ many;
+    first = refl;
+    told = λ k e. elim (get_set (replicate n false) 0 k true true e) [ | inl f ↦ (0, ap Some (sym f.0)) | inr f ↦ absurd (only_false n k f.1) ];
+    here = λ k l e. (let one = only_zero k l e in subst (λ m. slice_get (slice_set (replicate n false) 0 true) m ≡ Some true) one.1 (set_here (replicate n false) 0 false true at));
+    once = λ j k l one two. (only_zero j l one).0 ∙ sym (only_zero k l two).0;
+    led = λ k l e more. (let q = (only_zero k l e).0 in absurd (omega (arith, q, more)));
+  }
+    where
+      only_zero : (k l : ℕ) → slice_get (0 ∷ []) k ≡ Some l → (k ≡ 0) × (0 ≡ l)
+      only_zero zero l e = (refl, same_Some 0 l e)
+      only_zero (suc k) l e = absurd (none-some l e)
+
   led_still : (order : List ℕ) (label k n : ℕ) → IsLedEarlier blocks order k n → IsLedEarlier blocks (order ++ label ∷ []) k n
   led_still order label k n e = record { turn = e.turn; number = e.number; block = e.block; earlier = e.earlier; stands = snoc_old order (label ∷ []) e.turn e.number e.stands; is = e.is; leads = e.leads }
 

@@ -36,7 +36,7 @@ module _ (g : Graph) (order : List ℕ) (is : IsInOrder g.blocks order) where
   -- nothing is done before the first block is entered
   pub none_done : (b : Block) → slice_get g.blocks 0 ≡ Some b → AreFoundTo g (IsDone order 0 (length b.instructions)) []
   none_done b at = record {
-    numerable = record { apart = λ j k c d one two e l. absurd (none-some c one); within = λ k c there. absurd (none-some c there); scalars = λ k c there. absurd (none-some c there) };
+    numerable = record { apart = λ j k c d one two e l. absurd (none-some c one); within = λ k c there. absurd (none-some c there); of_scalars = λ k c there. absurd (none-some c there) };
     own = λ k c there. absurd (none-some c there);
     known = λ bits so n d before rest i there parts done. elim done [
       | inl f ↦ absurd (let lt = f.1 in omega (arith, lt))
@@ -56,7 +56,7 @@ module _ (g : Graph) (order : List ℕ) (is : IsInOrder g.blocks order) where
   -- the next block is entered, when all of one is done
   pub next_block : (turn : ℕ) (found : List CopyAt) (n : ℕ) (b : Block) → slice_get order (turn + 1) ≡ Some n → slice_get g.blocks n ≡ Some b → AreFoundTo g (IsDone order turn 0) found → AreFoundTo g (IsDone order (turn + 1) (length b.instructions)) found
   next_block turn found n b stands at are = done_as (IsDone order turn 0) (IsDone order (turn + 1) (length b.instructions)) found
-  (λ m left done. elim done [ | inl f ↦ inl (f.0, (let lt = f.1 in omega (arith, lt)), f.2) | inr f ↦ inl (turn, omega arith, f.0) ]) back are
+      (λ m left done. elim done [ | inl f ↦ inl (f.0, (let lt = f.1 in omega (arith, lt)), f.2) | inr f ↦ inl (turn, omega arith, f.0) ]) back are
     where
       back : (m : ℕ) (d : Block) (before rest : List Instruction) (i : Instruction) → slice_get g.blocks m ≡ Some d → d.instructions ≡ before ++ i ∷ rest → IsDone order (turn + 1) (length b.instructions) m (length rest) → IsDone order turn 0 m (length rest)
       back m d before rest i there parts (inl f) = before_or_here f.0 f.1 f.2

@@ -19,7 +19,7 @@ AreWithin copies blocks = (k : ℕ) (c : CopyAt) → slice_get copies k ≡ Some
 pub record AreNumerable (copies : List CopyAt) (blocks scalars : ℕ) : Type 0 where
   pub apart : AreApart copies
   pub within : AreWithin copies blocks
-  pub scalars : AreOfScalars copies scalars
+  pub of_scalars : AreOfScalars copies scalars
 
 -- which copies are missing at a point of a block, by what is missing at its start
 abbrev pub AreMissingAt : List CopyAt → Bits → (n : ℕ) → Block → (rest : List Instruction) → (missing : ℕ → Bool) → Type 0
