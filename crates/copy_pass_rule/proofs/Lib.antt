@@ -16,3 +16,4 @@ pub mod Found
 pub mod Ordering
 pub mod Turns
 pub mod AlongBlocks
+mod Standing
