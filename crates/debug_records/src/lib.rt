@@ -3,10 +3,12 @@
 
 mod change;
 mod code;
+mod log;
 mod mode;
 mod source;
 
-pub use change::{Change, ChangeLog, Kind, PassName, Place, Var};
+pub use change::{Change, Kind, PassName, Place, Var};
 pub use code::{Code, Letter, codes_in_use};
+pub use log::ChangeLog;
 pub use mode::Mode;
 pub use source::{SourceErr, Spot};

@@ -10,12 +10,11 @@ ghost use Rattle.rv_machine.specs.Reading.{byte_at, stack_rest};
 ghost use Rattle.memory_map.specs.Maps.{bytes_size, bytes_start, code_start, most_words, stack_size};
 
 use crate::access::{
-    BYTES_SIZE, STACK_SIZE, byte_of_code, load_from, load_from_code, size_of_load, size_of_store,
-    store_in, word_at,
+    byte_of_code, load_from, load_from_code, size_of_load, size_of_store, store_in, word_at,
 };
 use crate::arithmetic::{is_taken, operate, operate_immediate};
 use crate::event::Event;
-use memory_map::{CODE_START, Map};
+use memory_map::{BYTES_SIZE, CODE_START, Map, STACK_SIZE};
 use rv_code::{Instruction, LoadOperation, StoreOperation, decode};
 use std::alloc::{AllocError, Global};
 use std::marker::Model;
@@ -123,8 +122,8 @@ impl Machine {
             instructions: program.instructions,
             pc: CODE_START,
             registers: [0; 32],
-            bytes: initial_bytes(alloc, bytes, BYTES_SIZE)?,
-            stack: zero_bytes(alloc, STACK_SIZE)?,
+            bytes: initial_bytes(alloc, bytes, BYTES_SIZE as usize)?,
+            stack: zero_bytes(alloc, STACK_SIZE as usize)?,
             input: input.to_vec(alloc)?,
             input_read: 0,
         })
