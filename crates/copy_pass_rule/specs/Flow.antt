@@ -85,11 +85,13 @@ pub data AreRead (scalars : List Scalar) (copies : List CopyAt) (n : ℕ) : List
       → ((k : ℕ) (c : CopyAt) → slice_get copies k ≡ Some c → next k ≡ missing_behind c n (length rest) (target_of i) (missing k)) → AreRead scalars copies n rest next later after
       → AreRead scalars copies n (i ∷ rest) missing (reading (source_among copies missing 0) i ∷ later) after
 
--- At each point of a block the copies are known that its instruction makes, as it is read by those that are not missing there; at the start of the block these are missing.
+-- At each point of a block the copies are known that its instruction makes, as it is read by those that are not missing
+-- there; at the start of the block these are missing.
 abbrev pub AreKnownIn : List Scalar → List CopyAt → (n : ℕ) → List Instruction → (missing : ℕ → Bool) → Type 0
 AreKnownIn scalars copies n all missing =
     (before rest : List Instruction) (i : Instruction) (here : ℕ → Bool) → all ≡ before ++ i ∷ rest
-    → ((k : ℕ) (c : CopyAt) → slice_get copies k ≡ Some c → here k ≡ missing_where c n (length (i ∷ rest)) (map target_of all) (missing k))
+    → ((k : ℕ) (c : CopyAt) → slice_get copies k ≡ Some c
+        → here k ≡ missing_where c n (length (i ∷ rest)) (map target_of all) (missing k))
     → IsKnown scalars copies n (length rest) (reading (source_among copies here 0) i)
 
 -- the copies that are missing by the bits of a row

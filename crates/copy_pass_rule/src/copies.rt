@@ -85,7 +85,7 @@ fn no_numbers(alloc: Global, blocks: usize) -> Result<Vec<Vec<u32>>, AllocError>
     ensures { IfOk result (λ numbers. length numbers.items ≡ blocks) }
 {
     let mut numbers = Vec::new(alloc);
-    for _ in 0..blocks {
+    while numbers.len() < blocks {
         numbers.push(Vec::new(alloc))?;
     }
     Ok(numbers)
