@@ -4,11 +4,13 @@ ghost use Rattle.std.specs.Prelude.{◌≡◌, ◌<◌, IfSome, MatchOption, len
 ghost use Rattle.std.specs.List.{list_all};
 ghost use Rattle.debug_records.specs.Change.{is_lower_case, is_taken, IsPassName, letters, pass_name};
 
-/// A place of the source: a point where a debugger may stop, or a function's entry. Places are numbered from 1 in text order.
+/// A place of the source: a point where a debugger may stop, or a function's entry. Places are numbered from 1 in text
+/// order.
 #[derive(Clone, Copy, Default, PartialEq, Eq, PartialOrd, Ord)]
 pub struct Place(pub u32);
 
-/// A variable of the program, by its number from 0: the named static ones, then literals, then automatic ones, each by position.
+/// A variable of the program, by its number from 0: the named static ones, then literals, then automatic ones, each by
+/// position.
 #[derive(Clone, Copy, Default, PartialEq, Eq, PartialOrd, Ord)]
 pub struct Var(pub u32);
 
@@ -40,7 +42,8 @@ fn are_lower_case(bytes: &[u8]) -> bool
 impl PassName {
     /// The name of these letters. None exactly where they are not 1 to 16 lower-case letters.
     pub fn of(bytes: &[u8]) -> Option<PassName>
-        ensures letters { MatchOption result (IsPassName bytes.now → ⊥) (λ name. IsPassName bytes.now × (letters name ≡ bytes.now)) }
+        ensures letters { MatchOption result (IsPassName bytes.now → ⊥)
+            (λ name. IsPassName bytes.now × (letters name ≡ bytes.now)) }
         ensures whole { IfSome result (λ name. name ≡ pass_name bytes.now) }
     {
         if bytes.is_empty() || bytes.len() > PASS_NAME_SIZE {

@@ -1,4 +1,5 @@
-//! The records that the compiler leaves for the debugger, and what all of the compiler shares with it: places and variables, spots of a source, and the codes of refusals.
+//! The records that the compiler leaves for the debugger, and what all of the compiler shares with it: places and
+//! variables, spots of a source, and the codes of refusals.
 #![tactic(auto)]
 
 mod change;

@@ -35,7 +35,9 @@ impl ChangeLog {
     ) -> Result<u32, AllocError>
         requires { length (changes self.old) < 4294967295 }
         ensures number { IfOk result (λ n. n ≡ length (changes self.old) + 1) }
-        ensures appended { IfOk result (λ n. changes self.new ≡ changes self.old ++ record { number = n; pass = pass; kind = kind; place = place; var = var } ∷ []) }
+        ensures appended { IfOk result (λ n.
+            changes self.new ≡ changes self.old ++ record
+            { number = n; pass = pass; kind = kind; place = place; var = var } ∷ []) }
         ensures kept { OnErr result (changes self.new ≡ changes self.old) }
     {
         let number = self.changes.len() as u32 + 1;

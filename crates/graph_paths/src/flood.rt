@@ -265,7 +265,8 @@ fn rounds<T: Transfer>(
     Ok(())
 }
 
-/// To each block the facts that some way brings to it, where those begin that the rows of blocks tell at first, and what leaves it. It ends, since there are but so many facts;
+/// To each block the facts that some way brings to it, where those begin that the rows of blocks tell at first, and
+/// what leaves it. It ends, since there are but so many facts;
 /// the order in which blocks are visited decides how soon, and nothing else.
 pub fn settle<T: Transfer>(
     transfer: &T,
@@ -277,7 +278,8 @@ pub fn settle<T: Transfer>(
     requires tables { AreTables (T.course transfer.now) comes.old leaves.old }
     requires blocks { (T.course transfer.now).blocks ≡ map block_view blocks.now }
     requires few { length blocks.now < 2 ^ 32 }
-    ensures settled { OnOk result (AreSettled (T.course transfer.now) (bits_of comes.old) (bits_of comes.new) (bits_of leaves.new)) }
+    ensures settled { OnOk result
+        (AreSettled (T.course transfer.now) (bits_of comes.old) (bits_of comes.new) (bits_of leaves.new)) }
     ensures tables { OnOk result (AreTables (T.course transfer.now) comes.new leaves.new) }
     ensures spare_comes { OnOk result (AreSameFrom (length blocks.now) (bits_of comes.old) (bits_of comes.new)) }
     ensures spare_leaves { OnOk result (AreSameFrom (length blocks.now) (bits_of leaves.old) (bits_of leaves.new)) }

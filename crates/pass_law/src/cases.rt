@@ -9,7 +9,8 @@ ghost use Rattle.pass_law.specs.Changes.{AreInOrder};
 use debug_records::{ChangeLog, Kind, PassName, Place, Var};
 use std::alloc::AllocError;
 
-/// A case in which a pass changes something. In order cases come by their places, and those of a place as they stand in the graph.
+/// A case in which a pass changes something. In order cases come by their places, and those of a place as they stand in
+/// the graph.
 #[derive(Clone, Copy, PartialEq, Eq, PartialOrd, Ord)]
 pub struct Case {
     pub place: Place,

@@ -5,7 +5,8 @@ ghost use Rattle.places.specs.Flow.{assigns, can_go};
 
 use debug_records::{Place, Var};
 
-/// Execution may go from the one place directly to the other. Steps are in order by where they lead from, then by where they lead to.
+/// Execution may go from the one place directly to the other. Steps are in order by where they lead from, then by where
+/// they lead to.
 #[derive(Clone, Copy, PartialEq, Eq, PartialOrd, Ord)]
 pub struct FlowStep {
     pub from: Place,
@@ -37,7 +38,8 @@ impl FlowTable {
             .any(|step| step.from.0 == from.0 && step.to.0 == to.0)
     }
 
-    /// The index of the first assignment that does not come before this place and variable, if the assignments are in order.
+    /// The index of the first assignment that does not come before this place and variable, if the assignments are in
+    /// order.
     fn first_from(&self, place: Place, var: Var) -> usize {
         self.assignments.partition_point(|assignment| {
             assignment.place.0 < place.0
