@@ -16,3 +16,5 @@ pub mod Found
 pub mod Ordering
 pub mod Turns
 pub mod AlongBlocks
+pub mod Counting
+pub mod Pointed
