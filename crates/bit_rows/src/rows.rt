@@ -94,7 +94,8 @@ impl Rows {
         requires written { row < length written.now }
         requires kept_width { length (row_at kept.now row) ≡ length (row_at self.old from) }
         requires written_width { length (row_at written.now row) ≡ length (row_at self.old from) }
-        ensures { self.new ≡ slice_set self.old to (passed (row_at self.old from) (row_at kept.now row) (row_at written.now row)) }
+        ensures { self.new ≡ slice_set self.old to
+            (passed (row_at self.old from) (row_at kept.now row) (row_at written.now row)) }
     {
         let from = from as usize * self.stride;
         let to = to as usize * self.stride;

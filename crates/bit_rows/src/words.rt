@@ -21,10 +21,13 @@ pub(crate) fn meet_words(
     requires from { from + count ≤ length words.old }
     requires to { to + count ≤ length words.old }
     requires apart { from < to → from + count ≤ to }
-    ensures met { (k : ℕ) → k < count → slice_index words.new (to + k) ≡ met_word unite (slice_index words.old (from + k)) (slice_index words.old (to + k)) }
+    ensures met { (k : ℕ) → k < count
+        → slice_index words.new (to + k) ≡ met_word unite (slice_index words.old (from + k))
+        (slice_index words.old (to + k)) }
     ensures others { (j : ℕ) → (j < to) ⊎ (to + count ≤ j) → slice_index words.new j ≡ slice_index words.old j }
     ensures fit { (k : ℕ) → slice_index words.old k < 2 ^ 64 }
-    ensures changed { (result ≡ false) ↔ ((k : ℕ) → k < count → slice_index words.new (to + k) ≡ slice_index words.old (to + k)) }
+    ensures changed { (result ≡ false) ↔
+        ((k : ℕ) → k < count → slice_index words.new (to + k) ≡ slice_index words.old (to + k)) }
 {
     let mut changed = false;
     for k in 0..count {
@@ -51,7 +54,9 @@ pub(crate) fn pass_words(
     requires apart { from < to → from + count ≤ to }
     requires kept { at + count ≤ length kept.now }
     requires written { at + count ≤ length written.now }
-    ensures passed { (k : ℕ) → k < count → slice_index words.new (to + k) ≡ passed_word (slice_index words.old (from + k)) (slice_index kept.now (at + k)) (slice_index written.now (at + k)) }
+    ensures passed { (k : ℕ) → k < count
+        → slice_index words.new (to + k) ≡ passed_word (slice_index words.old (from + k))
+        (slice_index kept.now (at + k)) (slice_index written.now (at + k)) }
     ensures others { (j : ℕ) → (j < to) ⊎ (to + count ≤ j) → slice_index words.new j ≡ slice_index words.old j }
 {
     for k in 0..count {
@@ -70,7 +75,8 @@ pub(crate) fn add_words(
     requires to { to + count ≤ length words.old }
     requires at { at + count ≤ length other.now }
     ensures met { (k : ℕ) → k < count
-        → slice_index words.new (to + k) ≡ met_word true (slice_index other.now (at + k)) (slice_index words.old (to + k)) }
+        → slice_index words.new (to + k)
+        ≡ met_word true (slice_index other.now (at + k)) (slice_index words.old (to + k)) }
     ensures others { (j : ℕ) → (j < to) ⊎ (to + count ≤ j) → slice_index words.new j ≡ slice_index words.old j }
     ensures fit { (k : ℕ) → slice_index words.old k < 2 ^ 64 }
     ensures fit_other { (k : ℕ) → slice_index other.now k < 2 ^ 64 }

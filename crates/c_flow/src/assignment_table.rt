@@ -54,7 +54,9 @@ fn assignments_of(
     requires few { length positions.now + 1 < 2 ^ 32 }
     requires variables { FewVariables (program_view program.now) }
     ensures ordered { IfOk result (λ v. AllPairs IsAssignmentBefore v.items) }
-    ensures exact { IfOk result (λ v. (a : Assignment) → Contains v.items a ↔ Contains (assignments_among (program_view program.now) positions.now all.now) a) }
+    ensures exact { IfOk result (λ v.
+        (a : Assignment)
+        → Contains v.items a ↔ Contains (assignments_among (program_view program.now) positions.now all.now) a) }
 {
     let mut assignments = numbered_assignments(alloc, program, positions, all)?;
     put_in_order(&mut assignments);
@@ -69,11 +71,13 @@ pub fn assignment_table(
 ) -> Result<Vec<Assignment>, AllocError>
     requires sorted { IsNonDecreasing positions.now }
     requires few { length positions.now + 1 < 2 ^ 32 }
-    requires numbers { (at : ℕ) → place_number positions.now at ≡ number_at (places_of_program (program_view program.now)) at }
+    requires numbers { (at : ℕ) → place_number positions.now at
+        ≡ number_at (places_of_program (program_view program.now)) at }
     requires variables { FewVariables (program_view program.now) }
     requires parameters { All (λ f. f.first_variable + f.parameters < 2 ^ 32) program.now.functions.items }
     ensures ordered { IfOk result (λ v. AllPairs IsAssignmentBefore v.items) }
-    ensures exact { IfOk result (λ v. (a : Assignment) → Contains v.items a ↔ Contains (assignments_of_program (program_view program.now)) a) }
+    ensures exact { IfOk result (λ v.
+        (a : Assignment) → Contains v.items a ↔ Contains (assignments_of_program (program_view program.now)) a) }
 {
     let all = assigned_by_program(alloc, program)?;
     let assignments = assignments_of(alloc, program, positions, &all)?;

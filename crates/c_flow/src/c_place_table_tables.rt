@@ -17,7 +17,8 @@ use std::alloc::{AllocError, Global};
 fn table_of(alloc: Global, program: &Program, places: &[Place]) -> Result<PlaceTable, AllocError>
     requires variables { FewVariables (program_view program.now) }
     requires functions { All (λ p. p.function < 2 ^ 32) places.now }
-    ensures { IfOk result (λ t. map row_view t.rows.items ≡ map (row_of (program_view program.now)) (map place_view places.now)) }
+    ensures { IfOk result (λ t.
+        map row_view t.rows.items ≡ map (row_of (program_view program.now)) (map place_view places.now)) }
 {
     let classes = name_classes(alloc, &program.automatics)?;
     let by_name = classes.as_slice();

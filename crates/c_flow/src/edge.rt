@@ -7,7 +7,8 @@ pub struct Edge {
     pub to: u32,
 }
 
-/// Where execution goes from a statement, by the positions of places. There is none where the closing brace of the function would follow and is no place,
+/// Where execution goes from a statement, by the positions of places. There is none where the closing brace of the
+/// function would follow and is no place,
 /// and outside of loops by `break` and `continue`.
 #[derive(Clone, Copy)]
 pub struct Ways {

@@ -95,7 +95,8 @@ fn add_way_out(
     next: Option<u32>,
     found: &mut Vec<Edge>,
 ) -> Result<(), AllocError>
-    ensures { OnOk result (found.new.items ≡ found.old.items ++ flow_out (option_map rvalue_view condition.now) head next) }
+    ensures { OnOk result
+        (found.new.items ≡ found.old.items ++ flow_out (option_map rvalue_view condition.now) head next) }
 {
     match condition {
         None => Ok(()),
@@ -147,7 +148,9 @@ fn add_condition(
     next: Option<u32>,
     found: &mut Vec<Edge>,
 ) -> Result<(), AllocError>
-    ensures { OnOk result (found.new.items ≡ found.old.items ++ edge at (definition.start (statement_view body.now) (Some at)) ++ edge at next) }
+    ensures { OnOk result
+        (found.new.items
+        ≡ found.old.items ++ edge at (definition.start (statement_view body.now) (Some at)) ++ edge at next) }
 {
     add_edge(at, start(body, Some(at)), found)?;
     add_edge(at, next, found)

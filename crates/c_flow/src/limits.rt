@@ -19,7 +19,8 @@ fn has_few_parameters(function: &TypedFunction) -> bool
 
 /// Whether the parameters of functions fit.
 fn parameters_fit(functions: &[TypedFunction]) -> bool
-    ensures { IsTrue result ↔ AllByRecursion (λ f. f.first_variable + f.parameters < 2 ^ 32) (map function_view functions.now) }
+    ensures { IsTrue result ↔ AllByRecursion (λ f. f.first_variable + f.parameters < 2 ^ 32)
+        (map function_view functions.now) }
 {
     let mut left = functions;
     while let [first, rest @ ..] = left {

@@ -45,7 +45,8 @@ fn steps_of(alloc: Global, positions: &[u32], edges: &[Edge]) -> Result<Vec<Flow
     requires sorted { IsNonDecreasing positions.now }
     requires few { length positions.now + 1 < 2 ^ 32 }
     ensures ordered { IfOk result (λ v. AreInOrder v.items) }
-    ensures exact { IfOk result (λ v. (s : FlowStep) → Contains v.items s ↔ Contains (map (step_between positions.now) edges.now) s) }
+    ensures exact { IfOk result
+        (λ v. (s : FlowStep) → Contains v.items s ↔ Contains (map (step_between positions.now) edges.now) s) }
 {
     let mut steps = numbered_steps(alloc, positions, edges)?;
     put_in_order(&mut steps);
@@ -60,9 +61,11 @@ pub fn step_table(
 ) -> Result<Vec<FlowStep>, AllocError>
     requires sorted { IsNonDecreasing positions.now }
     requires few { length positions.now + 1 < 2 ^ 32 }
-    requires numbers { (at : ℕ) → place_number positions.now at ≡ number_at (places_of_program (program_view program.now)) at }
+    requires numbers { (at : ℕ) → place_number positions.now at
+        ≡ number_at (places_of_program (program_view program.now)) at }
     ensures ordered { IfOk result (λ v. AreInOrder v.items) }
-    ensures exact { IfOk result (λ v. (s : FlowStep) → Contains v.items s ↔ Contains (steps_of_program (program_view program.now)) s) }
+    ensures exact { IfOk result (λ v.
+        (s : FlowStep) → Contains v.items s ↔ Contains (steps_of_program (program_view program.now)) s) }
 {
     let edges = flow_of_program(alloc, program)?;
     let steps = steps_of(alloc, positions, &edges)?;

@@ -24,9 +24,12 @@ fn flow_among(alloc: Global, program: &Program, places: &[Place]) -> Result<Flow
     requires fits { Fits32 (program_view program.now) }
     requires places { map place_view places.now ≡ places_of_program (program_view program.now) }
     ensures steps_in_order { IfOk result (λ t. AreInOrder t.steps.items) }
-    ensures steps { IfOk result (λ t. (s : FlowStep) → Contains t.steps.items s ↔ Contains (steps_of_program (program_view program.now)) s) }
+    ensures steps { IfOk result (λ t.
+        (s : FlowStep) → Contains t.steps.items s ↔ Contains (steps_of_program (program_view program.now)) s) }
     ensures assignments_in_order { IfOk result (λ t. AllPairs IsAssignmentBefore t.assignments.items) }
-    ensures assignments { IfOk result (λ t. (a : Assignment) → Contains t.assignments.items a ↔ Contains (assignments_of_program (program_view program.now)) a) }
+    ensures assignments { IfOk result (λ t.
+        (a : Assignment)
+        → Contains t.assignments.items a ↔ Contains (assignments_of_program (program_view program.now)) a) }
 {
     let positions = positions_of(alloc, places)?;
     let steps = step_table(alloc, program, &positions)?;
@@ -38,9 +41,12 @@ fn flow_among(alloc: Global, program: &Program, places: &[Place]) -> Result<Flow
 pub fn flow_table(alloc: Global, program: &Program) -> Result<FlowTable, AllocError>
     requires { Fits32 (program_view program.now) }
     ensures steps_in_order { IfOk result (λ t. AreInOrder t.steps.items) }
-    ensures steps { IfOk result (λ t. (s : FlowStep) → Contains t.steps.items s ↔ Contains (steps_of_program (program_view program.now)) s) }
+    ensures steps { IfOk result (λ t.
+        (s : FlowStep) → Contains t.steps.items s ↔ Contains (steps_of_program (program_view program.now)) s) }
     ensures assignments_in_order { IfOk result (λ t. AllPairs IsAssignmentBefore t.assignments.items) }
-    ensures assignments { IfOk result (λ t. (a : Assignment) → Contains t.assignments.items a ↔ Contains (assignments_of_program (program_view program.now)) a) }
+    ensures assignments { IfOk result (λ t.
+        (a : Assignment)
+        → Contains t.assignments.items a ↔ Contains (assignments_of_program (program_view program.now)) a) }
 {
     let places = places_of_program(alloc, program)?;
     let table = flow_among(alloc, program, &places)?;

@@ -20,7 +20,8 @@ fn name_at(automatics: &[AutomaticVariable], variable: usize) -> &[u8]
 
 /// Whether two variables have one name.
 fn have_one_name(automatics: &[AutomaticVariable], one: usize, other: usize) -> bool
-    ensures { result ≡ is_same_name (name_of (map automatic_view automatics.now) one) (name_of (map automatic_view automatics.now) other) }
+    ensures { result ≡ is_same_name (name_of (map automatic_view automatics.now) one)
+        (name_of (map automatic_view automatics.now) other) }
 {
     name_at(automatics, one) == name_at(automatics, other)
 }

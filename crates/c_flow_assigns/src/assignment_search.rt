@@ -40,7 +40,8 @@ fn is_same_object(one: Object, other: Object) -> bool
 
 /// Whether the assignment of an object at a position is the one.
 fn is_wanted(wanted: &Wanted<'_>, at: u32, object: Object) -> bool
-    ensures { result ≡ is_wanted (program_view wanted.now.program.now) wanted.now.number wanted.now.object (assigns_object at object) }
+    ensures { result ≡ is_wanted (program_view wanted.now.program.now) wanted.now.number wanted.now.object
+        (assigns_object at object) }
 {
     is_same_object(wanted.object, object) && after_places(at, wanted.program, wanted.number) == 1
 }
@@ -72,7 +73,8 @@ fn is_within(wanted: &Wanted<'_>, at: u32, target: &Lvalue) -> bool
 /// Whether a target is the one, or it is within what designates the target.
 #[cycle(expressions)]
 fn is_in_target(wanted: &Wanted<'_>, at: u32, target: &Lvalue) -> bool
-    ensures { result ≡ has_wanted wanted.now (named at (lvalue_view target.now) ++ assigned_within at (lvalue_view target.now)) }
+    ensures { result ≡ has_wanted wanted.now
+        (named at (lvalue_view target.now) ++ assigned_within at (lvalue_view target.now)) }
 {
     is_named(wanted, at, target) || is_within(wanted, at, target)
 }
@@ -297,7 +299,8 @@ fn is_in_statements(wanted: &Wanted<'_>, all: &TypedStatements) -> bool
 
 /// Whether an automatic variable is a parameter of a function.
 fn has_parameter(function: &TypedFunction, variable: u32) -> bool
-    ensures { IsTrue result ↔ (function.now.first_variable ≤ variable) × (variable < function.now.first_variable + function.now.parameters) }
+    ensures { IsTrue result ↔ (function.now.first_variable ≤ variable)
+        × (variable < function.now.first_variable + function.now.parameters) }
 {
     function.first_variable <= variable && variable - function.first_variable < function.parameters
 }
@@ -352,10 +355,12 @@ fn object_of(program: &Program, var: Var) -> Option<Object>
     None
 }
 
-/// Whether a place of a program, numbered from 1 in text order, assigns a variable. It takes no memory; for each assignment of the variable that it meets
+/// Whether a place of a program, numbered from 1 in text order, assigns a variable. It takes no memory; for each
+/// assignment of the variable that it meets
 /// before it finds the one, it counts the places of the program anew.
 pub fn assigns(program: &Program, place: Place, var: Var) -> bool
-    ensures { IsTrue result ↔ Contains (assignments_of_program (program_view program.now)) (record { place = place; var = var }) }
+    ensures { IsTrue result ↔ Contains (assignments_of_program (program_view program.now))
+        (record { place = place; var = var }) }
 {
     match object_of(program, var) {
         None => false,

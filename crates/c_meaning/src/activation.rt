@@ -91,7 +91,8 @@ impl<'a> Activation<'a> {
 
     /// The visible variables at the place at a position, with their values.
     fn shown_at(&self, alloc: Global, at: u32, memory: &[Object]) -> Result<Vec<Shown>, AllocError>
-        ensures { IfOk result (λ v. map shown_view v.items ≡ shown_at (activation_view self.now) at (map object_view memory.now)) }
+        ensures { IfOk result (λ v.
+            map shown_view v.items ≡ shown_at (activation_view self.now) at (map object_view memory.now)) }
     {
         let depth = self.depth();
         let variables = visible(alloc, &self.program.automatics, scope_at(self.places, at))?;
@@ -146,7 +147,8 @@ impl<'a> Activation<'a> {
         memory: &[Object],
         seen: &Seen,
     ) -> Result<Option<Stop>, AllocError>
-        ensures { IfOk result (λ o. IfSome o (λ s. stop_view s ≡ stop_at (activation_view self.now) at (map object_view memory.now))) }
+        ensures { IfOk result (λ o.
+            IfSome o (λ s. stop_view s ≡ stop_at (activation_view self.now) at (map object_view memory.now))) }
     {
         if seen.keeps_all() {
             Ok(Some(self.stop(alloc, at, memory)?))
@@ -157,7 +159,8 @@ impl<'a> Activation<'a> {
 
     /// A place is begun, where a turn is left.
     pub fn begin(&self, alloc: Global, spot: Spot, state: &mut State) -> Result<bool, AllocError>
-        ensures { IfOk result (λ b. begun_view b (state_view state.new) ≡ begin (activation_view self.now) spot (state_view state.old)) }
+        ensures { IfOk result (λ b.
+            begun_view b (state_view state.new) ≡ begin (activation_view self.now) spot (state_view state.old)) }
     {
         if state.turns == 0 {
             return Ok(false);

@@ -19,7 +19,8 @@ use std::alloc::{AllocError, Global};
 
 /// The function of a number.
 pub fn function_at(program: &Program, function: u32) -> Option<&TypedFunction>
-    ensures { MatchOption result (slice_get (program_view program.now).functions function ≡ None) (λ f. slice_get (program_view program.now).functions function ≡ Some (function_view f.now)) }
+    ensures { MatchOption result (slice_get (program_view program.now).functions function ≡ None) (λ f.
+        slice_get (program_view program.now).functions function ≡ Some (function_view f.now)) }
 {
     program.functions.get(function as usize)
 }
@@ -62,7 +63,9 @@ pub fn at_close(
     outcome: Outcome,
     state: &mut State,
 ) -> Result<Outcome, AllocError>
-    ensures { IfOk result (λ o. outcome_view o (state_view state.new) ≡ at_close (activation_view here.now) close (outcome_view outcome (state_view state.old))) }
+    ensures { IfOk result (λ o.
+        outcome_view o (state_view state.new) ≡ at_close (activation_view here.now) close
+        (outcome_view outcome (state_view state.old))) }
 {
     match outcome {
         Outcome::Next => {
@@ -84,7 +87,11 @@ pub fn bind(
     values: &[Value],
     state: &mut State,
 ) -> Result<(), AllocError>
-    ensures { OnOk result (state_view state.new ≡ record (state_view state.old) { memory = bind (activation_view here.now) (parameters_of (function_view function.now)) values.now (state_view state.old).memory }) }
+    ensures { OnOk result
+        (state_view state.new ≡ record (state_view state.old) {
+          memory = bind (activation_view here.now)
+              (parameters_of (function_view function.now)) values.now (state_view state.old).memory;
+        }) }
 {
     bind_from(
         alloc,
@@ -106,7 +113,11 @@ fn bind_from(
     state: &mut State,
 ) -> Result<(), AllocError>
     requires { variable + count < 2 ^ 34 }
-    ensures { OnOk result (state_view state.new ≡ record (state_view state.old) { memory = bind (activation_view here.now) (numbers_from variable count) values.now (state_view state.old).memory }) }
+    ensures { OnOk result
+        (state_view state.new ≡ record (state_view state.old) {
+          memory = bind (activation_view here.now)
+              (numbers_from variable count) values.now (state_view state.old).memory;
+        }) }
 {
     if count == 0 {
         return Ok(());
@@ -128,7 +139,9 @@ fn bind_one(
     value: Value,
     state: &mut State,
 ) -> Result<(), AllocError>
-    ensures { OnOk result (state_view state.new ≡ record (state_view state.old) { memory = bind_one (activation_view here.now) variable value (state_view state.old).memory }) }
+    ensures { OnOk result
+        (state_view state.new ≡ record (state_view state.old)
+        { memory = bind_one (activation_view here.now) variable value (state_view state.old).memory }) }
 {
     let depth = here.depth();
     match variable_at(here.program, variable) {

@@ -18,14 +18,16 @@ use std::alloc::{AllocError, Global};
 
 /// The automatic variable of a number.
 pub fn variable_at(program: &Program, variable: usize) -> Option<&AutomaticVariable>
-    ensures { MatchOption result (slice_get (program_view program.now).automatics variable ≡ None) (λ a. slice_get (program_view program.now).automatics variable ≡ Some (automatic_view a.now)) }
+    ensures { MatchOption result (slice_get (program_view program.now).automatics variable ≡ None) (λ a.
+        slice_get (program_view program.now).automatics variable ≡ Some (automatic_view a.now)) }
 {
     program.automatics.get(variable)
 }
 
 /// The literal of a number.
 fn literal_at(literals: &[StringLiteral], number: u32) -> Option<&StringLiteral>
-    ensures { MatchOption result (slice_get (map literal_view literals.now) number ≡ None) (λ l. slice_get (map literal_view literals.now) number ≡ Some (literal_view l.now)) }
+    ensures { MatchOption result (slice_get (map literal_view literals.now) number ≡ None) (λ l.
+        slice_get (map literal_view literals.now) number ≡ Some (literal_view l.now)) }
 {
     literals.get(number as usize)
 }
@@ -72,7 +74,8 @@ pub fn close(first: usize, outcome: Outcome, state: &mut State)
 
 /// An activation is left.
 pub fn forget(first: usize, value: Evaluated, state: &mut State)
-    ensures { evaluated_view value (state_view state.new) ≡ forgotten first (evaluated_view value (state_view state.old)) }
+    ensures { evaluated_view value (state_view state.new)
+        ≡ forgotten first (evaluated_view value (state_view state.old)) }
 {
     match value {
         Evaluated::Gives(_) | Evaluated::Leaves => end_objects(first, state),
@@ -82,7 +85,8 @@ pub fn forget(first: usize, value: Evaluated, state: &mut State)
 
 /// A scalar gets its first value, and can be read from now on.
 pub fn initialise(object: usize, value: Value, state: &mut State)
-    ensures { state_view state.new ≡ record (state_view state.old) { memory = begun (set_value (state_view state.old).memory object 0 value) object } }
+    ensures { state_view state.new ≡ record (state_view state.old)
+        { memory = begun (set_value (state_view state.old).memory object 0 value) object } }
 {
     state.memory.set_value(object, 0, value);
     state.memory.begin(object);
@@ -90,7 +94,8 @@ pub fn initialise(object: usize, value: Value, state: &mut State)
 
 /// An element gets its first value.
 pub fn store_element(object: usize, index: usize, value: Value, state: &mut State)
-    ensures { state_view state.new ≡ record (state_view state.old) { memory = set_value (state_view state.old).memory object index value } }
+    ensures { state_view state.new ≡ record (state_view state.old)
+        { memory = set_value (state_view state.old).memory object index value } }
 {
     state.memory.set_value(object, index, value);
 }
@@ -117,7 +122,8 @@ fn literal_bytes(literals: &[StringLiteral], of: IntegerType, number: u32) -> &[
 
 /// Elements of a type get the values of bytes, from the first on.
 fn set_bytes(object: usize, of: IntegerType, bytes: &[u8], memory: &mut Objects)
-    ensures { map object_view memory.new.all.items ≡ set_values (map object_view memory.old.all.items) object 0 (map (element_value of) bytes.now) }
+    ensures { map object_view memory.new.all.items ≡ set_values (map object_view memory.old.all.items) object 0
+        (map (element_value of) bytes.now) }
 {
     for index in 0..bytes.len() {
         memory.set_value(
@@ -136,7 +142,10 @@ pub fn initialise_by_literal(
     object: usize,
     state: &mut State,
 )
-    ensures { state_view state.new ≡ record (state_view state.old) { memory = set_values (state_view state.old).memory object 0 (literal_values (map literal_view literals.now) of number) } }
+    ensures { state_view state.new ≡ record (state_view state.old) {
+      memory = set_values (state_view state.old).memory object 0
+          (literal_values (map literal_view literals.now) of number);
+    } }
 {
     set_bytes(
         object,

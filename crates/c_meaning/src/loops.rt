@@ -19,7 +19,8 @@ pub enum Round {
 
 /// How a loop goes on behind its body.
 pub fn behind_body(outcome: Outcome) -> Round
-    ensures { (again : states.State → states.Outcome) (s : states.State) → round_view result again s ≡ after_body (outcome_view outcome s) again }
+    ensures { (again : states.State → states.Outcome) (s : states.State)
+        → round_view result again s ≡ after_body (outcome_view outcome s) again }
 {
     match outcome {
         Outcome::Next | Outcome::Continued => Round::Again,
@@ -31,7 +32,8 @@ pub fn behind_body(outcome: Outcome) -> Round
 
 /// How a loop goes on behind its step.
 pub fn behind_step(outcome: Outcome) -> Round
-    ensures { (again : states.State → states.Outcome) (s : states.State) → round_view result again s ≡ then_do (outcome_view outcome s) again }
+    ensures { (again : states.State → states.Outcome) (s : states.State)
+        → round_view result again s ≡ then_do (outcome_view outcome s) again }
 {
     match outcome {
         Outcome::Next => Round::Again,

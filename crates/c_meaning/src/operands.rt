@@ -15,7 +15,8 @@ use c_tree::Rvalue;
 
 /// What an expression gives whose object was found.
 pub fn of_object(e: &Rvalue, found: Evaluated, state: &State) -> Evaluated
-    ensures { evaluated_view result (state_view state.now) ≡ on_object (rvalue_view e.now) (evaluated_view found (state_view state.now)) }
+    ensures { evaluated_view result (state_view state.now) ≡ on_object (rvalue_view e.now)
+        (evaluated_view found (state_view state.now)) }
 {
     match e {
         Rvalue::Load { .. } => load_from(found, state),
@@ -26,7 +27,8 @@ pub fn of_object(e: &Rvalue, found: Evaluated, state: &State) -> Evaluated
 
 /// What an expression of one operand gives.
 pub fn of_operand(e: &Rvalue, operand: Evaluated, state: &State) -> Evaluated
-    ensures { evaluated_view result (state_view state.now) ≡ on_operand (rvalue_view e.now) (evaluated_view operand (state_view state.now)) }
+    ensures { evaluated_view result (state_view state.now) ≡ on_operand (rvalue_view e.now)
+        (evaluated_view operand (state_view state.now)) }
 {
     match e {
         Rvalue::Convert { to, .. } => convert_from(*to, operand),
@@ -42,7 +44,8 @@ pub fn of_operand(e: &Rvalue, operand: Evaluated, state: &State) -> Evaluated
 
 /// What an expression of two operands gives.
 pub fn of_operands(e: &Rvalue, operands: Operands, state: &mut State) -> Evaluated
-    ensures { evaluated_view result (state_view state.new) ≡ on_operands (rvalue_view e.now) (both_view operands (state_view state.old)) }
+    ensures { evaluated_view result (state_view state.new) ≡ on_operands (rvalue_view e.now)
+        (both_view operands (state_view state.old)) }
 {
     match e {
         Rvalue::Arithmetic {
@@ -93,7 +96,8 @@ pub fn of_right_side(
     right: Evaluated,
     state: &mut State,
 ) -> Evaluated
-    ensures { evaluated_view result (state_view state.new) ≡ on_right_side (rvalue_view e.now) pointer old (evaluated_view right (state_view state.old)) }
+    ensures { evaluated_view result (state_view state.new) ≡ on_right_side (rvalue_view e.now) pointer old
+        (evaluated_view right (state_view state.old)) }
 {
     match e {
         Rvalue::Update {

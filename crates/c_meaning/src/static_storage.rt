@@ -92,7 +92,9 @@ fn first_values(
     program: &Program,
     variable: &StaticVariable,
 ) -> Result<Vec<Value>, AllocError>
-    ensures { IfOk result (λ v. v.items ≡ first_values (program_view program.now) (static_view variable.now) (element_of variable.now.of) (numbers_from 0 (count_of variable.now.of))) }
+    ensures { IfOk result (λ v.
+        v.items ≡ first_values (program_view program.now) (static_view variable.now) (element_of variable.now.of)
+        (numbers_from 0 (count_of variable.now.of))) }
 {
     let element = element_of(variable.of);
     let size = scalar_size(element) as usize;
@@ -111,7 +113,8 @@ fn static_object(
     number: usize,
     variable: &StaticVariable,
 ) -> Result<Object, AllocError>
-    ensures { IfOk result (λ o. object_view o ≡ static_object (program_view program.now) number (static_view variable.now)) }
+    ensures { IfOk result
+        (λ o. object_view o ≡ static_object (program_view program.now) number (static_view variable.now)) }
 {
     Ok(Object {
         owner: Owner::Static(number),
@@ -152,7 +155,9 @@ fn literal_object(
 
 /// The static objects come first.
 fn add_statics(alloc: Global, program: &Program, memory: &mut Objects) -> Result<(), AllocError>
-    ensures { OnOk result (map object_view memory.new.all.items ≡ map object_view memory.old.all.items ++ static_objects (program_view program.now) 0 (map static_view program.now.statics.items)) }
+    ensures { OnOk result
+        (map object_view memory.new.all.items ≡ map object_view memory.old.all.items
+        ++ static_objects (program_view program.now) 0 (map static_view program.now.statics.items)) }
 {
     for (number, variable) in program.statics.iter().enumerate() {
         memory.push(static_object(alloc, program, number, variable)?)?;
@@ -166,7 +171,9 @@ fn add_literals(
     literals: &[StringLiteral],
     memory: &mut Objects,
 ) -> Result<(), AllocError>
-    ensures { OnOk result (map object_view memory.new.all.items ≡ map object_view memory.old.all.items ++ literal_objects 0 (map literal_view literals.now)) }
+    ensures { OnOk result
+        (map object_view memory.new.all.items
+        ≡ map object_view memory.old.all.items ++ literal_objects 0 (map literal_view literals.now)) }
 {
     for (number, literal) in literals.iter().enumerate() {
         memory.push(literal_object(alloc, number, literal)?)?;

@@ -25,8 +25,11 @@ fn has_case(number: i64, all: &TypedStatements) -> bool
 
 /// The statements from the label of a number on; none where there is none.
 fn from_case(number: i64, all: &TypedStatements) -> &TypedStatements
-    ensures same { (calls : ℕ → Calls) (here : Activation) (s : states.State) → execute_all calls here (statements_view result.now) s ≡ execute_case calls here number (statements_view all.now) s }
-    ensures lighter { weight_of_statements (statements_view result.now) ≤ weight_of_statements (statements_view all.now) }
+    ensures same { (calls : ℕ → Calls) (here : Activation) (s : states.State)
+        → execute_all calls here (statements_view result.now) s ≡ execute_case calls here number
+        (statements_view all.now) s }
+    ensures lighter { weight_of_statements (statements_view result.now)
+        ≤ weight_of_statements (statements_view all.now) }
 {
     match all {
         TypedStatements::End => all,
@@ -43,8 +46,11 @@ fn from_case(number: i64, all: &TypedStatements) -> &TypedStatements
 
 /// The statements from `default` on; none where there is none.
 fn from_default(all: &TypedStatements) -> &TypedStatements
-    ensures same { (calls : ℕ → Calls) (here : Activation) (s : states.State) → execute_all calls here (statements_view result.now) s ≡ execute_default calls here (statements_view all.now) s }
-    ensures lighter { weight_of_statements (statements_view result.now) ≤ weight_of_statements (statements_view all.now) }
+    ensures same { (calls : ℕ → Calls) (here : Activation) (s : states.State)
+        → execute_all calls here (statements_view result.now) s
+        ≡ execute_default calls here (statements_view all.now) s }
+    ensures lighter { weight_of_statements (statements_view result.now)
+        ≤ weight_of_statements (statements_view all.now) }
 {
     match all {
         TypedStatements::End => all,
@@ -55,8 +61,12 @@ fn from_default(all: &TypedStatements) -> &TypedStatements
 
 /// The statements of a `switch` with which control goes on, for a number.
 pub fn labelled(number: i64, all: &TypedStatements) -> &TypedStatements
-    ensures same { (calls : ℕ → Calls) (here : Activation) (s : states.State) → execute_all calls here (statements_view result.now) s ≡ by_label (has_case number (statements_view all.now)) (execute_case calls here number (statements_view all.now)) (execute_default calls here (statements_view all.now)) s }
-    ensures lighter { weight_of_statements (statements_view result.now) ≤ weight_of_statements (statements_view all.now) }
+    ensures same { (calls : ℕ → Calls) (here : Activation) (s : states.State)
+        → execute_all calls here (statements_view result.now) s ≡ by_label (has_case number (statements_view all.now))
+        (execute_case calls here number (statements_view all.now))
+        (execute_default calls here (statements_view all.now)) s }
+    ensures lighter { weight_of_statements (statements_view result.now)
+        ≤ weight_of_statements (statements_view all.now) }
 {
     if has_case(number, all) {
         from_case(number, all)

@@ -51,7 +51,9 @@ pub fn evaluate(
     e: &Rvalue,
     state: &mut State,
 ) -> Result<Evaluated, AllocError>
-    ensures { IfOk result (λ v. evaluated_view v (state_view state.new) ≡ evaluates here.now place (rvalue_view e.now) (state_view state.old)) }
+    ensures { IfOk result (λ v.
+        evaluated_view v (state_view state.new) ≡ evaluates here.now place (rvalue_view e.now)
+        (state_view state.old)) }
 {
     match e {
         Rvalue::Constant { value, .. } => Ok(Evaluated::Gives(Value::Number(*value))),
@@ -164,7 +166,9 @@ fn evaluate_test(
     e: &Rvalue,
     state: &mut State,
 ) -> Result<Tested, AllocError>
-    ensures { IfOk result (λ t. tested_view t (state_view state.new) ≡ tested (evaluates here.now place (rvalue_view e.now) (state_view state.old))) }
+    ensures { IfOk result (λ t.
+        tested_view t (state_view state.new) ≡ tested
+        (evaluates here.now place (rvalue_view e.now) (state_view state.old))) }
 {
     let value = done!(evaluate(alloc, here, place, e, state));
     Ok(tested(value, state))
@@ -180,7 +184,10 @@ fn evaluate_both(
     right: &Rvalue,
     state: &mut State,
 ) -> Result<Operands, AllocError>
-    ensures { IfOk result (λ b. both_view b (state_view state.new) ≡ both (evaluates here.now place (rvalue_view left.now) (state_view state.old)) (evaluates here.now place (rvalue_view right.now))) }
+    ensures { IfOk result (λ b.
+        both_view b (state_view state.new) ≡ both
+        (evaluates here.now place (rvalue_view left.now) (state_view state.old))
+        (evaluates here.now place (rvalue_view right.now))) }
 {
     match done!(evaluate(alloc, here, place, left, state)) {
         Evaluated::Gives(value) => {
@@ -202,7 +209,10 @@ fn designate_and_evaluate(
     right: &Rvalue,
     state: &mut State,
 ) -> Result<Operands, AllocError>
-    ensures { IfOk result (λ b. both_view b (state_view state.new) ≡ both (designates here.now place (lvalue_view target.now) (state_view state.old)) (evaluates here.now place (rvalue_view right.now))) }
+    ensures { IfOk result (λ b.
+        both_view b (state_view state.new) ≡ both
+        (designates here.now place (lvalue_view target.now) (state_view state.old))
+        (evaluates here.now place (rvalue_view right.now))) }
 {
     match done!(designate(alloc, here, place, target, state)) {
         Evaluated::Gives(value) => {
@@ -223,7 +233,9 @@ fn locate(
     target: &Lvalue,
     state: &mut State,
 ) -> Result<Operands, AllocError>
-    ensures { IfOk result (λ b. both_view b (state_view state.new) ≡ located (designates here.now place (lvalue_view target.now) (state_view state.old))) }
+    ensures { IfOk result (λ b.
+        both_view b (state_view state.new) ≡ located
+        (designates here.now place (lvalue_view target.now) (state_view state.old))) }
 {
     let found = done!(designate(alloc, here, place, target, state));
     Ok(located(found, state))
@@ -238,7 +250,9 @@ fn designate(
     l: &Lvalue,
     state: &mut State,
 ) -> Result<Evaluated, AllocError>
-    ensures { IfOk result (λ v. evaluated_view v (state_view state.new) ≡ designates here.now place (lvalue_view l.now) (state_view state.old)) }
+    ensures { IfOk result (λ v.
+        evaluated_view v (state_view state.new) ≡ designates here.now place (lvalue_view l.now)
+        (state_view state.old)) }
 {
     match l {
         Lvalue::Named { object, .. } => {
@@ -270,7 +284,9 @@ fn evaluate_all(
     values: &mut Vec<Value>,
     state: &mut State,
 ) -> Result<Option<End>, AllocError>
-    ensures { IfOk result (λ r. listed_view r values.new.items (state_view state.new) ≡ behind values.old.items (evaluates_all here.now place (arguments_view arguments.now) (state_view state.old))) }
+    ensures { IfOk result (λ r.
+        listed_view r values.new.items (state_view state.new) ≡ behind values.old.items
+        (evaluates_all here.now place (arguments_view arguments.now) (state_view state.old))) }
 {
     match arguments {
         Arguments::End => Ok(None),
@@ -305,7 +321,9 @@ fn call_callee(
     values: &[Value],
     state: &mut State,
 ) -> Result<Evaluated, AllocError>
-    ensures { IfOk result (λ v. evaluated_view v (state_view state.new) ≡ call (calls_at (activation_view here.now) here.now.left place) callee values.now (state_view state.old)) }
+    ensures { IfOk result (λ v.
+        evaluated_view v (state_view state.new) ≡ call (calls_at (activation_view here.now) here.now.left place)
+        callee values.now (state_view state.old)) }
 {
     match callee {
         Callee::Function(function) => {
@@ -348,7 +366,9 @@ pub fn call_function(
     values: &[Value],
     state: &mut State,
 ) -> Result<Evaluated, AllocError>
-    ensures { IfOk result (λ v. evaluated_view v (state_view state.new) ≡ calls_of (program_view program.now) (map place_view places.now) left waiting.now function values.now (state_view state.old)) }
+    ensures { IfOk result (λ v.
+        evaluated_view v (state_view state.new) ≡ calls_of (program_view program.now) (map place_view places.now)
+        left waiting.now function values.now (state_view state.old)) }
 {
     if left == 0 {
         return Ok(Evaluated::Ends(End::Depth));
@@ -372,7 +392,10 @@ fn activate(
     values: &[Value],
     state: &mut State,
 ) -> Result<Evaluated, AllocError>
-    ensures { IfOk result (λ v. evaluated_view v (state_view state.new) ≡ activate (calls_at (activation_view here.now) here.now.left) (activation_view here.now) (slice_get (program_view here.now.program.now).functions here.now.function) values.now (state_view state.old)) }
+    ensures { IfOk result (λ v.
+        evaluated_view v (state_view state.new) ≡ activate (calls_at (activation_view here.now) here.now.left)
+        (activation_view here.now) (slice_get (program_view here.now.program.now).functions here.now.function)
+        values.now (state_view state.old)) }
 {
     match function_at(here.program, here.function) {
         None => Ok(UNTYPED),

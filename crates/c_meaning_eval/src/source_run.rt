@@ -89,7 +89,8 @@ fn run_to_end(
     seen: Seen,
 ) -> Result<Ended, AllocError>
     requires { seen.log.events ≡ [] }
-    ensures { IfOk result (λ e. with_ending (end_view e.end) e.seen.log.events ≡ source_run (program_view program.now) input.now turns) }
+    ensures { IfOk result (λ e.
+        with_ending (end_view e.end) e.seen.log.events ≡ source_run (program_view program.now) input.now turns) }
 {
     let places = places_of_program(alloc, program)?;
     let memory = first_memory(alloc, program)?;
@@ -117,7 +118,8 @@ fn run_to_end(
     })
 }
 
-/// The run of a program on an input, of at most so many turns: each entry of a function and each place that is begun is one.
+/// The run of a program on an input, of at most so many turns: each entry of a function and each place that is begun is
+/// one.
 ///
 /// # Errors
 ///
@@ -139,7 +141,8 @@ pub fn eval(
     Ok(whole)
 }
 
-/// The run of a program on an input in short, of at most so many turns. It takes memory for the objects of the program alone.
+/// The run of a program on an input in short, of at most so many turns. It takes memory for the objects of the program
+/// alone.
 ///
 /// # Errors
 ///
@@ -151,8 +154,10 @@ pub fn eval_in_short(
     turns: u64,
 ) -> Result<RunInShort, AllocError>
     ensures ending { IfOk result (λ r. end_view r.end ≡ (source_run (program_view program.now) input.now turns).ending) }
-    ensures stops { IfOk result (λ r. r.stops ≡ counted (stops_in (source_run (program_view program.now) input.now turns).events)) }
-    ensures bytes { IfOk result (λ r. r.bytes ≡ counted (bytes_in (source_run (program_view program.now) input.now turns).events)) }
+    ensures stops { IfOk result
+        (λ r. r.stops ≡ counted (stops_in (source_run (program_view program.now) input.now turns).events)) }
+    ensures bytes { IfOk result
+        (λ r. r.bytes ≡ counted (bytes_in (source_run (program_view program.now) input.now turns).events)) }
     ensures last { IfOk result (λ r. r.last ≡ last_stop (source_run (program_view program.now) input.now turns).events) }
 {
     let ended = run_to_end(alloc, program, input, turns, Seen::in_short())?;

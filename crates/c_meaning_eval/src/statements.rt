@@ -44,7 +44,9 @@ fn value_at(
     e: &Rvalue,
     state: &mut State,
 ) -> Result<Evaluated, AllocError>
-    ensures { IfOk result (λ v. evaluated_view v (state_view state.new) ≡ values_at here.now spot (rvalue_view e.now) (state_view state.old)) }
+    ensures { IfOk result (λ v.
+        evaluated_view v (state_view state.new)
+        ≡ values_at here.now spot (rvalue_view e.now) (state_view state.old)) }
 {
     evaluate(alloc, here, number_at(here.places, spot.at), e, state)
 }
@@ -58,7 +60,8 @@ fn test_at(
     e: &Rvalue,
     state: &mut State,
 ) -> Result<Tested, AllocError>
-    ensures { IfOk result (λ t. tested_view t (state_view state.new) ≡ tests_at here.now spot (rvalue_view e.now) (state_view state.old)) }
+    ensures { IfOk result (λ t.
+        tested_view t (state_view state.new) ≡ tests_at here.now spot (rvalue_view e.now) (state_view state.old)) }
 {
     let value = done!(value_at(alloc, here, spot, e, state));
     Ok(tested(value, state))
@@ -73,7 +76,9 @@ fn check(
     condition: &Option<Rvalue>,
     state: &mut State,
 ) -> Result<Tested, AllocError>
-    ensures { IfOk result (λ t. tested_view t (state_view state.new) ≡ checks here.now spot (option_map rvalue_view condition.now) (state_view state.old)) }
+    ensures { IfOk result (λ t.
+        tested_view t (state_view state.new) ≡ checks here.now spot (option_map rvalue_view condition.now)
+        (state_view state.old)) }
 {
     match condition {
         None => Ok(Tested::Holds),
@@ -90,7 +95,8 @@ fn run(
     e: &Rvalue,
     state: &mut State,
 ) -> Result<Outcome, AllocError>
-    ensures { IfOk result (λ o. outcome_view o (state_view state.new) ≡ runs here.now spot (rvalue_view e.now) (state_view state.old)) }
+    ensures { IfOk result (λ o.
+        outcome_view o (state_view state.new) ≡ runs here.now spot (rvalue_view e.now) (state_view state.old)) }
 {
     if !done!(here.begin(alloc, spot, state)) {
         return Ok(Outcome::Ended(End::Turns));
@@ -107,7 +113,9 @@ fn run_step(
     part: &Option<TypedStep>,
     state: &mut State,
 ) -> Result<Outcome, AllocError>
-    ensures { IfOk result (λ o. outcome_view o (state_view state.new) ≡ steps here.now (option_map step_view part.now) (state_view state.old)) }
+    ensures { IfOk result (λ o.
+        outcome_view o (state_view state.new) ≡ steps here.now (option_map step_view part.now)
+        (state_view state.old)) }
 {
     match part {
         None => Ok(Outcome::Next),
@@ -123,7 +131,8 @@ fn begin_loop(
     start: &TypedStart,
     state: &mut State,
 ) -> Result<Outcome, AllocError>
-    ensures { IfOk result (λ o. outcome_view o (state_view state.new) ≡ begins here.now (start_view start.now) (state_view state.old)) }
+    ensures { IfOk result (λ o.
+        outcome_view o (state_view state.new) ≡ begins here.now (start_view start.now) (state_view state.old)) }
 {
     match start {
         TypedStart::Nothing => Ok(Outcome::Next),
@@ -140,7 +149,9 @@ fn declare_all(
     all: &[Declared],
     state: &mut State,
 ) -> Result<Outcome, AllocError>
-    ensures { IfOk result (λ o. outcome_view o (state_view state.new) ≡ declares_all here.now (map declared_view all.now) (state_view state.old)) }
+    ensures { IfOk result (λ o.
+        outcome_view o (state_view state.new) ≡ declares_all here.now (map declared_view all.now)
+        (state_view state.old)) }
 {
     match all.split_first() {
         None => Ok(Outcome::Next),
@@ -162,7 +173,8 @@ fn declare(
     d: &Declared,
     state: &mut State,
 ) -> Result<Outcome, AllocError>
-    ensures { IfOk result (λ o. outcome_view o (state_view state.new) ≡ declares here.now (declared_view d.now) (state_view state.old)) }
+    ensures { IfOk result (λ o.
+        outcome_view o (state_view state.new) ≡ declares here.now (declared_view d.now) (state_view state.old)) }
 {
     if !done!(here.begin(alloc, d.spot, state)) {
         return Ok(Outcome::Ended(End::Turns));
@@ -210,7 +222,9 @@ fn initialise_elements(
     state: &mut State,
 ) -> Result<Outcome, AllocError>
     requires { index + length all.now < 2 ^ 64 }
-    ensures { IfOk result (λ o. outcome_view o (state_view state.new) ≡ initialises_elements here.now spot object index (map rvalue_view all.now) (state_view state.old)) }
+    ensures { IfOk result (λ o.
+        outcome_view o (state_view state.new) ≡ initialises_elements here.now spot object index
+        (map rvalue_view all.now) (state_view state.old)) }
 {
     match all.split_first() {
         None => Ok(Outcome::Next),
@@ -242,7 +256,9 @@ fn execute(
     statement: &TypedStatement,
     state: &mut State,
 ) -> Result<Outcome, AllocError>
-    ensures { IfOk result (λ o. outcome_view o (state_view state.new) ≡ executes here.now (statement_view statement.now) (state_view state.old)) }
+    ensures { IfOk result (λ o.
+        outcome_view o (state_view state.new) ≡ executes here.now (statement_view statement.now)
+        (state_view state.old)) }
 {
     match statement {
         TypedStatement::Block(all) => {
@@ -322,7 +338,9 @@ fn pass(
     outcome: Outcome,
     state: &mut State,
 ) -> Result<Outcome, AllocError>
-    ensures { IfOk result (λ o. outcome_view o (state_view state.new) ≡ at (activation_view here.now) spot (state_view state.old) (outcome_view outcome)) }
+    ensures { IfOk result (λ o.
+        outcome_view o (state_view state.new) ≡ at (activation_view here.now) spot (state_view state.old)
+        (outcome_view outcome)) }
 {
     if here.begin(alloc, spot, state)? {
         Ok(outcome)
@@ -339,7 +357,9 @@ pub fn execute_all(
     all: &TypedStatements,
     state: &mut State,
 ) -> Result<Outcome, AllocError>
-    ensures { IfOk result (λ o. outcome_view o (state_view state.new) ≡ executes_all here.now (statements_view all.now) (state_view state.old)) }
+    ensures { IfOk result (λ o.
+        outcome_view o (state_view state.new) ≡ executes_all here.now (statements_view all.now)
+        (state_view state.old)) }
 {
     match all {
         TypedStatements::End => Ok(Outcome::Next),
@@ -366,7 +386,9 @@ fn execute_switch(
     body: &TypedStatements,
     state: &mut State,
 ) -> Result<Outcome, AllocError>
-    ensures { IfOk result (λ o. outcome_view o (state_view state.new) ≡ executes here.now (Switch spot (rvalue_view value.now) (statements_view body.now)) (state_view state.old)) }
+    ensures { IfOk result (λ o.
+        outcome_view o (state_view state.new) ≡ executes here.now
+        (Switch spot (rvalue_view value.now) (statements_view body.now)) (state_view state.old)) }
 {
     if !done!(here.begin(alloc, spot, state)) {
         return Ok(Outcome::Ended(End::Turns));
@@ -391,7 +413,9 @@ fn execute_return(
     value: &Option<Rvalue>,
     state: &mut State,
 ) -> Result<Outcome, AllocError>
-    ensures { IfOk result (λ o. outcome_view o (state_view state.new) ≡ executes here.now (Return spot (option_map rvalue_view value.now)) (state_view state.old)) }
+    ensures { IfOk result (λ o.
+        outcome_view o (state_view state.new) ≡ executes here.now (Return spot (option_map rvalue_view value.now))
+        (state_view state.old)) }
 {
     if !done!(here.begin(alloc, spot, state)) {
         return Ok(Outcome::Ended(End::Turns));
@@ -415,7 +439,9 @@ fn execute_loop(
     statement: &TypedStatement,
     state: &mut State,
 ) -> Result<Outcome, AllocError>
-    ensures { IfOk result (λ o. outcome_view o (state_view state.new) ≡ loop (round_of here.now (statement_view statement.now)) (state_view state.old)) }
+    ensures { IfOk result (λ o.
+        outcome_view o (state_view state.new) ≡ loop (round_of here.now (statement_view statement.now))
+        (state_view state.old)) }
 {
     let mut rest = state.turns;
     while rest > 0 {
@@ -437,7 +463,10 @@ fn execute_round(
     statement: &TypedStatement,
     state: &mut State,
 ) -> Result<Round, AllocError>
-    ensures { IfOk result (λ r. (again : states.State → states.Outcome) → round_view r again (state_view state.new) ≡ round_of here.now (statement_view statement.now) again (state_view state.old)) }
+    ensures { IfOk result (λ r.
+        (again : states.State → states.Outcome)
+        → round_view r again (state_view state.new) ≡ round_of here.now (statement_view statement.now) again
+        (state_view state.old)) }
 {
     match statement {
         TypedStatement::While {
@@ -471,7 +500,11 @@ fn while_round(
     body: &TypedStatement,
     state: &mut State,
 ) -> Result<Round, AllocError>
-    ensures { IfOk result (λ r. (again : states.State → states.Outcome) → round_view r again (state_view state.new) ≡ while_round (activation_view here.now) spot (tests_at here.now spot (rvalue_view condition.now)) (executes here.now (statement_view body.now)) again (state_view state.old)) }
+    ensures { IfOk result (λ r.
+        (again : states.State → states.Outcome)
+        → round_view r again (state_view state.new) ≡ while_round (activation_view here.now) spot
+        (tests_at here.now spot (rvalue_view condition.now)) (executes here.now (statement_view body.now)) again
+        (state_view state.old)) }
 {
     if !done!(here.begin(alloc, spot, state)) {
         return Ok(Round::Leave(Outcome::Ended(End::Turns)));
@@ -496,7 +529,11 @@ fn do_round(
     body: &TypedStatement,
     state: &mut State,
 ) -> Result<Round, AllocError>
-    ensures { IfOk result (λ r. (again : states.State → states.Outcome) → round_view r again (state_view state.new) ≡ do_round (activation_view here.now) spot (tests_at here.now spot (rvalue_view condition.now)) (executes here.now (statement_view body.now)) again (state_view state.old)) }
+    ensures { IfOk result (λ r.
+        (again : states.State → states.Outcome)
+        → round_view r again (state_view state.new) ≡ do_round (activation_view here.now) spot
+        (tests_at here.now spot (rvalue_view condition.now)) (executes here.now (statement_view body.now)) again
+        (state_view state.old)) }
 {
     let outcome = done!(execute(alloc, here, body, state));
     match behind_body(outcome) {
@@ -525,7 +562,12 @@ fn for_round(
     body: &TypedStatement,
     state: &mut State,
 ) -> Result<Round, AllocError>
-    ensures { IfOk result (λ r. (again : states.State → states.Outcome) → round_view r again (state_view state.new) ≡ for_round (activation_view here.now) spot (checks here.now spot (option_map rvalue_view condition.now)) (executes here.now (statement_view body.now)) (steps here.now (option_map step_view part.now)) again (state_view state.old)) }
+    ensures { IfOk result (λ r.
+        (again : states.State → states.Outcome)
+        → round_view r again (state_view state.new) ≡ for_round (activation_view here.now) spot
+        (checks here.now spot (option_map rvalue_view condition.now))
+        (executes here.now (statement_view body.now)) (steps here.now (option_map step_view part.now)) again
+        (state_view state.old)) }
 {
     if !done!(here.begin(alloc, spot, state)) {
         return Ok(Round::Leave(Outcome::Ended(End::Turns)));

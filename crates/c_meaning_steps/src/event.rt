@@ -2,7 +2,8 @@
 
 use c_meaning_values::{Object, Value};
 
-/// An activation of a function: the function by its number in text order from 0, and the place at which it stands, by its number from 1. Where the activation waits for a call, that is the place of the call.
+/// An activation of a function: the function by its number in text order from 0, and the place at which it stands, by
+/// its number from 1. Where the activation waits for a call, that is the place of the call.
 #[derive(Clone, Copy, PartialEq, Eq)]
 pub struct Frame {
     pub function: u32,

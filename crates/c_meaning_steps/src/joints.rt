@@ -45,7 +45,8 @@ pub fn load_from(found: Evaluated, state: &State) -> Evaluated
 
 /// The array at which an operand points.
 pub fn decay_from(found: Evaluated, state: &State) -> Evaluated
-    ensures { evaluated_view result (state_view state.now) ≡ with (evaluated_view found (state_view state.now)) decayed }
+    ensures { evaluated_view result (state_view state.now)
+        ≡ with (evaluated_view found (state_view state.now)) decayed }
 {
     match found {
         Evaluated::Gives(pointer) => decayed(pointer, state),
@@ -89,7 +90,8 @@ pub fn discard(operand: Evaluated) -> Evaluated
 
 /// An operand with its sign.
 pub fn sign_from(sign: Sign, of: IntegerType, operand: Evaluated) -> Evaluated
-    ensures { (s : states.State) → evaluated_view result s ≡ with (evaluated_view operand s) (λ v t. given (signed sign of v) t) }
+    ensures { (s : states.State)
+        → evaluated_view result s ≡ with (evaluated_view operand s) (λ v t. given (signed sign of v) t) }
 {
     match operand {
         Evaluated::Gives(value) => given(signed(sign, of, value), Fault::ResultTooGreat),
@@ -132,7 +134,8 @@ pub fn tested(operand: Evaluated, state: &State) -> Tested
 
 /// 1 where a test holds, and 0 where it fails.
 pub fn truth_of(test: Tested) -> Evaluated
-    ensures { (s : states.State) → evaluated_view result s ≡ on_test (tested_view test s) (truth (pos 1)) (truth (pos 0)) }
+    ensures { (s : states.State) → evaluated_view result s
+        ≡ on_test (tested_view test s) (truth (pos 1)) (truth (pos 0)) }
 {
     match test {
         Tested::Holds => Evaluated::Gives(Value::Number(1)),
@@ -143,7 +146,8 @@ pub fn truth_of(test: Tested) -> Evaluated
 
 /// 0 where a test holds, and 1 where it fails.
 pub fn not_of(test: Tested) -> Evaluated
-    ensures { (s : states.State) → evaluated_view result s ≡ on_test (tested_view test s) (truth (pos 0)) (truth (pos 1)) }
+    ensures { (s : states.State) → evaluated_view result s
+        ≡ on_test (tested_view test s) (truth (pos 0)) (truth (pos 1)) }
 {
     match test {
         Tested::Holds => Evaluated::Gives(Value::Number(0)),
@@ -154,7 +158,8 @@ pub fn not_of(test: Tested) -> Evaluated
 
 /// Arithmetic on two operands.
 pub fn arithmetic_from(operator: Arithmetic, of: IntegerType, operands: Operands) -> Evaluated
-    ensures { (s : states.State) → evaluated_view result s ≡ on_both (both_view operands s) (λ v w t. given (arithmetic operator of v w) t) }
+    ensures { (s : states.State)
+        → evaluated_view result s ≡ on_both (both_view operands s) (λ v w t. given (arithmetic operator of v w) t) }
 {
     match operands {
         Operands::Pair(left, right) => {
@@ -167,7 +172,8 @@ pub fn arithmetic_from(operator: Arithmetic, of: IntegerType, operands: Operands
 
 /// A comparison of two numbers.
 pub fn comparison_from(operator: Comparison, operands: Operands) -> Evaluated
-    ensures { (s : states.State) → evaluated_view result s ≡ on_both (both_view operands s) (λ v w t. given (comparison operator v w) t) }
+    ensures { (s : states.State)
+        → evaluated_view result s ≡ on_both (both_view operands s) (λ v w t. given (comparison operator v w) t) }
 {
     match operands {
         Operands::Pair(left, right) => given(comparison(operator, left, right), Fault::Untyped),
@@ -177,7 +183,9 @@ pub fn comparison_from(operator: Comparison, operands: Operands) -> Evaluated
 
 /// A comparison of two pointers.
 pub fn pointer_comparison_from(operator: Comparison, operands: Operands, state: &State) -> Evaluated
-    ensures { evaluated_view result (state_view state.now) ≡ on_both (both_view operands (state_view state.now)) (λ v w t. given (pointer_comparison t.memory operator v w) t) }
+    ensures { evaluated_view result (state_view state.now)
+        ≡ on_both (both_view operands (state_view state.now)) (λ v w t.
+        given (pointer_comparison t.memory operator v w) t) }
 {
     match operands {
         Operands::Pair(left, right) => {
@@ -195,7 +203,9 @@ pub fn moved_from(
     operands: Operands,
     state: &State,
 ) -> Evaluated
-    ensures { evaluated_view result (state_view state.now) ≡ on_both (both_view operands (state_view state.now)) (λ v w t. given (moved_by t.memory direction element v w) t) }
+    ensures { evaluated_view result (state_view state.now)
+        ≡ on_both (both_view operands (state_view state.now)) (λ v w t.
+        given (moved_by t.memory direction element v w) t) }
 {
     match operands {
         Operands::Pair(pointer, by) => {
@@ -208,7 +218,9 @@ pub fn moved_from(
 
 /// A number and a pointer behind it, which it moves up.
 pub fn moved_behind(element: ObjectType, operands: Operands, state: &State) -> Evaluated
-    ensures { evaluated_view result (state_view state.now) ≡ on_both (both_view operands (state_view state.now)) (λ w v t. given (moved_by t.memory Up element v w) t) }
+    ensures { evaluated_view result (state_view state.now)
+        ≡ on_both (both_view operands (state_view state.now)) (λ w v t.
+        given (moved_by t.memory Up element v w) t) }
 {
     match operands {
         Operands::Pair(by, pointer) => {
@@ -221,7 +233,9 @@ pub fn moved_behind(element: ObjectType, operands: Operands, state: &State) -> E
 
 /// How many elements lie between two pointers.
 pub fn difference_from(element: ObjectType, operands: Operands, state: &State) -> Evaluated
-    ensures { evaluated_view result (state_view state.now) ≡ on_both (both_view operands (state_view state.now)) (λ v w t. given (pointer_difference t.memory element v w) t) }
+    ensures { evaluated_view result (state_view state.now)
+        ≡ on_both (both_view operands (state_view state.now)) (λ v w t.
+        given (pointer_difference t.memory element v w) t) }
 {
     match operands {
         Operands::Pair(left, right) => {
@@ -278,7 +292,8 @@ pub fn update(
     right: Evaluated,
     state: &mut State,
 ) -> Evaluated
-    ensures { evaluated_view result (state_view state.new) ≡ with (evaluated_view right (state_view state.old)) (λ v u. store_if (updated operator target calculated_in old v) pointer u) }
+    ensures { evaluated_view result (state_view state.new) ≡ with (evaluated_view right (state_view state.old)) (λ v u.
+        store_if (updated operator target calculated_in old v) pointer u) }
 {
     match right {
         Evaluated::Gives(value) => {
@@ -300,7 +315,8 @@ pub fn update_pointer(
     by: Evaluated,
     state: &mut State,
 ) -> Evaluated
-    ensures { evaluated_view result (state_view state.new) ≡ with (evaluated_view by (state_view state.old)) (λ v u. store_if (moved_by u.memory direction element old v) pointer u) }
+    ensures { evaluated_view result (state_view state.new) ≡ with (evaluated_view by (state_view state.old)) (λ v u.
+        store_if (moved_by u.memory direction element old v) pointer u) }
 {
     match by {
         Evaluated::Gives(value) => {
@@ -322,7 +338,9 @@ pub fn step(
     operands: Operands,
     state: &mut State,
 ) -> Evaluated
-    ensures { evaluated_view result (state_view state.new) ≡ on_both (both_view operands (state_view state.old)) (λ p old t. replace_if (updated (operator_of direction) target calculated_in old one) which p old t) }
+    ensures { evaluated_view result (state_view state.new)
+        ≡ on_both (both_view operands (state_view state.old)) (λ p old t.
+        replace_if (updated (operator_of direction) target calculated_in old one) which p old t) }
 {
     let operator = match direction {
         Direction::Up => Arithmetic::Add,
@@ -347,7 +365,9 @@ pub fn step_pointer(
     operands: Operands,
     state: &mut State,
 ) -> Evaluated
-    ensures { evaluated_view result (state_view state.new) ≡ on_both (both_view operands (state_view state.old)) (λ p old t. replace_if (moved_by t.memory direction element old one) which p old t) }
+    ensures { evaluated_view result (state_view state.new)
+        ≡ on_both (both_view operands (state_view state.old)) (λ p old t.
+        replace_if (moved_by t.memory direction element old one) which p old t) }
 {
     match operands {
         Operands::Pair(pointer, old) => {

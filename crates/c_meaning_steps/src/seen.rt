@@ -45,7 +45,10 @@ fn with_event(
     kept: Option<Vec<Event>>,
     event: Option<Event>,
 ) -> Result<Option<Vec<Event>>, AllocError>
-    ensures { IfOk result (λ after. (before : List states.Event) (e : states.Event) → IfSome kept (λ all. map event_view all.items ≡ before) → IfSome event (λ made. event_view made ≡ e) → IfSome after (λ all. map event_view all.items ≡ before ++ e ∷ [])) }
+    ensures { IfOk result (λ after.
+        (before : List states.Event) (e : states.Event) → IfSome kept (λ all. map event_view all.items ≡ before)
+        → IfSome event (λ made. event_view made ≡ e)
+        → IfSome after (λ all. map event_view all.items ≡ before ++ e ∷ [])) }
 {
     match (kept, event) {
         (Some(mut events), Some(event)) => {
@@ -111,7 +114,8 @@ impl Seen {
         Ok(())
     }
 
-    /// A stop. Where none was made with its memory, no event is kept from now on. The only error is want of memory where all events are kept.
+    /// A stop. Where none was made with its memory, no event is kept from now on. The only error is want of memory
+    /// where all events are kept.
     #[tactic(auto, using(crate::proofs::Tallies::stop_counted, crate::proofs::Tallies::same_bytes, crate::proofs::Tallies::stands_last))]
     pub fn stop(&mut self, at: Standing, made: Option<Stop>, log: Log) -> Result<(), AllocError>
         requires { IsNextStop self.old.log.events log.events at made }

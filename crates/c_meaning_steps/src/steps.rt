@@ -105,7 +105,8 @@ pub fn replaced(
 
 /// `getchar`.
 pub fn next_byte(state: &mut State) -> Evaluated
-    ensures { evaluated_view result (state_view state.new) ≡ next_byte (state_view state.old).input (state_view state.old) }
+    ensures { evaluated_view result (state_view state.new)
+        ≡ next_byte (state_view state.old).input (state_view state.old) }
 {
     match state.input.split_first() {
         None => Evaluated::Gives(Value::Number(-1)),

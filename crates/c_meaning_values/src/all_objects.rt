@@ -48,7 +48,8 @@ impl Objects {
 
     /// One more object begins.
     pub fn push(&mut self, object: Object) -> Result<(), AllocError>
-        ensures { OnOk result (map object_view self.new.all.items ≡ map object_view self.old.all.items ++ object_view object ∷ []) }
+        ensures { OnOk result
+            (map object_view self.new.all.items ≡ map object_view self.old.all.items ++ object_view object ∷ []) }
     {
         let was_known = self.is_known;
         self.is_known = false;
@@ -79,14 +80,16 @@ impl Objects {
 
     /// An object's value of this index becomes another.
     pub fn set_value(&mut self, object: usize, index: usize, value: Value)
-        ensures { map object_view self.new.all.items ≡ set_value (map object_view self.old.all.items) object index value }
+        ensures { map object_view self.new.all.items
+            ≡ set_value (map object_view self.old.all.items) object index value }
     {
         set_value(&mut self.all, object, index, value);
     }
 
     /// A write where a pointer points, if it may be written there; the object can be read from then on.
     pub fn write(&mut self, pointer: Value, value: Value) -> bool
-        ensures done { result ≡ true → write (map object_view self.old.all.items) pointer value ≡ Some (map object_view self.new.all.items) }
+        ensures done { result ≡ true
+            → write (map object_view self.old.all.items) pointer value ≡ Some (map object_view self.new.all.items) }
         ensures undefined { result ≡ false → write (map object_view self.old.all.items) pointer value ≡ None }
         ensures unchanged { result ≡ false → map object_view self.new.all.items ≡ map object_view self.old.all.items }
     {

@@ -12,7 +12,8 @@ use crate::value::{Phase, Value};
 use c_tree::{ObjectType, Scalar};
 use std::alloc::{AllocError, Global};
 
-/// Whose an object is: a named one of static storage or a string literal by its number, or an automatic variable by its number with the depth of its activation, 1 for the first of `main`.
+/// Whose an object is: a named one of static storage or a string literal by its number, or an automatic variable by its
+/// number with the depth of its activation, 1 for the first of `main`.
 #[derive(Clone, Copy, PartialEq, Eq)]
 pub enum Owner {
     Static(usize),
@@ -170,7 +171,8 @@ pub(crate) fn is_living_at(memory: &[Object], object: usize) -> bool
 
 /// The object of a number.
 fn object_at(memory: &[Object], object: usize) -> Option<&Object>
-    ensures { MatchOption result (slice_get (map object_view memory.now) object ≡ None) (λ o. slice_get (map object_view memory.now) object ≡ Some (object_view o.now)) }
+    ensures { MatchOption result (slice_get (map object_view memory.now) object ≡ None) (λ o.
+        slice_get (map object_view memory.now) object ≡ Some (object_view o.now)) }
 {
     memory.get(object)
 }
@@ -264,7 +266,8 @@ pub(crate) fn begin(memory: &mut Vec<Object>, object: usize)
 
 /// The index at which an object may be written by an offset.
 pub(crate) fn writable_index(memory: &[Object], object: usize, offset: u128) -> Option<usize>
-    ensures { MatchOption result (IsClosed (map object_view memory.now) object offset) (λ index. IsOpen (map object_view memory.now) object offset index) }
+    ensures { MatchOption result (IsClosed (map object_view memory.now) object offset) (λ index.
+        IsOpen (map object_view memory.now) object offset index) }
 {
     let o = object_at(memory, object)?;
     if o.is_writable(offset) {
@@ -277,7 +280,8 @@ pub(crate) fn writable_index(memory: &[Object], object: usize, offset: u128) -> 
 /// An object ends. If it had not, its number goes, which is the last of these.
 fn end_last(object: &mut Object, living: &mut Vec<usize>)
     ensures ended { object_view object.new ≡ in_phase Ended (object_view object.old) }
-    ensures living { living.new.items ≡ (if is_over object.old.phase then living.old.items else take (length living.old.items - 1) living.old.items) }
+    ensures living { living.new.items ≡
+        (if is_over object.old.phase then living.old.items else take (length living.old.items - 1) living.old.items) }
 {
     if !is_over(object.phase) {
         living.pop();
@@ -288,7 +292,8 @@ fn end_last(object: &mut Object, living: &mut Vec<usize>)
 /// All objects from a number on end. The numbers are those of the objects that have not ended.
 pub(crate) fn end_from(memory: &mut Vec<Object>, living: &mut Vec<usize>, first: usize)
     ensures ended { map object_view memory.new.items ≡ ended_from first (map object_view memory.old.items) }
-    ensures living { living.old.items ≡ living_from 0 (map object_view memory.old.items) → living.new.items ≡ living_from 0 (map object_view memory.new.items) }
+    ensures living { living.old.items ≡ living_from 0 (map object_view memory.old.items)
+        → living.new.items ≡ living_from 0 (map object_view memory.new.items) }
 {
     let mut n = memory.len();
     if n <= first {

@@ -7,7 +7,8 @@ pub enum Value {
     Number(i64),
     /// The null pointer.
     Null,
-    /// A pointer to an object, by its number among all objects of the run from 0 in the order in which they began, so many bytes on.
+    /// A pointer to an object, by its number among all objects of the run from 0 in the order in which they began, so
+    /// many bytes on.
     Pointer { object: usize, offset: u128 },
 }
 

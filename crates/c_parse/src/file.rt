@@ -26,7 +26,8 @@ fn parameter_name(
     alloc: Global,
     tokens: &[Token],
 ) -> Result<(Option<Identifier>, &[Token]), ParseErr>
-    ensures reads { Gives (λ x. (option_map identifier_view x.0, lexemes x.1.now)) result (parameter_name (lexemes tokens.now)) }
+    ensures reads { Gives (λ x. (option_map identifier_view x.0, lexemes x.1.now)) result
+        (parameter_name (lexemes tokens.now)) }
     ensures not_longer { IfOk result (λ x. length x.1.now ≤ length tokens.now) }
 {
     match tokens {
@@ -51,7 +52,8 @@ fn parameter(
     depth: u32,
     tokens: &[Token],
 ) -> Result<(Box<Parameter>, &[Token]), ParseErr>
-    ensures reads { Gives (λ x. (parameter_view x.0.value, lexemes x.1.now)) result (parameter depth (lexemes tokens.now)) }
+    ensures reads { Gives (λ x. (parameter_view x.0.value, lexemes x.1.now)) result
+        (parameter depth (lexemes tokens.now)) }
     ensures shorter { IfOk result (λ x. length x.1.now < length tokens.now) }
 {
     let (found, start) = given!(specifiers(Place::Object, tokens));
@@ -78,7 +80,8 @@ fn parameters(
     depth: u32,
     tokens: &[Token],
 ) -> Result<(Vec<Parameter>, &[Token]), ParseErr>
-    ensures reads { Gives (λ x. (map parameter_view x.0.items, lexemes x.1.now)) result (parameters depth (lexemes tokens.now)) }
+    ensures reads { Gives (λ x. (map parameter_view x.0.items, lexemes x.1.now)) result
+        (parameters depth (lexemes tokens.now)) }
     ensures not_longer { IfOk result (λ x. length x.1.now ≤ length tokens.now) }
 {
     let mut parameters = Vec::new(alloc);
@@ -120,7 +123,8 @@ fn body<'t>(
     parameters: &[Parameter],
     tokens: &'t [Token],
 ) -> Result<(Option<Block>, &'t [Token]), ParseErr>
-    ensures reads { Gives (λ x. (option_map block_view x.0, lexemes x.1.now)) result (body depth (map parameter_view parameters.now) (lexemes tokens.now)) }
+    ensures reads { Gives (λ x. (option_map block_view x.0, lexemes x.1.now)) result
+        (body depth (map parameter_view parameters.now) (lexemes tokens.now)) }
     ensures shorter { IfOk result (λ x. length x.1.now < length tokens.now) }
 {
     if let Some(rest) = behind(Mark::Semicolon, tokens) {
@@ -146,7 +150,8 @@ fn function<'t>(
 ) -> Result<(Function, &'t [Token]), ParseErr>
     requires behind { length tokens.now < length start.now }
     requires deep { 0 < depth }
-    ensures reads { Gives (λ x. (function_view x.0, lexemes x.1.now)) result (function depth found (lexemes start.now) stars (identifier_view identifier) (lexemes tokens.now)) }
+    ensures reads { Gives (λ x. (function_view x.0, lexemes x.1.now)) result
+        (function depth found (lexemes start.now) stars (identifier_view identifier) (lexemes tokens.now)) }
     ensures shorter { IfOk result (λ x. length x.1.now < length tokens.now) }
 {
     let (parameters, rest) = given!(parameters(alloc, depth - 1, tokens));
@@ -190,7 +195,9 @@ fn objects<'t>(
 ) -> Result<(Item, &'t [Token]), ParseErr>
     requires behind_start { length tokens.now < length start.now }
     requires behind_whole { length start.now ≤ length whole.now }
-    ensures reads { Gives (λ x. (item_view x.0, lexemes x.1.now)) result (objects depth found (lexemes whole.now) (lexemes start.now) stars (identifier_view identifier) (lexemes tokens.now)) }
+    ensures reads { Gives (λ x. (item_view x.0, lexemes x.1.now)) result
+        (objects depth found (lexemes whole.now) (lexemes start.now) stars (identifier_view identifier)
+        (lexemes tokens.now)) }
     ensures shorter { IfOk result (λ x. length x.1.now < length tokens.now) }
 {
     if found.is_void {

@@ -56,8 +56,10 @@ fn tree(alloc: Global, tokens: &[Token]) -> Result<Tree, SourceErr>
 
 /// The tree that the tokens of a source make.
 ///
-/// Refused before the first token that no construct takes behind those before it, by E11 for a keyword and by E10 for another token;
-/// by L02 where a construct takes it that is nested over 64 deep. At the end of the tokens E10 has the line of the last one.
+/// Refused before the first token that no construct takes behind those before it, by E11 for a keyword and by E10 for
+/// another token;
+/// by L02 where a construct takes it that is nested over 64 deep. At the end of the tokens E10 has the line of the last
+/// one.
 #[tactic(auto, using(crate::proofs::Trees::answer_spelled, crate::proofs::Trees::answer_refused))]
 pub fn parse(alloc: Global, tokens: &[Token]) -> Result<Tree, SourceErr>
     ensures exact { Answers tree_view result (tree_of (lexemes tokens.now)) }

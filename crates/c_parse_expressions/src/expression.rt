@@ -55,7 +55,8 @@ pub fn nested(
     sort: Sort,
     tokens: &[Token],
 ) -> Result<(Box<Expression>, &[Token]), ParseErr>
-    ensures reads { Gives (λ x. (expression_view x.0.value, lexemes x.1.now)) result (nested (nesting depth) sort (lexemes tokens.now)) }
+    ensures reads { Gives (λ x.
+        (expression_view x.0.value, lexemes x.1.now)) result (nested (nesting depth) sort (lexemes tokens.now)) }
     ensures shorter { IfOk result (λ x. length x.1.now < length tokens.now) }
 {
     if depth == 0 {
@@ -78,7 +79,8 @@ pub fn comma(
     depth: u32,
     tokens: &[Token],
 ) -> Result<(Box<Expression>, &[Token]), ParseErr>
-    ensures reads { Gives (λ x. (expression_view x.0.value, lexemes x.1.now)) result (comma (nesting depth) (lexemes tokens.now)) }
+    ensures reads { Gives (λ x. (expression_view x.0.value, lexemes x.1.now)) result
+        (comma (nesting depth) (lexemes tokens.now)) }
     ensures shorter { IfOk result (λ x. length x.1.now < length tokens.now) }
 {
     let (first, mut left) = assignment(alloc, depth, tokens)?;
@@ -103,7 +105,8 @@ pub fn assignment(
     depth: u32,
     tokens: &[Token],
 ) -> Result<(Box<Expression>, &[Token]), ParseErr>
-    ensures reads { Gives (λ x. (expression_view x.0.value, lexemes x.1.now)) result (assignment (nesting depth) (lexemes tokens.now)) }
+    ensures reads { Gives (λ x.
+        (expression_view x.0.value, lexemes x.1.now)) result (assignment (nesting depth) (lexemes tokens.now)) }
     ensures shorter { IfOk result (λ x. length x.1.now < length tokens.now) }
 {
     let (target, rest) = given!(conditional(alloc, depth, tokens));
@@ -127,7 +130,8 @@ pub fn conditional(
     depth: u32,
     tokens: &[Token],
 ) -> Result<(Box<Expression>, &[Token]), ParseErr>
-    ensures reads { Gives (λ x. (expression_view x.0.value, lexemes x.1.now)) result (conditional (nesting depth) (lexemes tokens.now)) }
+    ensures reads { Gives (λ x.
+        (expression_view x.0.value, lexemes x.1.now)) result (conditional (nesting depth) (lexemes tokens.now)) }
     ensures shorter { IfOk result (λ x. length x.1.now < length tokens.now) }
 {
     let (condition, rest) = given!(levels(alloc, LEVELS, depth, tokens));
@@ -151,7 +155,9 @@ fn chained(
     first: Box<Expression>,
     operations: Vec<(BinaryOperator, Expression)>,
 ) -> Result<Box<Expression>, ParseErr>
-    ensures chained { IfOk result (λ e. expression_view e.value ≡ fold operation (expression_view first.value) (map (λ o. (o.0, expression_view o.1)) operations.items)) }
+    ensures chained { IfOk result (λ e.
+        expression_view e.value ≡ fold operation (expression_view first.value)
+        (map (λ o. (o.0, expression_view o.1)) operations.items)) }
     ensures error { IfErr result (λ e. e ≡ NoMemory) }
 {
     if operations.is_empty() {
@@ -170,7 +176,8 @@ fn levels(
     tokens: &[Token],
 ) -> Result<(Box<Expression>, &[Token]), ParseErr>
     requires { level ≤ 10 }
-    ensures reads { Gives (λ x. (expression_view x.0.value, lexemes x.1.now)) result (levels level (cast (nesting depth)) (lexemes tokens.now)) }
+    ensures reads { Gives (λ x. (expression_view x.0.value, lexemes x.1.now)) result
+        (levels level (cast (nesting depth)) (lexemes tokens.now)) }
     ensures shorter { IfOk result (λ x. length x.1.now < length tokens.now) }
 {
     if level == 0 {
@@ -209,7 +216,8 @@ fn cast(
     depth: u32,
     tokens: &[Token],
 ) -> Result<(Box<Expression>, &[Token]), ParseErr>
-    ensures reads { Gives (λ x. (expression_view x.0.value, lexemes x.1.now)) result (cast (nesting depth) (lexemes tokens.now)) }
+    ensures reads { Gives (λ x. (expression_view x.0.value, lexemes x.1.now)) result
+        (cast (nesting depth) (lexemes tokens.now)) }
     ensures shorter { IfOk result (λ x. length x.1.now < length tokens.now) }
 {
     let Some(inside) = type_behind(tokens) else {
@@ -245,7 +253,8 @@ fn unary(
     depth: u32,
     tokens: &[Token],
 ) -> Result<(Box<Expression>, &[Token]), ParseErr>
-    ensures reads { Gives (λ x. (expression_view x.0.value, lexemes x.1.now)) result (unary (nesting depth) (lexemes tokens.now)) }
+    ensures reads { Gives (λ x. (expression_view x.0.value, lexemes x.1.now)) result
+        (unary (nesting depth) (lexemes tokens.now)) }
     ensures shorter { IfOk result (λ x. length x.1.now < length tokens.now) }
 {
     match tokens {
@@ -283,7 +292,8 @@ fn prefix(
     operator: PrefixOperator,
     tokens: &[Token],
 ) -> Result<(Box<Expression>, &[Token]), ParseErr>
-    ensures reads { Gives (λ x. (expression_view x.0.value, lexemes x.1.now)) result (prefix (nesting depth) spot operator (lexemes tokens.now)) }
+    ensures reads { Gives (λ x. (expression_view x.0.value, lexemes x.1.now)) result
+        (prefix (nesting depth) spot operator (lexemes tokens.now)) }
     ensures shorter { IfOk result (λ x. length x.1.now < length tokens.now) }
 {
     let (operand, rest) = given!(nested(alloc, depth, operand_of(operator), tokens));
@@ -304,7 +314,8 @@ fn sizeof_expression(
     spot: Spot,
     tokens: &[Token],
 ) -> Result<(Box<Expression>, &[Token]), ParseErr>
-    ensures reads { Gives (λ x. (expression_view x.0.value, lexemes x.1.now)) result (sizeof_expression (nesting depth) spot (lexemes tokens.now)) }
+    ensures reads { Gives (λ x. (expression_view x.0.value, lexemes x.1.now)) result
+        (sizeof_expression (nesting depth) spot (lexemes tokens.now)) }
     ensures shorter { IfOk result (λ x. length x.1.now < length tokens.now) }
 {
     let (operand, rest) = given!(nested(alloc, depth, Sort::Unary, tokens));
@@ -323,7 +334,8 @@ fn sizeof_type<'t>(
     inside: &'t [Token],
 ) -> Result<(Box<Expression>, &'t [Token]), ParseErr>
     requires { length inside.now < length word.now }
-    ensures reads { Gives (λ x. (expression_view x.0.value, lexemes x.1.now)) result (sizeof_type (nesting depth) (lexemes word.now) (lexemes parenthesis.now) (lexemes inside.now)) }
+    ensures reads { Gives (λ x. (expression_view x.0.value, lexemes x.1.now)) result
+        (sizeof_type (nesting depth) (lexemes word.now) (lexemes parenthesis.now) (lexemes inside.now)) }
     ensures shorter { IfOk result (λ x. length x.1.now < length inside.now) }
 {
     let depth = given!(deeper(depth, true, parenthesis));
@@ -349,7 +361,9 @@ fn size(
     depth: u32,
     tokens: &[Token],
 ) -> Result<(Option<Box<Expression>>, &[Token]), ParseErr>
-    ensures reads { Gives (λ x. (option_map (λ e. expression_view e.value) x.0, lexemes x.1.now)) result (size (nesting depth) (lexemes tokens.now)) }
+    ensures reads { Gives (λ x.
+        (option_map (λ e. expression_view e.value) x.0, lexemes x.1.now)) result (size (nesting depth)
+        (lexemes tokens.now)) }
     ensures not_longer { IfOk result (λ x. length x.1.now ≤ length tokens.now) }
 {
     let Some(inside) = behind(Mark::OpenBracket, tokens) else {
@@ -416,7 +430,8 @@ fn postfix(
     depth: u32,
     tokens: &[Token],
 ) -> Result<(Box<Expression>, &[Token]), ParseErr>
-    ensures reads { Gives (λ x. (expression_view x.0.value, lexemes x.1.now)) result (postfix (nesting depth) (lexemes tokens.now)) }
+    ensures reads { Gives (λ x. (expression_view x.0.value, lexemes x.1.now)) result
+        (postfix (nesting depth) (lexemes tokens.now)) }
     ensures shorter { IfOk result (λ x. length x.1.now < length tokens.now) }
 {
     let (operand, mut rest) = primary(alloc, depth, tokens)?;
@@ -481,7 +496,8 @@ fn arguments(
     depth: u32,
     tokens: &[Token],
 ) -> Result<(Vec<Expression>, &[Token]), ParseErr>
-    ensures reads { Gives (λ x. (map expression_view x.0.items, lexemes x.1.now)) result (arguments (nesting depth) (lexemes tokens.now)) }
+    ensures reads { Gives (λ x.
+        (map expression_view x.0.items, lexemes x.1.now)) result (arguments (nesting depth) (lexemes tokens.now)) }
     ensures not_longer { IfOk result (λ x. length x.1.now ≤ length tokens.now) }
 {
     let mut arguments = Vec::new(alloc);
@@ -545,7 +561,8 @@ fn primary(
     depth: u32,
     tokens: &[Token],
 ) -> Result<(Box<Expression>, &[Token]), ParseErr>
-    ensures reads { Gives (λ x. (expression_view x.0.value, lexemes x.1.now)) result (primary (nesting depth) (lexemes tokens.now)) }
+    ensures reads { Gives (λ x. (expression_view x.0.value, lexemes x.1.now)) result
+        (primary (nesting depth) (lexemes tokens.now)) }
     ensures shorter { IfOk result (λ x. length x.1.now < length tokens.now) }
 {
     let [first, rest @ ..] = tokens else {

@@ -64,7 +64,8 @@ pub fn condition(
     depth: u32,
     tokens: &[Token],
 ) -> Result<(Box<Expression>, &[Token]), ParseErr>
-    ensures reads { Gives (λ x. (expression_view x.0.value, lexemes x.1.now)) result (condition (nesting depth) (lexemes tokens.now)) }
+    ensures reads { Gives (λ x.
+        (expression_view x.0.value, lexemes x.1.now)) result (condition (nesting depth) (lexemes tokens.now)) }
     ensures shorter { IfOk result (λ x. length x.1.now < length tokens.now) }
 {
     let rest = given!(want(Mark::OpenParenthesis, tokens));
@@ -81,7 +82,8 @@ fn optional(
     end: Mark,
     tokens: &[Token],
 ) -> Result<(Option<Box<Expression>>, &[Token]), ParseErr>
-    ensures reads { Gives (λ x. (option_map (λ e. expression_view e.value) x.0, lexemes x.1.now)) result (optional (nesting depth) end (lexemes tokens.now)) }
+    ensures reads { Gives (λ x. (option_map (λ e. expression_view e.value) x.0, lexemes x.1.now)) result
+        (optional (nesting depth) end (lexemes tokens.now)) }
     ensures not_longer { IfOk result (λ x. length x.1.now ≤ length tokens.now) }
 {
     if is_at(end, tokens) {
@@ -175,7 +177,8 @@ pub fn expression_statement(
     depth: u32,
     tokens: &[Token],
 ) -> Result<(Box<Statement>, &[Token]), ParseErr>
-    ensures reads { Gives (λ x. (statement_view x.0.value, lexemes x.1.now)) result (expression_statement (nesting depth) (lexemes tokens.now)) }
+    ensures reads { Gives (λ x. (statement_view x.0.value, lexemes x.1.now)) result
+        (expression_statement (nesting depth) (lexemes tokens.now)) }
     ensures shorter { IfOk result (λ x. length x.1.now < length tokens.now) }
 {
     let (value, rest) = given!(comma(alloc, depth, tokens));
@@ -196,7 +199,8 @@ pub fn return_statement<'t>(
     rest: &'t [Token],
 ) -> Result<(Box<Statement>, &'t [Token]), ParseErr>
     requires { length rest.now < length tokens.now }
-    ensures reads { Gives (λ x. (statement_view x.0.value, lexemes x.1.now)) result (return_statement (nesting depth) (lexemes tokens.now) (lexemes rest.now)) }
+    ensures reads { Gives (λ x. (statement_view x.0.value, lexemes x.1.now)) result
+        (return_statement (nesting depth) (lexemes tokens.now) (lexemes rest.now)) }
     ensures shorter { IfOk result (λ x. length x.1.now < length rest.now) }
 {
     let (value, rest) = given!(optional(alloc, depth, Mark::Semicolon, rest));
@@ -214,7 +218,8 @@ pub fn empty(
     spot: Spot,
     rest: &[Token],
 ) -> Result<(Box<Statement>, &[Token]), ParseErr>
-    ensures reads { Gives {Y = StatementTree × List Lexeme} (λ x. (statement_view x.0.value, lexemes x.1.now)) result (Ok (Empty spot, lexemes rest.now)) }
+    ensures reads { Gives {Y = StatementTree × List Lexeme} (λ x.
+        (statement_view x.0.value, lexemes x.1.now)) result (Ok (Empty spot, lexemes rest.now)) }
     ensures not_longer { IfOk result (λ x. length x.1.now ≤ length rest.now) }
 {
     Ok((given!(node(alloc, Statement::Empty(spot))), rest))
@@ -227,7 +232,8 @@ pub fn break_statement<'t>(
     rest: &'t [Token],
 ) -> Result<(Box<Statement>, &'t [Token]), ParseErr>
     requires { length rest.now < length tokens.now }
-    ensures reads { Gives (λ x. (statement_view x.0.value, lexemes x.1.now)) result (break_statement (lexemes tokens.now) (lexemes rest.now)) }
+    ensures reads { Gives (λ x. (statement_view x.0.value, lexemes x.1.now)) result
+        (break_statement (lexemes tokens.now) (lexemes rest.now)) }
     ensures shorter { IfOk result (λ x. length x.1.now < length rest.now) }
 {
     let rest = given!(want(Mark::Semicolon, rest));
@@ -242,7 +248,8 @@ pub fn continue_statement<'t>(
     rest: &'t [Token],
 ) -> Result<(Box<Statement>, &'t [Token]), ParseErr>
     requires { length rest.now < length tokens.now }
-    ensures reads { Gives (λ x. (statement_view x.0.value, lexemes x.1.now)) result (continue_statement (lexemes tokens.now) (lexemes rest.now)) }
+    ensures reads { Gives (λ x. (statement_view x.0.value, lexemes x.1.now)) result
+        (continue_statement (lexemes tokens.now) (lexemes rest.now)) }
     ensures shorter { IfOk result (λ x. length x.1.now < length rest.now) }
 {
     let rest = given!(want(Mark::Semicolon, rest));
@@ -257,7 +264,8 @@ fn label(
     depth: u32,
     tokens: &[Token],
 ) -> Result<Option<(Box<Label>, &[Token])>, ParseErr>
-    ensures reads { Gives (λ x. option_map (λ l. (label_view l.0.value, lexemes l.1.now)) x) result (label (nesting depth) (lexemes tokens.now)) }
+    ensures reads { Gives (λ x. option_map (λ l. (label_view l.0.value, lexemes l.1.now)) x) result
+        (label (nesting depth) (lexemes tokens.now)) }
     ensures shorter { IfOk result (λ x. IfSome x (λ l. length l.1.now < length tokens.now)) }
 {
     match tokens {
@@ -297,7 +305,8 @@ pub fn labels(
     depth: u32,
     tokens: &[Token],
 ) -> Result<(Vec<Label>, &[Token]), ParseErr>
-    ensures reads { Gives (λ x. (map label_view x.0.items, lexemes x.1.now)) result (labels (length (lexemes tokens.now) + 1) (nesting depth) [] (lexemes tokens.now)) }
+    ensures reads { Gives (λ x. (map label_view x.0.items, lexemes x.1.now)) result
+        (labels (length (lexemes tokens.now) + 1) (nesting depth) [] (lexemes tokens.now)) }
     ensures not_longer { IfOk result (λ x. length x.1.now ≤ length tokens.now) }
 {
     let mut labels = Vec::new(alloc);

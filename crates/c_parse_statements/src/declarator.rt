@@ -46,7 +46,8 @@ pub fn brackets(
     depth: u32,
     tokens: &[Token],
 ) -> Result<(Box<Brackets>, &[Token]), ParseErr>
-    ensures reads { Gives (λ x. (brackets_view x.0.value, lexemes x.1.now)) result (brackets (nesting depth) (lexemes tokens.now)) }
+    ensures reads { Gives (λ x. (brackets_view x.0.value, lexemes x.1.now)) result
+        (brackets (nesting depth) (lexemes tokens.now)) }
     ensures not_longer { IfOk result (λ x. length x.1.now ≤ length tokens.now) }
 {
     let Some(inside) = behind(Mark::OpenBracket, tokens) else {
@@ -69,7 +70,8 @@ fn initialized<'t>(
     brackets: &Brackets,
     tokens: &'t [Token],
 ) -> Result<(Option<Box<Initializer>>, &'t [Token]), ParseErr>
-    ensures reads { Gives (λ x. (option_map (λ i. initializer_view i.value) x.0, lexemes x.1.now)) result (initialized depth (brackets_view brackets.now) (lexemes tokens.now)) }
+    ensures reads { Gives (λ x. (option_map (λ i. initializer_view i.value) x.0, lexemes x.1.now)) result
+        (initialized depth (brackets_view brackets.now) (lexemes tokens.now)) }
     ensures not_longer { IfOk result (λ x. length x.1.now ≤ length tokens.now) }
 {
     let Some(rest) = behind(Mark::Equal, tokens) else {
@@ -103,7 +105,8 @@ pub fn named_declarator<'t>(
     tokens: &'t [Token],
 ) -> Result<(Box<Declarator>, &'t [Token]), ParseErr>
     requires { length tokens.now < length start.now }
-    ensures reads { Gives (λ x. (declarator_view x.0.value, lexemes x.1.now)) result (named_declarator depth (lexemes start.now) stars (identifier_view identifier) (lexemes tokens.now)) }
+    ensures reads { Gives (λ x. (declarator_view x.0.value, lexemes x.1.now)) result
+        (named_declarator depth (lexemes start.now) stars (identifier_view identifier) (lexemes tokens.now)) }
     ensures not_longer { IfOk result (λ x. length x.1.now ≤ length tokens.now) }
 {
     let (brackets, rest) = given!(brackets(alloc, depth, tokens));
@@ -125,7 +128,8 @@ fn declarator(
     depth: u32,
     tokens: &[Token],
 ) -> Result<(Box<Declarator>, &[Token]), ParseErr>
-    ensures reads { Gives (λ x. (declarator_view x.0.value, lexemes x.1.now)) result (declarator depth (lexemes tokens.now)) }
+    ensures reads { Gives (λ x. (declarator_view x.0.value, lexemes x.1.now)) result
+        (declarator depth (lexemes tokens.now)) }
     ensures shorter { IfOk result (λ x. length x.1.now < length tokens.now) }
 {
     let (stars, rest) = stars(tokens);
@@ -167,7 +171,9 @@ pub fn begun_declaration<'t>(
     tokens: &'t [Token],
 ) -> Result<(Declaration, &'t [Token]), ParseErr>
     requires { length tokens.now < length start.now }
-    ensures reads { Gives (λ x. (declaration_view x.0, lexemes x.1.now)) result (begun_declaration depth (lexemes start.now) integer_type (declarator_view first.value) (lexemes tokens.now)) }
+    ensures reads { Gives (λ x. (declaration_view x.0, lexemes x.1.now)) result
+        (begun_declaration depth (lexemes start.now) integer_type (declarator_view first.value)
+        (lexemes tokens.now)) }
     ensures shorter { IfOk result (λ x. length x.1.now < length tokens.now) }
 {
     let (declarators, rest) = given!(declarators(alloc, depth, first, tokens));

@@ -20,7 +20,8 @@ fn nested_initializer(
     depth: u32,
     tokens: &[Token],
 ) -> Result<(Box<Initializer>, &[Token]), ParseErr>
-    ensures reads { Gives (λ x. (initializer_view x.0.value, lexemes x.1.now)) result (nested_initializer (within_braces depth) (lexemes tokens.now)) }
+    ensures reads { Gives (λ x. (initializer_view x.0.value, lexemes x.1.now)) result
+        (nested_initializer (within_braces depth) (lexemes tokens.now)) }
     ensures shorter { IfOk result (λ x. length x.1.now < length tokens.now) }
 {
     if depth == 0 {
@@ -38,7 +39,8 @@ fn in_braces(
     depth: u32,
     tokens: &[Token],
 ) -> Result<(Vec<Initializer>, &[Token]), ParseErr>
-    ensures reads { Gives (λ x. (map initializer_view x.0.items, lexemes x.1.now)) result (in_braces (within_braces depth) (lexemes tokens.now)) }
+    ensures reads { Gives (λ x. (map initializer_view x.0.items, lexemes x.1.now)) result
+        (in_braces (within_braces depth) (lexemes tokens.now)) }
     ensures shorter { IfOk result (λ x. length x.1.now < length tokens.now) }
 {
     let mut initializers = Vec::new(alloc);
@@ -63,7 +65,8 @@ pub fn initializer(
     depth: u32,
     tokens: &[Token],
 ) -> Result<(Box<Initializer>, &[Token]), ParseErr>
-    ensures reads { Gives (λ x. (initializer_view x.0.value, lexemes x.1.now)) result (initializer depth (lexemes tokens.now)) }
+    ensures reads { Gives (λ x. (initializer_view x.0.value, lexemes x.1.now)) result
+        (initializer depth (lexemes tokens.now)) }
     ensures shorter { IfOk result (λ x. length x.1.now < length tokens.now) }
 {
     let Some(inside) = behind(Mark::OpenBrace, tokens) else {

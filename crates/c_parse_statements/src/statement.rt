@@ -41,7 +41,8 @@ fn nested_statement(
     may_declare: bool,
     tokens: &[Token],
 ) -> Result<(Box<Statement>, &[Token]), ParseErr>
-    ensures reads { Gives (λ x. (statement_view x.0.value, lexemes x.1.now)) result (nested_statement (statements depth) may_declare (lexemes tokens.now)) }
+    ensures reads { Gives (λ x. (statement_view x.0.value, lexemes x.1.now)) result
+        (nested_statement (statements depth) may_declare (lexemes tokens.now)) }
     ensures shorter { IfOk result (λ x. length x.1.now < length tokens.now) }
 {
     let declares = may_declare && begins_type(tokens);
@@ -64,7 +65,8 @@ fn statement(
     depth: u32,
     tokens: &[Token],
 ) -> Result<(Box<Statement>, &[Token]), ParseErr>
-    ensures reads { Gives (λ x. (statement_view x.0.value, lexemes x.1.now)) result (statement_in depth (statements depth) (lexemes tokens.now)) }
+    ensures reads { Gives (λ x. (statement_view x.0.value, lexemes x.1.now)) result
+        (statement_in depth (statements depth) (lexemes tokens.now)) }
     ensures shorter { IfOk result (λ x. length x.1.now < length tokens.now) }
 {
     let (labels, rest) = given!(labels(alloc, depth, tokens));
@@ -84,7 +86,8 @@ fn unlabeled(
     depth: u32,
     tokens: &[Token],
 ) -> Result<(Box<Statement>, &[Token]), ParseErr>
-    ensures reads { Gives (λ x. (statement_view x.0.value, lexemes x.1.now)) result (unlabeled depth (statements depth) (lexemes tokens.now)) }
+    ensures reads { Gives (λ x. (statement_view x.0.value, lexemes x.1.now)) result
+        (unlabeled depth (statements depth) (lexemes tokens.now)) }
     ensures shorter { IfOk result (λ x. length x.1.now < length tokens.now) }
 {
     let [first, rest @ ..] = tokens else {
@@ -120,7 +123,8 @@ pub fn block(
     may_declare: bool,
     tokens: &[Token],
 ) -> Result<(Block, &[Token]), ParseErr>
-    ensures reads { Gives (λ x. (block_view x.0, lexemes x.1.now)) result (block (statements depth) may_declare (lexemes tokens.now)) }
+    ensures reads { Gives (λ x. (block_view x.0, lexemes x.1.now)) result
+        (block (statements depth) may_declare (lexemes tokens.now)) }
     ensures shorter { IfOk result (λ x. length x.1.now < length tokens.now) }
 {
     let mut rest = want(Mark::OpenBrace, tokens)?;
@@ -144,7 +148,8 @@ pub fn block(
 #[cycle(statement)]
 #[tactic(auto, unfolding(crate::specs::Statements::branch))]
 fn branch(alloc: Global, depth: u32, tokens: &[Token]) -> Result<(Box<Branch>, &[Token]), ParseErr>
-    ensures reads { Gives (λ x. (branch_view x.0.value, lexemes x.1.now)) result (branch (nesting depth) (statements depth) (lexemes tokens.now)) }
+    ensures reads { Gives (λ x. (branch_view x.0.value, lexemes x.1.now)) result
+        (branch (nesting depth) (statements depth) (lexemes tokens.now)) }
     ensures shorter { IfOk result (λ x. length x.1.now < length tokens.now) }
 {
     let rest = given!(want(Mark::If, tokens));
@@ -168,7 +173,12 @@ fn chosen(
     rest: &[Token],
 ) -> Result<(Box<Statement>, &[Token]), ParseErr>
     ensures reads { Gives {Y = StatementTree × List Lexeme} (λ x. (statement_view x.0.value, lexemes x.1.now)) result
-        (Ok (if_tree (branch_view first.value) (else_tree (map branch_view others.items) (option_map (λ o. statement_view o.value) otherwise)), lexemes rest.now)) }
+        (Ok (
+          if_tree (branch_view first.value)
+              (else_tree (map branch_view others.items) (option_map (λ o. statement_view o.value) otherwise)),
+          lexemes
+              rest.now,
+        )) }
     ensures not_longer { IfOk result (λ x. length x.1.now ≤ length rest.now) }
 {
     let statement = Statement::If {
@@ -187,7 +197,8 @@ fn if_statement(
     depth: u32,
     tokens: &[Token],
 ) -> Result<(Box<Statement>, &[Token]), ParseErr>
-    ensures reads { Gives (λ x. (statement_view x.0.value, lexemes x.1.now)) result (if_statement (nesting depth) (statements depth) (lexemes tokens.now)) }
+    ensures reads { Gives (λ x. (statement_view x.0.value, lexemes x.1.now)) result
+        (if_statement (nesting depth) (statements depth) (lexemes tokens.now)) }
     ensures shorter { IfOk result (λ x. length x.1.now < length tokens.now) }
 {
     let (first, mut rest) = branch(alloc, depth, tokens)?;
@@ -213,7 +224,8 @@ fn while_statement(
     spot: Spot,
     tokens: &[Token],
 ) -> Result<(Box<Statement>, &[Token]), ParseErr>
-    ensures reads { Gives (λ x. (statement_view x.0.value, lexemes x.1.now)) result (while_statement (nesting depth) (statements depth) spot (lexemes tokens.now)) }
+    ensures reads { Gives (λ x. (statement_view x.0.value, lexemes x.1.now)) result
+        (while_statement (nesting depth) (statements depth) spot (lexemes tokens.now)) }
     ensures shorter { IfOk result (λ x. length x.1.now < length tokens.now) }
 {
     let (condition, rest) = given!(condition(alloc, depth, tokens));
@@ -236,7 +248,8 @@ fn do_statement<'t>(
     rest: &'t [Token],
 ) -> Result<(Box<Statement>, &'t [Token]), ParseErr>
     requires { length rest.now < length tokens.now }
-    ensures reads { Gives (λ x. (statement_view x.0.value, lexemes x.1.now)) result (do_statement (nesting depth) (statements depth) (lexemes tokens.now) (lexemes rest.now)) }
+    ensures reads { Gives (λ x. (statement_view x.0.value, lexemes x.1.now)) result
+        (do_statement (nesting depth) (statements depth) (lexemes tokens.now) (lexemes rest.now)) }
     ensures shorter { IfOk result (λ x. length x.1.now < length rest.now) }
 {
     let (body, rest) = given!(nested_statement(alloc, depth, false, rest));
@@ -260,7 +273,8 @@ fn for_statement(
     spot: Spot,
     tokens: &[Token],
 ) -> Result<(Box<Statement>, &[Token]), ParseErr>
-    ensures reads { Gives (λ x. (statement_view x.0.value, lexemes x.1.now)) result (for_statement depth (statements depth) spot (lexemes tokens.now)) }
+    ensures reads { Gives (λ x. (statement_view x.0.value, lexemes x.1.now)) result
+        (for_statement depth (statements depth) spot (lexemes tokens.now)) }
     ensures shorter { IfOk result (λ x. length x.1.now < length tokens.now) }
 {
     let rest = given!(want(Mark::OpenParenthesis, tokens));
@@ -287,7 +301,8 @@ fn switch_statement(
     spot: Spot,
     tokens: &[Token],
 ) -> Result<(Box<Statement>, &[Token]), ParseErr>
-    ensures reads { Gives (λ x. (statement_view x.0.value, lexemes x.1.now)) result (switch_statement (nesting depth) (statements depth) spot (lexemes tokens.now)) }
+    ensures reads { Gives (λ x. (statement_view x.0.value, lexemes x.1.now)) result
+        (switch_statement (nesting depth) (statements depth) spot (lexemes tokens.now)) }
     ensures shorter { IfOk result (λ x. length x.1.now < length tokens.now) }
 {
     let (value, rest) = given!(condition(alloc, depth, tokens));

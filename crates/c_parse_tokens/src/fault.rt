@@ -6,7 +6,8 @@ ghost use Rattle.c_parse_tokens.specs.declared.fault.ParseErr.TheVariants.{NoMem
 use debug_records::Code;
 use std::alloc::{AllocError, AllocFailed};
 
-/// What a call gives, where it fails with the very error of the function that it stands in. A `match` in place of `?`, since this is proved in less time.
+/// What a call gives, where it fails with the very error of the function that it stands in. A `match` in place of `?`,
+/// since this is proved in less time.
 #[macro_export]
 macro_rules! given {
     ($call:expr) => {

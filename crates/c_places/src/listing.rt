@@ -33,7 +33,8 @@ fn add_stop(
     spot: Spot,
     found: &mut Vec<Place>,
 ) -> Result<(), AllocError>
-    ensures { OnOk result (map place_view found.new.items ≡ map place_view found.old.items ++ stop function scope.now spot ∷ []) }
+    ensures { OnOk result
+        (map place_view found.new.items ≡ map place_view found.old.items ++ stop function scope.now spot ∷ []) }
 {
     found.push(Place {
         spot,
@@ -62,7 +63,9 @@ fn add_declarators(
     scope: &mut Vec<usize>,
     found: &mut Vec<Place>,
 ) -> Result<(), AllocError>
-    ensures places { OnOk result (map place_view found.new.items ≡ map place_view found.old.items ++ places_of_declarators function scope.old.items (map declared_view all.now)) }
+    ensures places { OnOk result
+        (map place_view found.new.items ≡ map place_view found.old.items
+        ++ places_of_declarators function scope.old.items (map declared_view all.now)) }
     ensures scope { OnOk result (scope.new.items ≡ scope.old.items ++ map (λ d. d.variable) (map declared_view all.now)) }
 {
     for declared in all {
@@ -80,7 +83,9 @@ fn add_start(
     scope: &mut Vec<usize>,
     found: &mut Vec<Place>,
 ) -> Result<(), AllocError>
-    ensures places { OnOk result (map place_view found.new.items ≡ map place_view found.old.items ++ places_of_start function scope.old.items (start_view start.now)) }
+    ensures places { OnOk result
+        (map place_view found.new.items
+        ≡ map place_view found.old.items ++ places_of_start function scope.old.items (start_view start.now)) }
     ensures scope { OnOk result (scope.new.items ≡ scope.old.items ++ brought_by_start (start_view start.now)) }
 {
     match start {
@@ -100,7 +105,9 @@ fn add_head(
     scope: &mut Vec<usize>,
     found: &mut Vec<Place>,
 ) -> Result<(), AllocError>
-    ensures places { OnOk result (map place_view found.new.items ≡ map place_view found.old.items ++ places_of_head function scope.old.items (start_view start.now) spot (option_map rvalue_view condition.now)) }
+    ensures places { OnOk result
+        (map place_view found.new.items ≡ map place_view found.old.items ++ places_of_head function scope.old.items
+        (start_view start.now) spot (option_map rvalue_view condition.now)) }
     ensures scope { OnOk result (scope.new.items ≡ scope.old.items ++ brought_by_start (start_view start.now)) }
 {
     match condition {
@@ -123,7 +130,9 @@ fn add_step(
     step: &Option<TypedStep>,
     found: &mut Vec<Place>,
 ) -> Result<(), AllocError>
-    ensures { OnOk result (map place_view found.new.items ≡ map place_view found.old.items ++ places_of_step function scope.now (option_map step_view step.now)) }
+    ensures { OnOk result
+        (map place_view found.new.items
+        ≡ map place_view found.old.items ++ places_of_step function scope.now (option_map step_view step.now)) }
 {
     match step {
         None => Ok(()),
@@ -150,7 +159,9 @@ fn add_statement(
     statement: &TypedStatement,
     found: &mut Vec<Place>,
 ) -> Result<(), AllocError>
-    ensures { OnOk result (map place_view found.new.items ≡ map place_view found.old.items ++ places_of function scope.now (statement_view statement.now)) }
+    ensures { OnOk result
+        (map place_view found.new.items
+        ≡ map place_view found.old.items ++ places_of function scope.now (statement_view statement.now)) }
 {
     match statement {
         TypedStatement::Block(body) => {
@@ -216,7 +227,9 @@ fn add_statements(
     all: &TypedStatements,
     found: &mut Vec<Place>,
 ) -> Result<(), AllocError>
-    ensures { OnOk result (map place_view found.new.items ≡ map place_view found.old.items ++ places_of_all function outer.items (statements_view all.now)) }
+    ensures { OnOk result
+        (map place_view found.new.items
+        ≡ map place_view found.old.items ++ places_of_all function outer.items (statements_view all.now)) }
 {
     let mut scope = outer;
     let mut left = all;
@@ -269,7 +282,9 @@ fn add_entry(
     function: &TypedFunction,
     found: &mut Vec<Place>,
 ) -> Result<(), AllocError>
-    ensures { OnOk result (map place_view found.new.items ≡ map place_view found.old.items ++ entry_of number (function_view function.now) ∷ []) }
+    ensures { OnOk result
+        (map place_view found.new.items
+        ≡ map place_view found.old.items ++ entry_of number (function_view function.now) ∷ []) }
 {
     found.push(Place {
         spot: function.spot,
@@ -287,7 +302,9 @@ fn add_close(
     function: &TypedFunction,
     found: &mut Vec<Place>,
 ) -> Result<(), AllocError>
-    ensures { OnOk result (map place_view found.new.items ≡ map place_view found.old.items ++ close_of number (function_view function.now)) }
+    ensures { OnOk result
+        (map place_view found.new.items
+        ≡ map place_view found.old.items ++ close_of number (function_view function.now)) }
 {
     if reaches_end(&function.body) {
         let mut scope = parameters(alloc, function)?;
@@ -304,7 +321,9 @@ fn add_function(
     function: &TypedFunction,
     found: &mut Vec<Place>,
 ) -> Result<(), AllocError>
-    ensures { OnOk result (map place_view found.new.items ≡ map place_view found.old.items ++ places_of_function number (function_view function.now)) }
+    ensures { OnOk result
+        (map place_view found.new.items
+        ≡ map place_view found.old.items ++ places_of_function number (function_view function.now)) }
 {
     add_entry(alloc, number, function, found)?;
     add_statements(

@@ -1,4 +1,5 @@
-//! Which automatic variables are kept in memory: those whose address is taken, and those that are written where that may be skipped.
+//! Which automatic variables are kept in memory: those whose address is taken, and those that are written where that
+//! may be skipped.
 
 ghost use Rattle.std.specs.Prelude.{◌≡◌, [], IfOk, OnOk, map};
 ghost use Rattle.std.specs.Option.{option_map};
@@ -277,7 +278,8 @@ fn of_statements(all: &TypedStatements, kept: &mut Vec<u32>) -> Result<(), Alloc
     }
 }
 
-/// The numbers of the automatic variables that a function's body keeps in memory, in text order, some perhaps more than once.
+/// The numbers of the automatic variables that a function's body keeps in memory, in text order, some perhaps more than
+/// once.
 pub fn kept_in_memory(alloc: Global, body: &TypedStatements) -> Result<Vec<u32>, AllocError>
     ensures { IfOk result (λ v. v.items ≡ kept_by_all (statements_view body.now) []) }
 {

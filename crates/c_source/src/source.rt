@@ -16,10 +16,13 @@ use c_type::check;
 use debug_records::SourceErr;
 use std::alloc::Global;
 
-/// The typed program of a source. Refused for the first rule of C that the source breaks: of tokens, else of the grammar, else of names
-/// and types (C11, clauses 6.2 to 6.9, as far as the language goes). The program keeps the laws of accepted programs, and its places and variables fit in
+/// The typed program of a source. Refused for the first rule of C that the source breaks: of tokens, else of the
+/// grammar, else of names
+/// and types (C11, clauses 6.2 to 6.9, as far as the language goes). The program keeps the laws of accepted programs,
+/// and its places and variables fit in
 /// numbers of 32 bits.
-/// Its variables and functions have names, its arrays have elements, there is room for its literals, and what it declares stands within the text.
+/// Its variables and functions have names, its arrays have elements, there is room for its literals, and what it
+/// declares stands within the text.
 #[tactic(auto, using(crate::proofs::Sources::tokens_refused, crate::proofs::Sources::tree_refused, crate::proofs::Sources::program_refused, crate::proofs::Sources::program_found))]
 pub fn program(alloc: Global, text: &[u8]) -> Result<Program, SourceErr>
     ensures program { Answers program_view result (program_of_source text.now) }

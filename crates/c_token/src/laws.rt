@@ -3,7 +3,8 @@
 ghost use Rattle.c_token.specs.Laws.{BreachIsTold, ConstantsAreLongest, PunctuatorsAreLongest, SpelledIsRead, WordsAreLongest};
 ghost use Rattle.c_token.specs.TextsWorked.{AreWorked};
 
-/// A law: a text spells the tokens that are read from it and no others, and breaks the rule that is told, on that line, and no other.
+/// A law: a text spells the tokens that are read from it and no others, and breaks the rule that is told, on that line,
+/// and no other.
 pub fn a_text_has_one_reading()
     ensures spelled { SpelledIsRead }
     ensures broken { BreachIsTold }

@@ -75,7 +75,8 @@ pub enum Keyword {
     ThreadLocal,
 }
 
-/// The value of a constant and its type: `int`, `unsigned int`, `long` or `unsigned long` (6.4.4.1), which all have 32 bits.
+/// The value of a constant and its type: `int`, `unsigned int`, `long` or `unsigned long` (6.4.4.1), which all have 32
+/// bits.
 #[derive(Clone, Copy, PartialEq, Eq)]
 pub struct Constant {
     pub value: u32,

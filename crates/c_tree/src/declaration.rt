@@ -15,7 +15,8 @@ pub struct Declaration {
     pub declarators: Vec<Declarator>,
 }
 
-/// A declarator of an object with its initializer: the extent reaches from its first `*`, or its name, to its last token.
+/// A declarator of an object with its initializer: the extent reaches from its first `*`, or its name, to its last
+/// token.
 #[derive(Drop)]
 pub struct Declarator {
     pub extent: Extent,
@@ -45,7 +46,8 @@ pub enum Initializer {
     List(Vec<Initializer>),
 }
 
-/// A parameter. Its declarator's extent reaches from the token behind the specifiers to its last token, or is that first token's where the declarator has neither a name nor brackets.
+/// A parameter. Its declarator's extent reaches from the token behind the specifiers to its last token, or is that
+/// first token's where the declarator has neither a name nor brackets.
 #[derive(Drop)]
 pub struct Parameter {
     pub extent: Extent,
@@ -56,7 +58,8 @@ pub struct Parameter {
     pub brackets: Brackets,
 }
 
-/// A function's declaration, or with a body its definition. The extent is its declarator's, from its first `*`, or its name, to the parenthesis behind the parameters.
+/// A function's declaration, or with a body its definition. The extent is its declarator's, from its first `*`, or its
+/// name, to the parenthesis behind the parameters.
 #[derive(Drop)]
 pub struct Function {
     pub extent: Extent,

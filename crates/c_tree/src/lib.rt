@@ -1,6 +1,7 @@
 //! Trees of C sources.
 //!
-//! A tree is what the grammar reads from the tokens, before names and types are looked at. A program is an accepted tree, with every name resolved and every type known.
+//! A tree is what the grammar reads from the tokens, before names and types are looked at. A program is an accepted
+//! tree, with every name resolved and every type known.
 #![tactic(auto)]
 
 mod declaration;

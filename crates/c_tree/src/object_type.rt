@@ -28,7 +28,9 @@ pub enum ValueType {
     Pointer(ObjectType),
 }
 
-/// An object: a named one of static storage by its number among those, a named one of automatic storage by its number among those, or a string literal by its number among the literals that are objects, each numbered from 0 by position.
+/// An object: a named one of static storage by its number among those, a named one of automatic storage by its number
+/// among those, or a string literal by its number among the literals that are objects, each numbered from 0 by
+/// position.
 #[derive(Clone, Copy, PartialEq, Eq)]
 pub enum Object {
     Static(u32),

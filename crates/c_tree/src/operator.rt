@@ -2,7 +2,8 @@
 
 use crate::typed_expression::Arithmetic;
 
-/// An operator between two operands that associates to the left, but for the comma (ISO/IEC 9899:2011, 6.5.5 to 6.5.14).
+/// An operator between two operands that associates to the left, but for the comma (ISO/IEC 9899:2011, 6.5.5 to
+/// 6.5.14).
 #[derive(Clone, Copy, PartialEq, Eq)]
 pub enum BinaryOperator {
     /// `*`

@@ -38,7 +38,8 @@ pub struct AutomaticVariable {
     pub spot: Spot,
     /// A scalar or an array.
     pub of: ObjectType,
-    /// It is an array, its address is taken, or it is written where that may be skipped: within the right operand of `&&` or `||`, or an arm of `?:`.
+    /// It is an array, its address is taken, or it is written where that may be skipped: within the right operand of
+    /// `&&` or `||`, or an arm of `?:`.
     pub in_memory: bool,
 }
 

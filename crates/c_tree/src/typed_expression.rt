@@ -7,7 +7,8 @@ ghost use Rattle.c_tree.specs.declared.typed_expression.Rvalue.{size-Rvalue};
 use crate::object_type::{Object, ObjectType, Scalar};
 use crate::types::IntegerType;
 
-/// An operator of integer arithmetic, on two operands of one type, but that each operand of a shift has a type of its own (6.5.5 to 6.5.7, 6.5.10 to 6.5.12).
+/// An operator of integer arithmetic, on two operands of one type, but that each operand of a shift has a type of its
+/// own (6.5.5 to 6.5.7, 6.5.10 to 6.5.12).
 #[derive(Clone, Copy, PartialEq, Eq)]
 pub enum Arithmetic {
     /// `*`
@@ -178,7 +179,8 @@ pub enum Rvalue {
         target: Box<Lvalue>,
         value: Box<Rvalue>,
     },
-    /// `a+=b` on integers: the object is found and read, then the right side comes, then the arithmetic in its type, and the result is converted to the target's type.
+    /// `a+=b` on integers: the object is found and read, then the right side comes, then the arithmetic in its type,
+    /// and the result is converted to the target's type.
     Update {
         operator: Arithmetic,
         target_type: IntegerType,

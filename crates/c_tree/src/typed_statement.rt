@@ -15,7 +15,8 @@ pub enum Initial {
     Scalar(Rvalue),
     /// Values of the element type, for the first elements in order. The others are zero.
     Elements(Vec<Rvalue>),
-    /// The bytes of a string literal, by its number among those that initialise automatic arrays, as many as there is room for. The other elements are zero.
+    /// The bytes of a string literal, by its number among those that initialise automatic arrays, as many as there is
+    /// room for. The other elements are zero.
     Literal(u32),
 }
 

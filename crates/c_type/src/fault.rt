@@ -5,7 +5,8 @@ ghost use Rattle.c_type.specs.Faults.{comes_before, earlier, first_fault};
 
 use c_type_expressions::Fault;
 
-/// Whether a fault comes before another: it ends at an earlier token, or at the same one with a lesser code, or with the same code in a smaller construct.
+/// Whether a fault comes before another: it ends at an earlier token, or at the same one with a lesser code, or with
+/// the same code in a smaller construct.
 fn comes_before(one: Fault, other: Fault) -> bool
     ensures { result ≡ comes_before one other }
 {

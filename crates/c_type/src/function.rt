@@ -60,7 +60,9 @@ fn look_at_sizes(
     progress: &mut Progress,
     parameters: &[Parameter],
 ) -> Result<(), AllocError>
-    ensures { OnOk result (progress_view progress.new ≡ parameter_sizes (map parameter_view parameters.now) (progress_view progress.old)) }
+    ensures { OnOk result
+        (progress_view progress.new
+        ≡ parameter_sizes (map parameter_view parameters.now) (progress_view progress.old)) }
 {
     for parameter in parameters {
         look_at_size(alloc, progress, parameter.extent, &parameter.brackets)?;
@@ -75,7 +77,9 @@ fn look_at_size(
     extent: Extent,
     brackets: &Brackets,
 ) -> Result<(), AllocError>
-    ensures { OnOk result (progress_view progress.new ≡ parameter_size extent (brackets_view brackets.now) (progress_view progress.old)) }
+    ensures { OnOk result
+        (progress_view progress.new
+        ≡ parameter_size extent (brackets_view brackets.now) (progress_view progress.old)) }
 {
     match brackets {
         Brackets::Absent | Brackets::Empty => Ok(()),
@@ -93,7 +97,10 @@ fn declare_parameter(
     parameter: &Parameter,
     identifier: &Identifier,
 ) -> Result<(), AllocError>
-    ensures { OnOk result (progress_view progress.new ≡ parameter_named parameter.now.extent (parameter_type (parameter_view parameter.now)) (identifier_view identifier.now) (progress_view progress.old)) }
+    ensures { OnOk result
+        (progress_view progress.new ≡ parameter_named parameter.now.extent
+        (parameter_type (parameter_view parameter.now)) (identifier_view identifier.now)
+        (progress_view progress.old)) }
 {
     let of = ObjectType::Scalar(parameter_type(parameter)?);
     let object = Object::Automatic(next_automatic(progress)?);
@@ -112,7 +119,9 @@ fn declare_parameters(
     progress: &mut Progress,
     parameters: &[Parameter],
 ) -> Result<(), AllocError>
-    ensures { OnOk result (progress_view progress.new ≡ parameters_met (map parameter_view parameters.now) (progress_view progress.old)) }
+    ensures { OnOk result
+        (progress_view progress.new
+        ≡ parameters_met (map parameter_view parameters.now) (progress_view progress.old)) }
 {
     for parameter in parameters {
         declare_if_named(alloc, progress, parameter)?;
@@ -126,7 +135,8 @@ fn declare_if_named(
     progress: &mut Progress,
     parameter: &Parameter,
 ) -> Result<(), AllocError>
-    ensures { OnOk result (progress_view progress.new ≡ parameter_met (parameter_view parameter.now) (progress_view progress.old)) }
+    ensures { OnOk result
+        (progress_view progress.new ≡ parameter_met (parameter_view parameter.now) (progress_view progress.old)) }
 {
     match &parameter.identifier {
         None => Ok(()),
@@ -150,7 +160,9 @@ fn signature(
     numbers: &IndexMap<String, u32>,
     f: &Function,
 ) -> Result<Signature, AllocError>
-    ensures { IfOk result (λ g. (names : List (List ℕ)) → IsNumbering numbers.now names → signature_view g ≡ signature_of names (function_view f.now)) }
+    ensures { IfOk result (λ g.
+        (names : List (List ℕ)) → IsNumbering numbers.now names
+        → signature_view g ≡ signature_of names (function_view f.now)) }
 {
     let callee = match numbers.get(f.identifier.name.as_str()) {
         None => None,
@@ -184,7 +196,8 @@ fn agrees(
     signature: &Signature,
     meaning: Meaning,
 ) -> bool
-    ensures { result ≡ agrees_with before (function_view f.now) (signature_view signature.now) meaning (progress_view progress.now) }
+    ensures { result ≡ agrees_with before (function_view f.now) (signature_view signature.now) meaning
+        (progress_view progress.now) }
 {
     match meaning {
         Meaning::Function(number) => match progress.names.signatures.get(number as usize) {
@@ -203,7 +216,9 @@ fn declare_name(
     f: &Function,
     signature: Signature,
 ) -> Result<(), AllocError>
-    ensures { OnOk result (progress_view progress.new ≡ name_met before (function_view f.now) (signature_view signature) (progress_view progress.old)) }
+    ensures { OnOk result
+        (progress_view progress.new
+        ≡ name_met before (function_view f.now) (signature_view signature) (progress_view progress.old)) }
 {
     let name = f.identifier.name.as_str();
     if f.body.is_some() && is_library_name(name) {
@@ -227,7 +242,10 @@ fn defined(
     f: &Function,
     block: &Block,
 ) -> Result<TypedFunction, AllocError>
-    ensures { IfOk result (λ made. (g : SignatureTree) → g.result ≡ result_type f.now.base f.now.stars → means (typed_view made ∷ []) (progress_view progress.new) ≡ body_met (function_view f.now) g (block_view block.now) (progress_view progress.old)) }
+    ensures { IfOk result (λ made.
+        (g : SignatureTree) → g.result ≡ result_type f.now.base f.now.stars
+        → means (typed_view made ∷ []) (progress_view progress.new) ≡ body_met (function_view f.now) g
+        (block_view block.now) (progress_view progress.old)) }
 {
     let result = result_type(f.base, f.stars);
     let first_variable = numbered(progress.automatics.len())?;
@@ -262,7 +280,8 @@ fn look_at_parameters(
     progress: &mut Progress,
     f: &Function,
 ) -> Result<(), AllocError>
-    ensures { OnOk result (means [] (progress_view progress.new) ≡ declared_only (function_view f.now) (progress_view progress.old)) }
+    ensures { OnOk result
+        (means [] (progress_view progress.new) ≡ declared_only (function_view f.now) (progress_view progress.old)) }
 {
     let count = progress.automatics.len();
     progress.open(alloc)?;
@@ -280,7 +299,10 @@ pub fn function(
     before: usize,
     f: &Function,
 ) -> Result<Option<TypedFunction>, AllocError>
-    ensures { IfOk result (λ made. (names : List (List ℕ)) → IsNumbering numbers.now names → means (option_to_list (option_map typed_view made)) (progress_view progress.new) ≡ function_met names before (function_view f.now) (progress_view progress.old)) }
+    ensures { IfOk result (λ made.
+        (names : List (List ℕ)) → IsNumbering numbers.now names
+        → means (option_to_list (option_map typed_view made)) (progress_view progress.new) ≡ function_met names
+        before (function_view f.now) (progress_view progress.old)) }
 {
     look_at_sizes(alloc, progress, &f.parameters)?;
     let signature = signature(alloc, numbers, f)?;

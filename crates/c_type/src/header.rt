@@ -89,7 +89,9 @@ pub fn add_function(
     name: &str,
     signature: Signature,
 ) -> Result<(), AllocError>
-    ensures { OnOk result (progress_view progress.new ≡ with_function name.now (signature_view signature) (progress_view progress.old)) }
+    ensures { OnOk result
+        (progress_view progress.new
+        ≡ with_function name.now (signature_view signature) (progress_view progress.old)) }
 {
     let number = numbered(progress.names.signatures.len())?;
     progress.names.signatures.push(signature)?;
@@ -109,7 +111,8 @@ enum Standing {
 
 /// How a library function goes with what its name means.
 fn stands(progress: &Progress, name: &str, signature: &Signature) -> Standing
-    ensures { result ≡ stands (signature_view signature.now) (progress_view progress.now).names.signatures (meaning_of (progress_view progress.now).names name.now) }
+    ensures { result ≡ stands (signature_view signature.now) (progress_view progress.now).names.signatures
+        (meaning_of (progress_view progress.now).names name.now) }
 {
     match progress.names.meaning(name) {
         None => Standing::New,

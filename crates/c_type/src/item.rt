@@ -22,7 +22,9 @@ fn number(
     count: u32,
     name: &str,
 ) -> Result<(), AllocError>
-    ensures { OnOk result ((names : List (List ℕ)) → length names ≡ count → IsNumbering numbers.old names → IsNumbering numbers.new (names ++ name.now ∷ [])) }
+    ensures { OnOk result
+        ((names : List (List ℕ)) → length names ≡ count → IsNumbering numbers.old names
+        → IsNumbering numbers.new (names ++ name.now ∷ [])) }
 {
     if numbers.get(name).is_some() {
         return Ok(());
@@ -39,7 +41,9 @@ fn number_item(
     count: usize,
     item: &Item,
 ) -> Result<usize, AllocError>
-    ensures numbering { OnOk result ((names : List (List ℕ)) → length names ≡ count → IsNumbering numbers.old names → IsNumbering numbers.new (names ++ defined_by (item_view item.now))) }
+    ensures numbering { OnOk result
+        ((names : List (List ℕ)) → length names ≡ count → IsNumbering numbers.old names
+        → IsNumbering numbers.new (names ++ defined_by (item_view item.now))) }
     ensures counted { IfOk result (λ n. n ≡ count + length (defined_by (item_view item.now))) }
 {
     match item {
@@ -96,7 +100,10 @@ fn item(
     functions: &mut Vec<TypedFunction>,
     item: &Item,
 ) -> Result<(), AllocError>
-    ensures { OnOk result ((names : List (List ℕ)) → IsNumbering numbers.now names → means (map typed_view functions.new.items) (progress_view progress.new) ≡ behind_item names (map typed_view functions.old.items) (item_view item.now) (progress_view progress.old)) }
+    ensures { OnOk result
+        ((names : List (List ℕ)) → IsNumbering numbers.now names → means (map typed_view functions.new.items)
+        (progress_view progress.new) ≡ behind_item names (map typed_view functions.old.items)
+        (item_view item.now) (progress_view progress.old)) }
 {
     match item {
         Item::Include { spot, header } => include(alloc, progress, *spot, *header),
@@ -118,7 +125,10 @@ pub fn items(
     numbers: &IndexMap<String, u32>,
     items: &[Item],
 ) -> Result<Vec<TypedFunction>, AllocError>
-    ensures { IfOk result (λ fs. (names : List (List ℕ)) → IsNumbering numbers.now names → means (map typed_view fs.items) (progress_view progress.new) ≡ items_met names [] (map item_view items.now) (progress_view progress.old)) }
+    ensures { IfOk result (λ fs.
+        (names : List (List ℕ)) → IsNumbering numbers.now names
+        → means (map typed_view fs.items) (progress_view progress.new) ≡ items_met names []
+        (map item_view items.now) (progress_view progress.old)) }
 {
     let mut functions = Vec::new(alloc);
     for one in items {

@@ -75,9 +75,11 @@ fn misdeclared(item: &Item) -> Option<u32>
     }
 }
 
-/// The line on which there is no `int main(void)`: that of a `main` of another type, or the first. None where there is one.
+/// The line on which there is no `int main(void)`: that of a `main` of another type, or the first. None where there is
+/// one.
 pub fn no_main(items: &[Item]) -> Option<u32>
-    ensures { option_map (λ line. (NO_MAIN, line)) result ≡ main_refusal (map item_view items.now) (main_definition (map item_view items.now)) }
+    ensures { option_map (λ line. (NO_MAIN, line)) result ≡ main_refusal (map item_view items.now)
+        (main_definition (map item_view items.now)) }
 {
     if let Some(f) = definition(items) {
         return misdeclared_line(f);

@@ -18,7 +18,8 @@ use debug_records::{Code, SourceErr};
 use indexmap::IndexMap;
 use std::alloc::Global;
 
-/// Why the first three steps refuse a source, if they do: names and types, functions that are called and never defined, and `main`.
+/// Why the first three steps refuse a source, if they do: names and types, functions that are called and never defined,
+/// and `main`.
 fn names_refusal(progress: &Progress, tree: &Tree) -> Option<(Code, u32)>
     ensures { result ≡ names_refusal (tree_view tree.now) (progress_view progress.now) }
 {
@@ -44,7 +45,8 @@ fn main_number(numbers: &IndexMap<String, u32>) -> u32
 
 /// The program of what is found.
 fn program(functions: Vec<TypedFunction>, main: u32, progress: Progress, weight: u64) -> Program
-    ensures { program_view result ≡ program_with (map function_view functions.items) main (progress_view progress) (map automatic_view progress.automatics.items) weight }
+    ensures { program_view result ≡ program_with (map function_view functions.items) main (progress_view progress)
+        (map automatic_view progress.automatics.items) weight }
 {
     let found = progress.found;
     Program {
@@ -70,7 +72,8 @@ fn within_limits(alloc: Global, program: Program) -> Result<Program, SourceErr>
 
 /// The typed program of a tree.
 ///
-/// Refused by the first of five steps that finds a reason: the first fault in names and types; the first call of a function that is never defined; that there is no `int main(void)`;
+/// Refused by the first of five steps that finds a reason: the first fault in names and types; the first call of a
+/// function that is never defined; that there is no `int main(void)`;
 /// the limits of each function in text order; the limits of the program.
 pub fn check(alloc: Global, tree: Tree) -> Result<Program, SourceErr>
     ensures { Answers program_view result (checked (tree_view tree)) }

@@ -38,7 +38,8 @@ fn mark(
     f: &TypedFunction,
     automatics: &mut [AutomaticVariable],
 ) -> Result<(), AllocError>
-    ensures { OnOk result (map automatic_view automatics.new ≡ with_kept (function_view f.now) (map automatic_view automatics.old)) }
+    ensures { OnOk result
+        (map automatic_view automatics.new ≡ with_kept (function_view f.now) (map automatic_view automatics.old)) }
 {
     let numbers = kept_in_memory(alloc, &f.body)?;
     keep_all(automatics, &numbers);
@@ -55,14 +56,16 @@ fn variables_of(automatics: &[AutomaticVariable], first: u32, count: u32) -> &[A
     own
 }
 
-/// Checks the limits of a function, one of the program's by its number. What it keeps in memory is marked, once its weight is known to be within the limit.
+/// Checks the limits of a function, one of the program's by its number. What it keeps in memory is marked, once its
+/// weight is known to be within the limit.
 fn check_function(
     alloc: Global,
     number: usize,
     f: &TypedFunction,
     automatics: &mut [AutomaticVariable],
 ) -> Result<(), SourceErr>
-    ensures { Marks result (map automatic_view automatics.new) (behind_function number (function_view f.now) (map automatic_view automatics.old)) }
+    ensures { Marks result (map automatic_view automatics.new)
+        (behind_function number (function_view f.now) (map automatic_view automatics.old)) }
 {
     if f.weight > 3000 {
         return Err(SourceErr::Refused(Code::FUNCTION_WEIGHT, f.spot.line));
@@ -77,7 +80,8 @@ fn check_function(
     Ok(())
 }
 
-/// Checks the limits of functions in text order: the weight of each, the bytes of its memory objects, how many there are, and its parameters. What they keep in memory is marked.
+/// Checks the limits of functions in text order: the weight of each, the bytes of its memory objects, how many there
+/// are, and its parameters. What they keep in memory is marked.
 ///
 /// A limit that is passed is a refusal on the line of the function's name.
 pub fn check_functions(
@@ -85,7 +89,8 @@ pub fn check_functions(
     functions: &[TypedFunction],
     automatics: &mut [AutomaticVariable],
 ) -> Result<(), SourceErr>
-    ensures { Marks result (map automatic_view automatics.new) (behind_functions 0 (map function_view functions.now) (map automatic_view automatics.old)) }
+    ensures { Marks result (map automatic_view automatics.new)
+        (behind_functions 0 (map function_view functions.now) (map automatic_view automatics.old)) }
 {
     for number in 0..functions.len() {
         check_function(alloc, number, &functions[number], automatics)?;
@@ -103,7 +108,8 @@ fn objects_room(program: &Program) -> u64
     plus(plus(named, literals), arrays)
 }
 
-/// The limit that a program passes, if it passes one: its weight, the bytes of its static objects, or the visible variables at its places.
+/// The limit that a program passes, if it passes one: its weight, the bytes of its static objects, or the visible
+/// variables at its places.
 pub fn program_breach(alloc: Global, program: &Program) -> Result<Option<Code>, AllocError>
     ensures { IfOk result (λ breach. breach ≡ program_breach (program_view program.now)) }
 {

@@ -48,7 +48,9 @@ fn add_variable<'a>(
     names: &mut Vec<&'a str>,
     variable: usize,
 ) -> Result<(), AllocError>
-    ensures { OnOk result (names_view names.new.items ≡ behind_one (map automatic_view automatics.now) variable (names_view names.old.items)) }
+    ensures { OnOk result
+        (names_view names.new.items
+        ≡ behind_one (map automatic_view automatics.now) variable (names_view names.old.items)) }
 {
     match automatics.get(variable) {
         None => add_name(names, ""),
@@ -62,8 +64,13 @@ fn at_declared<'a>(
     names: &mut Vec<&'a str>,
     all: &[Declared],
 ) -> Result<u64, AllocError>
-    ensures count { IfOk result (λ n. n ≡ capped (at_declared (map automatic_view automatics.now) (map declared_view all.now) (names_view names.old.items))) }
-    ensures names { OnOk result (names_view names.new.items ≡ behind_all (map automatic_view automatics.now) (map declared_view all.now) (names_view names.old.items)) }
+    ensures count { IfOk result (λ n.
+        n ≡ capped
+        (at_declared (map automatic_view automatics.now) (map declared_view all.now)
+        (names_view names.old.items))) }
+    ensures names { OnOk result
+        (names_view names.new.items ≡ behind_all (map automatic_view automatics.now) (map declared_view all.now)
+        (names_view names.old.items)) }
 {
     let mut total = 0;
     for one in all {
@@ -79,8 +86,12 @@ fn at_start<'a>(
     names: &mut Vec<&'a str>,
     start: &TypedStart,
 ) -> Result<u64, AllocError>
-    ensures count { IfOk result (λ n. n ≡ capped (at_start (map automatic_view automatics.now) (start_view start.now) (names_view names.old.items))) }
-    ensures names { OnOk result (names_view names.new.items ≡ behind_start (map automatic_view automatics.now) (start_view start.now) (names_view names.old.items)) }
+    ensures count { IfOk result (λ n.
+        n ≡ capped
+        (at_start (map automatic_view automatics.now) (start_view start.now) (names_view names.old.items))) }
+    ensures names { OnOk result
+        (names_view names.new.items
+        ≡ behind_start (map automatic_view automatics.now) (start_view start.now) (names_view names.old.items)) }
 {
     match start {
         TypedStart::Nothing => Ok(0),
@@ -91,7 +102,8 @@ fn at_start<'a>(
 
 /// The same at the condition of a `for`, or at its head.
 fn at_head(condition: &Option<Rvalue>, inner: u64, outer: u64) -> u64
-    ensures { (xs ys : List (List ℕ)) → inner ≡ length xs → outer ≡ length ys → result ≡ capped (at_head (option_map rvalue_view condition.now) xs ys) }
+    ensures { (xs ys : List (List ℕ)) → inner ≡ length xs → outer ≡ length ys
+        → result ≡ capped (at_head (option_map rvalue_view condition.now) xs ys) }
 {
     match condition {
         Some(_) => inner,
@@ -116,8 +128,13 @@ fn at_statement<'a>(
     names: &mut Vec<&'a str>,
     statement: &TypedStatement,
 ) -> Result<u64, AllocError>
-    ensures count { IfOk result (λ n. n ≡ capped (at_statement (map automatic_view automatics.now) (statement_view statement.now) (names_view names.old.items))) }
-    ensures names { OnOk result (names_view names.new.items ≡ behind_statement (map automatic_view automatics.now) (statement_view statement.now) (names_view names.old.items)) }
+    ensures count { IfOk result (λ n.
+        n ≡ capped
+        (at_statement (map automatic_view automatics.now) (statement_view statement.now)
+        (names_view names.old.items))) }
+    ensures names { OnOk result
+        (names_view names.new.items ≡ behind_statement (map automatic_view automatics.now)
+        (statement_view statement.now) (names_view names.old.items)) }
 {
     let outer = names.len() as u64;
     match statement {
@@ -172,7 +189,10 @@ fn at_inner<'a>(
     names: &mut Vec<&'a str>,
     statement: &TypedStatement,
 ) -> Result<u64, AllocError>
-    ensures count { IfOk result (λ n. n ≡ capped (at_statement (map automatic_view automatics.now) (statement_view statement.now) (names_view names.old.items))) }
+    ensures count { IfOk result (λ n.
+        n ≡ capped
+        (at_statement (map automatic_view automatics.now) (statement_view statement.now)
+        (names_view names.old.items))) }
     ensures names { OnOk result (names_view names.new.items ≡ names_view names.old.items) }
 {
     let outer = names.len();
@@ -188,8 +208,13 @@ fn at_statements<'a>(
     names: &mut Vec<&'a str>,
     all: &TypedStatements,
 ) -> Result<u64, AllocError>
-    ensures count { IfOk result (λ n. n ≡ capped (at_statements (map automatic_view automatics.now) (statements_view all.now) (names_view names.old.items))) }
-    ensures names { OnOk result (names_view names.new.items ≡ behind_statements (map automatic_view automatics.now) (statements_view all.now) (names_view names.old.items)) }
+    ensures count { IfOk result (λ n.
+        n ≡ capped
+        (at_statements (map automatic_view automatics.now) (statements_view all.now)
+        (names_view names.old.items))) }
+    ensures names { OnOk result
+        (names_view names.new.items ≡ behind_statements (map automatic_view automatics.now)
+        (statements_view all.now) (names_view names.old.items)) }
 {
     let mut total = 0;
     let mut left = all;
@@ -213,7 +238,10 @@ fn at_block<'a>(
     names: &mut Vec<&'a str>,
     all: &TypedStatements,
 ) -> Result<u64, AllocError>
-    ensures count { IfOk result (λ n. n ≡ capped (at_statements (map automatic_view automatics.now) (statements_view all.now) (names_view names.old.items))) }
+    ensures count { IfOk result (λ n.
+        n ≡ capped
+        (at_statements (map automatic_view automatics.now) (statements_view all.now)
+        (names_view names.old.items))) }
     ensures names { OnOk result (names_view names.new.items ≡ names_view names.old.items) }
 {
     let outer = names.len();
@@ -228,7 +256,9 @@ fn add_parameters<'a>(
     names: &mut Vec<&'a str>,
     f: &TypedFunction,
 ) -> Result<(), AllocError>
-    ensures { OnOk result (names_view names.new.items ≡ behind_scope (map automatic_view automatics.now) (parameters_of (function_view f.now)) (names_view names.old.items)) }
+    ensures { OnOk result
+        (names_view names.new.items ≡ behind_scope (map automatic_view automatics.now)
+        (parameters_of (function_view f.now)) (names_view names.old.items)) }
 {
     for i in 0..f.parameters as usize {
         add_variable(automatics, names, f.first_variable as usize + i)?;

@@ -74,7 +74,8 @@ pub fn weight(e: &Expression) -> u64
 /// What an operand of a weight weighs with operators behind it.
 #[cycle(weight)]
 fn operations_weight(operand: u64, operations: &[(BinaryOperator, Expression)]) -> u64
-    ensures { (e : ExpressionTree) → operand ≡ capped (weight_of e) → result ≡ capped (weight_of (fold operation e (map operation_view operations.now))) }
+    ensures { (e : ExpressionTree) → operand ≡ capped (weight_of e)
+        → result ≡ capped (weight_of (fold operation e (map operation_view operations.now))) }
 {
     let mut total = operand;
     for (_, right) in operations {
@@ -86,7 +87,8 @@ fn operations_weight(operand: u64, operations: &[(BinaryOperator, Expression)]) 
 /// What an operand of a weight weighs with commas behind it.
 #[cycle(weight)]
 fn commas_weight(operand: u64, rest: &[Expression]) -> u64
-    ensures { (e : ExpressionTree) → operand ≡ capped (weight_of e) → result ≡ capped (weight_of (fold Comma e (map expression_view rest.now))) }
+    ensures { (e : ExpressionTree) → operand ≡ capped (weight_of e)
+        → result ≡ capped (weight_of (fold Comma e (map expression_view rest.now))) }
 {
     let mut total = operand;
     for e in rest {
@@ -98,7 +100,8 @@ fn commas_weight(operand: u64, rest: &[Expression]) -> u64
 /// What an operand with suffixes behind it weighs: the operand has a weight, and may be a name.
 #[cycle(weight)]
 fn suffixes_weight(operand: u64, is_name: bool, suffixes: &[Suffix]) -> u64
-    ensures { (e : ExpressionTree) → operand ≡ capped (weight_of e) → is_name ≡ named e → result ≡ capped (weight_of (fold suffixed e (map suffix_view suffixes.now))) }
+    ensures { (e : ExpressionTree) → operand ≡ capped (weight_of e) → is_name ≡ named e
+        → result ≡ capped (weight_of (fold suffixed e (map suffix_view suffixes.now))) }
 {
     let mut total = operand;
     let mut is_named = is_name;
@@ -112,7 +115,8 @@ fn suffixes_weight(operand: u64, is_name: bool, suffixes: &[Suffix]) -> u64
 /// What an operand with a suffix behind it weighs.
 #[cycle(weight)]
 fn suffix_weight(operand: u64, is_name: bool, suffix: &Suffix) -> u64
-    ensures { (e : ExpressionTree) → operand ≡ capped (weight_of e) → is_name ≡ named e → result ≡ capped (weight_of (suffixed e (suffix_view suffix.now))) }
+    ensures { (e : ExpressionTree) → operand ≡ capped (weight_of e) → is_name ≡ named e
+        → result ≡ capped (weight_of (suffixed e (suffix_view suffix.now))) }
 {
     match suffix {
         Suffix::Index { index, .. } => plus(plus(1, operand), weight(index)),

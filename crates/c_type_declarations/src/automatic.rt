@@ -36,7 +36,9 @@ pub fn add_automatic(
     identifier: &Identifier,
     of: ObjectType,
 ) -> Result<(), AllocError>
-    ensures { OnOk result (progress_view progress.new ≡ with_automatic (identifier_view identifier.now) of (progress_view progress.old)) }
+    ensures { OnOk result
+        (progress_view progress.new
+        ≡ with_automatic (identifier_view identifier.now) of (progress_view progress.old)) }
 {
     let name = String::from_str(alloc, &identifier.name)?;
     progress.automatics.push(AutomaticVariable {
@@ -62,7 +64,9 @@ fn declared_as(
     declarator: &Declarator,
     of: ObjectType,
 ) -> Result<Declared, AllocError>
-    ensures { IfOk result (λ d. means (declared_view d) (progress_view progress.new) ≡ automatic_of_type (declarator_view declarator.now) of (progress_view progress.old)) }
+    ensures { IfOk result (λ d.
+        means (declared_view d) (progress_view progress.new) ≡ automatic_of_type (declarator_view declarator.now) of
+        (progress_view progress.old)) }
 {
     let variable = given!(next_automatic(progress));
     let identifier = &declarator.identifier;
@@ -95,7 +99,9 @@ fn automatic(
     base: IntegerType,
     declarator: &Declarator,
 ) -> Result<Declared, AllocError>
-    ensures { IfOk result (λ d. means (declared_view d) (progress_view progress.new) ≡ automatic_met base (declarator_view declarator.now) (progress_view progress.old)) }
+    ensures { IfOk result (λ d.
+        means (declared_view d) (progress_view progress.new) ≡ automatic_met base (declarator_view declarator.now)
+        (progress_view progress.old)) }
 {
     let scalar = Scalar {
         base,
@@ -112,7 +118,9 @@ pub fn declaration(
     progress: &mut Progress,
     declaration: &Declaration,
 ) -> Result<Vec<Declared>, AllocError>
-    ensures { IfOk result (λ all. means (map declared_view all.items) (progress_view progress.new) ≡ declaration_met (declaration_view declaration.now) (progress_view progress.old)) }
+    ensures { IfOk result (λ all.
+        means (map declared_view all.items) (progress_view progress.new) ≡ declaration_met
+        (declaration_view declaration.now) (progress_view progress.old)) }
 {
     let mut all = Vec::new(alloc);
     for declarator in &declaration.declarators {

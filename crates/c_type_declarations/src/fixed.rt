@@ -102,7 +102,9 @@ fn fill(
     extent: Extent,
     value: Option<Value>,
 ) -> Result<(), AllocError>
-    ensures { OnOk result (means (contents_view contents.new) (progress_view progress.new) ≡ filled scalar extent (option_map value_view value) (contents_view contents.old) (progress_view progress.old)) }
+    ensures { OnOk result
+        (means (contents_view contents.new) (progress_view progress.new) ≡ filled scalar extent
+        (option_map value_view value) (contents_view contents.old) (progress_view progress.old)) }
 {
     match value {
         None => put_constant(contents, scalar, Constancy::Varies),
@@ -123,7 +125,9 @@ fn fills(
     extent: Extent,
     initializers: &[Initializer],
 ) -> Result<Contents, AllocError>
-    ensures { IfOk result (λ c. means (contents_view c) (progress_view progress.new) ≡ fills_met element extent (chain (map initializer_view initializers.now)) nothing (progress_view progress.old)) }
+    ensures { IfOk result (λ c.
+        means (contents_view c) (progress_view progress.new) ≡ fills_met element extent
+        (chain (map initializer_view initializers.now)) nothing (progress_view progress.old)) }
 {
     let mut contents = nothing(alloc);
     for one in initializers {
@@ -135,7 +139,8 @@ fn fills(
 
 /// What a literal puts into an array: its bytes with the final zero, as far as there is room.
 fn literal_contents(alloc: Global, literal: Written<'_>, size: u32) -> Result<Contents, AllocError>
-    ensures { IfOk result (λ c. contents_view c ≡ record { bytes = literal_bytes size literal.entry.bytes.now; relocations = [] }) }
+    ensures { IfOk result (λ c.
+        contents_view c ≡ record { bytes = literal_bytes size literal.entry.bytes.now; relocations = [] }) }
 {
     let mut bytes = Vec::from_slice(alloc, literal.bytes)?;
     bytes.push(0)?;
@@ -156,7 +161,9 @@ fn list(
     extent: Extent,
     initializer: &Initializer,
 ) -> Result<Contents, AllocError>
-    ensures { IfOk result (λ c. means (contents_view c) (progress_view progress.new) ≡ list_contents element size extent (initializer_view initializer.now) (progress_view progress.old)) }
+    ensures { IfOk result (λ c.
+        means (contents_view c) (progress_view progress.new) ≡ list_contents element size extent
+        (initializer_view initializer.now) (progress_view progress.old)) }
 {
     match initializer {
         Initializer::List(initializers) => {
@@ -179,7 +186,9 @@ fn put(
     extent: Extent,
     initializer: &Initializer,
 ) -> Result<Contents, AllocError>
-    ensures { IfOk result (λ c. means (contents_view c) (progress_view progress.new) ≡ put_met of extent (initializer_view initializer.now) (progress_view progress.old)) }
+    ensures { IfOk result (λ c.
+        means (contents_view c) (progress_view progress.new) ≡ put_met of extent (initializer_view initializer.now)
+        (progress_view progress.old)) }
 {
     match of {
         ObjectType::Scalar(of) => {
@@ -206,7 +215,9 @@ fn held_at_first(
     extent: Extent,
     initializer: &Option<Initializer>,
 ) -> Result<Contents, AllocError>
-    ensures { IfOk result (λ c. means (contents_view c) (progress_view progress.new) ≡ contents_met of extent (option_map initializer_view initializer.now) (progress_view progress.old)) }
+    ensures { IfOk result (λ c.
+        means (contents_view c) (progress_view progress.new) ≡ contents_met of extent
+        (option_map initializer_view initializer.now) (progress_view progress.old)) }
 {
     match initializer {
         Some(initializer) => put(alloc, progress, of, extent, initializer),
@@ -222,7 +233,9 @@ fn add_static(
     of: ObjectType,
     contents: Contents,
 ) -> Result<(), AllocError>
-    ensures { OnOk result (progress_view progress.new ≡ with_static (identifier_view identifier.now) of (contents_view contents) (progress_view progress.old)) }
+    ensures { OnOk result
+        (progress_view progress.new
+        ≡ with_static (identifier_view identifier.now) of (contents_view contents) (progress_view progress.old)) }
 {
     let name = String::from_str(alloc, &identifier.name)?;
     progress.statics.push(StaticVariable {
@@ -249,7 +262,9 @@ fn declared_as(
     declarator: &Declarator,
     of: ObjectType,
 ) -> Result<(), AllocError>
-    ensures { OnOk result (progress_view progress.new ≡ static_of_type (declarator_view declarator.now) of (progress_view progress.old)) }
+    ensures { OnOk result
+        (progress_view progress.new
+        ≡ static_of_type (declarator_view declarator.now) of (progress_view progress.old)) }
 {
     let number = given!(next_static(progress));
     let object = Object::Static(number);
@@ -276,7 +291,8 @@ fn fixed(
     base: IntegerType,
     declarator: &Declarator,
 ) -> Result<(), AllocError>
-    ensures { OnOk result (progress_view progress.new ≡ static_met base (declarator_view declarator.now) (progress_view progress.old)) }
+    ensures { OnOk result
+        (progress_view progress.new ≡ static_met base (declarator_view declarator.now) (progress_view progress.old)) }
 {
     let scalar = Scalar {
         base,
@@ -292,7 +308,9 @@ pub fn static_declaration(
     progress: &mut Progress,
     declaration: &Declaration,
 ) -> Result<(), AllocError>
-    ensures { OnOk result (progress_view progress.new ≡ statics_met declaration.now.integer_type (map declarator_view declaration.now.declarators.items) (progress_view progress.old)) }
+    ensures { OnOk result
+        (progress_view progress.new ≡ statics_met declaration.now.integer_type
+        (map declarator_view declaration.now.declarators.items) (progress_view progress.old)) }
 {
     for declarator in &declaration.declarators {
         given!(fixed(alloc, progress, declaration.integer_type, declarator));

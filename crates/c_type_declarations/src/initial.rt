@@ -29,7 +29,9 @@ fn fitted(
     is_zero: bool,
     value: Option<Value>,
 ) -> Result<Option<Value>, AllocError>
-    ensures { IfOk result (λ v. means (option_map value_view v) (progress_view progress.new) ≡ fitted scalar extent is_zero (option_map value_view value) (progress_view progress.old)) }
+    ensures { IfOk result (λ v.
+        means (option_map value_view v) (progress_view progress.new) ≡ fitted scalar extent is_zero
+        (option_map value_view value) (progress_view progress.old)) }
 {
     let Some(value) = value else {
         return Ok(None);
@@ -49,7 +51,9 @@ fn fitting(
     extent: Extent,
     e: &Expression,
 ) -> Result<Option<Value>, AllocError>
-    ensures { IfOk result (λ v. means (option_map value_view v) (progress_view progress.new) ≡ fitting scalar extent (expression_view e.now) (progress_view progress.old)) }
+    ensures { IfOk result (λ v.
+        means (option_map value_view v) (progress_view progress.new) ≡ fitting scalar extent (expression_view e.now)
+        (progress_view progress.old)) }
 {
     let value = given!(progress.value(alloc, e));
     fitted(alloc, progress, scalar, extent, is_zero(e), value)
@@ -61,7 +65,8 @@ fn look_at_one(
     progress: &mut Progress,
     initializer: &Initializer,
 ) -> Result<(), AllocError>
-    ensures { OnOk result (progress_view progress.new ≡ looked_at_one (initializer_view initializer.now) (progress_view progress.old)) }
+    ensures { OnOk result
+        (progress_view progress.new ≡ looked_at_one (initializer_view initializer.now) (progress_view progress.old)) }
 {
     match initializer {
         Initializer::List(_) => Ok(()),
@@ -75,7 +80,9 @@ pub fn look_at_expression(
     progress: &mut Progress,
     e: &Expression,
 ) -> Result<(), AllocError>
-    ensures { OnOk result (progress_view progress.new ≡ reached_by (value_met (expression_view e.now) (progress_view progress.old)) (λ v q. q)) }
+    ensures { OnOk result
+        (progress_view progress.new
+        ≡ reached_by (value_met (expression_view e.now) (progress_view progress.old)) (λ v q. q)) }
 {
     let value = given!(progress.value(alloc, e));
     drop(value);
@@ -88,7 +95,9 @@ fn look_at(
     progress: &mut Progress,
     initializers: &[Initializer],
 ) -> Result<(), AllocError>
-    ensures { OnOk result (progress_view progress.new ≡ looked_at (chain (map initializer_view initializers.now)) (progress_view progress.old)) }
+    ensures { OnOk result
+        (progress_view progress.new
+        ≡ looked_at (chain (map initializer_view initializers.now)) (progress_view progress.old)) }
 {
     for one in initializers {
         given!(look_at_one(alloc, progress, one));
@@ -103,7 +112,8 @@ pub fn misfit(
     extent: Extent,
     e: &Expression,
 ) -> Result<(), AllocError>
-    ensures { OnOk result (progress_view progress.new ≡ misfit_met extent (expression_view e.now) (progress_view progress.old)) }
+    ensures { OnOk result
+        (progress_view progress.new ≡ misfit_met extent (expression_view e.now) (progress_view progress.old)) }
 {
     let value = given!(progress.value(alloc, e));
     drop(value);
@@ -118,7 +128,9 @@ pub fn scalar(
     extent: Extent,
     initializer: &Initializer,
 ) -> Result<Option<Value>, AllocError>
-    ensures { IfOk result (λ v. means (option_map value_view v) (progress_view progress.new) ≡ scalar_met of extent (initializer_view initializer.now) (progress_view progress.old)) }
+    ensures { IfOk result (λ v.
+        means (option_map value_view v) (progress_view progress.new) ≡ scalar_met of extent
+        (initializer_view initializer.now) (progress_view progress.old)) }
 {
     match initializer {
         Initializer::Expression(e) => fitting(alloc, progress, of, extent, e),
@@ -155,7 +167,9 @@ fn elements(
     extent: Extent,
     initializers: &[Initializer],
 ) -> Result<Vec<Rvalue>, AllocError>
-    ensures { IfOk result (λ v. means (map rvalue_view v.items) (progress_view progress.new) ≡ elements_met of extent (chain (map initializer_view initializers.now)) (progress_view progress.old)) }
+    ensures { IfOk result (λ v.
+        means (map rvalue_view v.items) (progress_view progress.new) ≡ elements_met of extent
+        (chain (map initializer_view initializers.now)) (progress_view progress.old)) }
 {
     let mut values = Vec::new(alloc);
     for one in initializers {
@@ -187,7 +201,9 @@ fn with_array_literal(
     progress: &mut Progress,
     literal: Written<'_>,
 ) -> Result<(), AllocError>
-    ensures { OnOk result (progress_view progress.new ≡ with_array_literal literal.entry.spot literal.entry.bytes.now (progress_view progress.old)) }
+    ensures { OnOk result
+        (progress_view progress.new
+        ≡ with_array_literal literal.entry.spot literal.entry.bytes.now (progress_view progress.old)) }
 {
     let mut bytes = Vec::from_slice(alloc, literal.bytes)?;
     bytes.push(0)?;
@@ -206,7 +222,9 @@ fn array_literal(
     extent: Extent,
     literal: Written<'_>,
 ) -> Result<Initial, AllocError>
-    ensures { IfOk result (λ i. means (initial_view i) (progress_view progress.new) ≡ array_literal_met size extent (literal.entry.spot, literal.entry.bytes.now) (progress_view progress.old)) }
+    ensures { IfOk result (λ i.
+        means (initial_view i) (progress_view progress.new) ≡ array_literal_met size extent
+        (literal.entry.spot, literal.entry.bytes.now) (progress_view progress.old)) }
 {
     let number = given!(numbered(progress.array_literals.len()));
     given!(within_count(progress, literal.bytes.len(), size, extent));
@@ -224,7 +242,9 @@ fn list(
     extent: Extent,
     initializer: &Initializer,
 ) -> Result<Initial, AllocError>
-    ensures { IfOk result (λ i. means (initial_view i) (progress_view progress.new) ≡ list_met element size extent (initializer_view initializer.now) (progress_view progress.old)) }
+    ensures { IfOk result (λ i.
+        means (initial_view i) (progress_view progress.new) ≡ list_met element size extent
+        (initializer_view initializer.now) (progress_view progress.old)) }
 {
     match initializer {
         Initializer::List(initializers) => {
@@ -247,7 +267,9 @@ fn written(
     extent: Extent,
     initializer: &Initializer,
 ) -> Result<Initial, AllocError>
-    ensures { IfOk result (λ i. means (initial_view i) (progress_view progress.new) ≡ written_met of extent (initializer_view initializer.now) (progress_view progress.old)) }
+    ensures { IfOk result (λ i.
+        means (initial_view i) (progress_view progress.new) ≡ written_met of extent
+        (initializer_view initializer.now) (progress_view progress.old)) }
 {
     match of {
         ObjectType::Scalar(of) => {
@@ -270,7 +292,9 @@ pub fn initial(
     extent: Extent,
     initializer: &Option<Initializer>,
 ) -> Result<Initial, AllocError>
-    ensures { IfOk result (λ i. means (initial_view i) (progress_view progress.new) ≡ initial_met of extent (option_map initializer_view initializer.now) (progress_view progress.old)) }
+    ensures { IfOk result (λ i.
+        means (initial_view i) (progress_view progress.new) ≡ initial_met of extent
+        (option_map initializer_view initializer.now) (progress_view progress.old)) }
 {
     match initializer {
         Some(initializer) => written(alloc, progress, of, extent, initializer),

@@ -104,7 +104,8 @@ pub fn implied_count(element: Scalar, initializer: &Option<Initializer>) -> usiz
 
 /// How many elements an array has: below 2 ^ 32.
 fn counted(progress: &mut Progress, count: u64, extent: Extent) -> Result<u32, AllocError>
-    ensures { IfOk result (λ n. means n (progress_view progress.new) ≡ counted count extent (progress_view progress.old)) }
+    ensures { IfOk result
+        (λ n. means n (progress_view progress.new) ≡ counted count extent (progress_view progress.old)) }
 {
     if count < 4294967296 {
         return Ok(count as u32);
@@ -119,7 +120,9 @@ fn sized_by(
     extent: Extent,
     value: Option<Value>,
 ) -> Result<u32, AllocError>
-    ensures { IfOk result (λ n. means n (progress_view progress.new) ≡ sized_by extent (option_map value_view value) (progress_view progress.old)) }
+    ensures { IfOk result (λ n.
+        means n (progress_view progress.new) ≡ sized_by extent (option_map value_view value)
+        (progress_view progress.old)) }
 {
     let Some(value) = value else {
         return Ok(1);
@@ -140,7 +143,8 @@ pub fn size(
     extent: Extent,
     e: &Expression,
 ) -> Result<u32, AllocError>
-    ensures { IfOk result (λ n. means n (progress_view progress.new) ≡ size_met extent (expression_view e.now) (progress_view progress.old)) }
+    ensures { IfOk result (λ n.
+        means n (progress_view progress.new) ≡ size_met extent (expression_view e.now) (progress_view progress.old)) }
 {
     let value = given!(progress.value(alloc, e));
     sized_by(progress, extent, value)
@@ -153,7 +157,9 @@ pub fn object_type(
     scalar: Scalar,
     declarator: &Declarator,
 ) -> Result<ObjectType, AllocError>
-    ensures { IfOk result (λ of. means of (progress_view progress.new) ≡ type_met scalar (declarator_view declarator.now) (progress_view progress.old)) }
+    ensures { IfOk result (λ of.
+        means of (progress_view progress.new) ≡ type_met scalar (declarator_view declarator.now)
+        (progress_view progress.old)) }
 {
     let extent = declarator.extent;
     match &declarator.brackets {

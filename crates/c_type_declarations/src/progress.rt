@@ -31,7 +31,9 @@ impl Progress {
     /// The value of an expression, if it breaks no rule.
     #[tactic(auto, unfolding(crate::specs::Progress::value_met))]
     pub fn value(&mut self, alloc: Global, e: &Expression) -> Result<Option<Value>, AllocError>
-        ensures { IfOk result (λ v. means (option_map value_view v) (progress_view self.new) ≡ value_met (expression_view e.now) (progress_view self.old)) }
+        ensures { IfOk result (λ v.
+            means (option_map value_view v) (progress_view self.new) ≡ value_met (expression_view e.now)
+            (progress_view self.old)) }
     {
         value(alloc, &self.names, &mut self.found, e)
     }

@@ -68,7 +68,9 @@ pub fn uncallable(
     first: Spot,
     last: u32,
 ) -> Result<Option<Meant>, AllocError>
-    ensures { IfOk result (λ m. gives (option_map meant_view m) (findings_view found.new) ≡ uncallable first last (option_map value_view operand) (findings_view found.old)) }
+    ensures { IfOk result (λ m.
+        gives (option_map meant_view m) (findings_view found.new) ≡ uncallable first last
+        (option_map value_view operand) (findings_view found.old)) }
 {
     if operand.is_some() {
         given!(found.fault(Code::OPERAND_TYPES, first, last));
@@ -117,7 +119,9 @@ pub fn called(
     first: Spot,
     last: u32,
 ) -> Result<Option<Meant>, AllocError>
-    ensures { IfOk result (λ m. gives (option_map meant_view m) (findings_view found.new) ≡ called (signature_view function.now) first last (record { trees = arguments_view arguments; fit = fit }) (findings_view found.old)) }
+    ensures { IfOk result (λ m.
+        gives (option_map meant_view m) (findings_view found.new) ≡ called (signature_view function.now) first last
+        (record { trees = arguments_view arguments; fit = fit }) (findings_view found.old)) }
 {
     if !fit {
         given!(found.fault(Code::ARGUMENTS, first, last));

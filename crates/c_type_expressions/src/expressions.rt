@@ -33,7 +33,9 @@ pub fn expression(
     found: &mut Findings,
     e: &Expression,
 ) -> Result<Option<Meant>, AllocError>
-    ensures { IfOk result (λ m. gives (option_map meant_view m) (findings_view found.new) ≡ typed (names_view names.now) (expression_view e.now) (findings_view found.old)) }
+    ensures { IfOk result (λ m.
+        gives (option_map meant_view m) (findings_view found.new) ≡ typed (names_view names.now)
+        (expression_view e.now) (findings_view found.old)) }
 {
     match e {
         Expression::Name(identifier) => {
@@ -187,7 +189,9 @@ pub fn value(
     found: &mut Findings,
     e: &Expression,
 ) -> Result<Option<Value>, AllocError>
-    ensures { IfOk result (λ v. gives (option_map value_view v) (findings_view found.new) ≡ valued (typed (names_view names.now) (expression_view e.now) (findings_view found.old))) }
+    ensures { IfOk result (λ v.
+        gives (option_map value_view v) (findings_view found.new) ≡ valued
+        (typed (names_view names.now) (expression_view e.now) (findings_view found.old))) }
 {
     let meant = expression(alloc, names, found, e)?;
     valued(alloc, meant)
@@ -204,7 +208,10 @@ fn suffixed(
     first: Spot,
     suffixes: &[Suffix],
 ) -> Result<Option<Meant>, AllocError>
-    ensures { IfOk result (λ m. gives (option_map meant_view m) (findings_view found.new) ≡ suffixes_met (names_view names.now) (option_map (λ g. signature_view g.now) function.entry) first (map suffix_view suffixes.now) (option_map meant_view operand) (findings_view found.old)) }
+    ensures { IfOk result (λ m.
+        gives (option_map meant_view m) (findings_view found.new) ≡ suffixes_met (names_view names.now)
+        (option_map (λ g. signature_view g.now) function.entry) first (map suffix_view suffixes.now)
+        (option_map meant_view operand) (findings_view found.old)) }
 {
     let mut callee = function;
     let mut meant = operand;
@@ -226,7 +233,10 @@ fn suffix(
     first: Spot,
     suffix: &Suffix,
 ) -> Result<Option<Meant>, AllocError>
-    ensures { IfOk result (λ m. gives (option_map meant_view m) (findings_view found.new) ≡ suffix_met (names_view names.now) (option_map (λ g. signature_view g.now) function.entry) first (suffix_view suffix.now) (option_map meant_view operand) (findings_view found.old)) }
+    ensures { IfOk result (λ m.
+        gives (option_map meant_view m) (findings_view found.new) ≡ suffix_met (names_view names.now)
+        (option_map (λ g. signature_view g.now) function.entry) first (suffix_view suffix.now)
+        (option_map meant_view operand) (findings_view found.old)) }
 {
     match suffix {
         Suffix::Index { index, last } => {
@@ -274,7 +284,10 @@ fn call(
     first: Spot,
     last: u32,
 ) -> Result<Option<Meant>, AllocError>
-    ensures { IfOk result (λ m. gives (option_map meant_view m) (findings_view found.new) ≡ function_called (names_view names.now) (signature_view function.now) (chain (map expression_view arguments.now)) first last (findings_view found.old)) }
+    ensures { IfOk result (λ m.
+        gives (option_map meant_view m) (findings_view found.new) ≡ function_called (names_view names.now)
+        (signature_view function.now) (chain (map expression_view arguments.now)) first last
+        (findings_view found.old)) }
 {
     noted(found, function.callee, first)?;
     let (all, fit) = passed(alloc, names, found, arguments, &function.parameters)?;
@@ -290,7 +303,10 @@ fn passed(
     arguments: &[Expression],
     parameters: &[Scalar],
 ) -> Result<(Arguments, bool), AllocError>
-    ensures { IfOk result (λ q. gives (record { trees = arguments_view q.0; fit = q.1 }) (findings_view found.new) ≡ typed_all (names_view names.now) (chain (map expression_view arguments.now)) parameters.now 0 (findings_view found.old)) }
+    ensures { IfOk result (λ q.
+        gives (record { trees = arguments_view q.0; fit = q.1 }) (findings_view found.new) ≡ typed_all
+        (names_view names.now) (chain (map expression_view arguments.now)) parameters.now 0
+        (findings_view found.old)) }
 {
     let mut trees = Vec::new(alloc);
     let mut fit = true;
@@ -316,7 +332,10 @@ fn operators(
     first: Spot,
     operations: &[(BinaryOperator, Expression)],
 ) -> Result<Option<Meant>, AllocError>
-    ensures { IfOk result (λ m. gives (option_map meant_view m) (findings_view found.new) ≡ operations_met (names_view names.now) first is_zero_token (map operation_view operations.now) (option_map meant_view operand) (findings_view found.old)) }
+    ensures { IfOk result (λ m.
+        gives (option_map meant_view m) (findings_view found.new) ≡ operations_met (names_view names.now) first
+        is_zero_token (map operation_view operations.now) (option_map meant_view operand)
+        (findings_view found.old)) }
 {
     let mut meant = operand;
     let mut zero = is_zero_token;
@@ -348,7 +367,9 @@ fn commas(
     operand: Option<Meant>,
     rest: &[Expression],
 ) -> Result<Option<Meant>, AllocError>
-    ensures { IfOk result (λ m. gives (option_map meant_view m) (findings_view found.new) ≡ commas_met (names_view names.now) (map expression_view rest.now) (option_map meant_view operand) (findings_view found.old)) }
+    ensures { IfOk result (λ m.
+        gives (option_map meant_view m) (findings_view found.new) ≡ commas_met (names_view names.now)
+        (map expression_view rest.now) (option_map meant_view operand) (findings_view found.old)) }
 {
     let mut meant = operand;
     for e in rest {

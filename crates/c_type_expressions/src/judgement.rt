@@ -45,7 +45,9 @@ fn judged(
     first: Spot,
     last: u32,
 ) -> Result<Option<Meant>, AllocError>
-    ensures { IfOk result (λ m. gives (option_map meant_view m) (findings_view found.new) ≡ judged (option_map meant_view meant) code first last (findings_view found.old)) }
+    ensures { IfOk result (λ m.
+        gives (option_map meant_view m) (findings_view found.new) ≡ judged (option_map meant_view meant) code first
+        last (findings_view found.old)) }
 {
     if meant.is_none() {
         given!(found.fault(code, first, last));
@@ -61,7 +63,9 @@ fn judged_value(
     first: Spot,
     last: u32,
 ) -> Result<Option<Meant>, AllocError>
-    ensures { IfOk result (λ m. gives (option_map meant_view m) (findings_view found.new) ≡ judged (option_map IsValue (option_map value_view value)) code first last (findings_view found.old)) }
+    ensures { IfOk result (λ m.
+        gives (option_map meant_view m) (findings_view found.new) ≡ judged
+        (option_map IsValue (option_map value_view value)) code first last (findings_view found.old)) }
 {
     match value {
         Some(value) => Ok(Some(Meant::Value(value))),
@@ -107,7 +111,8 @@ pub fn named(
     meaning: Option<Meaning>,
     spot: Spot,
 ) -> Result<Option<Meant>, AllocError>
-    ensures { IfOk result (λ m. gives (option_map meant_view m) (findings_view found.new) ≡ named meaning spot (findings_view found.old)) }
+    ensures { IfOk result (λ m.
+        gives (option_map meant_view m) (findings_view found.new) ≡ named meaning spot (findings_view found.old)) }
 {
     match meaning {
         Some(Meaning::Variable { object, of }) => {
@@ -150,7 +155,9 @@ pub fn literal_met(
     first: Spot,
     bytes: &[u8],
 ) -> Result<Option<Meant>, AllocError>
-    ensures { IfOk result (λ m. gives (option_map meant_view m) (findings_view found.new) ≡ literal_met first bytes.now (findings_view found.old)) }
+    ensures { IfOk result (λ m.
+        gives (option_map meant_view m) (findings_view found.new) ≡ literal_met first bytes.now
+        (findings_view found.old)) }
 {
     let number = given!(numbered(found.literals.len()));
     let length = given!(numbered(bytes.len()));
@@ -192,7 +199,9 @@ pub fn stepping(
     first: Spot,
     last: u32,
 ) -> Result<Option<Meant>, AllocError>
-    ensures { IfOk result (λ m. gives (option_map meant_view m) (findings_view found.new) ≡ with_one (option_map meant_view meant) (stepping direction given first last) (findings_view found.old)) }
+    ensures { IfOk result (λ m.
+        gives (option_map meant_view m) (findings_view found.new) ≡ with_one (option_map meant_view meant)
+        (stepping direction given first last) (findings_view found.old)) }
 {
     let Some(meant) = meant else {
         return Ok(None);
@@ -215,7 +224,10 @@ fn signing(
     first: Spot,
     last: u32,
 ) -> Result<Option<Meant>, AllocError>
-    ensures { IfOk result (λ m. gives (option_map meant_view m) (findings_view found.new) ≡ judged (option_map IsValue (signed_value sign (as_value (meant_view meant)))) OPERAND_TYPES first last (findings_view found.old)) }
+    ensures { IfOk result (λ m.
+        gives (option_map meant_view m) (findings_view found.new) ≡ judged
+        (option_map IsValue (signed_value sign (as_value (meant_view meant)))) OPERAND_TYPES first last
+        (findings_view found.old)) }
 {
     let value = given!(as_value(alloc, meant));
     let made = given!(signed_value(alloc, sign, value));
@@ -231,7 +243,9 @@ pub fn prefixed(
     first: Spot,
     last: u32,
 ) -> Result<Option<Meant>, AllocError>
-    ensures { IfOk result (λ m. gives (option_map meant_view m) (findings_view found.new) ≡ with_one (option_map meant_view meant) (prefixed operator first last) (findings_view found.old)) }
+    ensures { IfOk result (λ m.
+        gives (option_map meant_view m) (findings_view found.new) ≡ with_one (option_map meant_view meant)
+        (prefixed operator first last) (findings_view found.old)) }
 {
     let Some(operand) = meant else {
         return Ok(None);
@@ -284,7 +298,9 @@ fn cast_from(
     first: Spot,
     last: u32,
 ) -> Result<Option<Meant>, AllocError>
-    ensures { IfOk result (λ m. gives (option_map meant_view m) (findings_view found.new) ≡ cast_from (value_view value).of to first last (value_view value) (findings_view found.old)) }
+    ensures { IfOk result (λ m.
+        gives (option_map meant_view m) (findings_view found.new) ≡ cast_from (value_view value).of to first last
+        (value_view value) (findings_view found.old)) }
 {
     match value.of {
         ValueType::Integer(_) => {
@@ -321,7 +337,9 @@ pub fn cast(
     first: Spot,
     last: u32,
 ) -> Result<Option<Meant>, AllocError>
-    ensures { IfOk result (λ m. gives (option_map meant_view m) (findings_view found.new) ≡ cast to first last (option_map value_view value) (findings_view found.old)) }
+    ensures { IfOk result (λ m.
+        gives (option_map meant_view m) (findings_view found.new) ≡ cast to first last (option_map value_view value)
+        (findings_view found.old)) }
 {
     if to.stars != 0 {
         given!(found.fault(Code::UNEXPECTED_KEYWORD, first, last));
@@ -370,7 +388,9 @@ pub fn measured(
     first: Spot,
     last: u32,
 ) -> Result<Option<Meant>, AllocError>
-    ensures { IfOk result (λ m. gives (option_map meant_view m) (findings_view found.new) ≡ with_one (option_map meant_view meant) (measured first last) (findings_view found.old)) }
+    ensures { IfOk result (λ m.
+        gives (option_map meant_view m) (findings_view found.new) ≡ with_one (option_map meant_view meant)
+        (measured first last) (findings_view found.old)) }
 {
     let Some(operand) = meant else {
         return Ok(None);
@@ -408,7 +428,9 @@ pub fn sized(
     first: Spot,
     last: u32,
 ) -> Result<Option<Meant>, AllocError>
-    ensures { IfOk result (λ m. gives (option_map meant_view m) (findings_view found.new) ≡ with_one (option_map value_view value) (sized element first last) (findings_view found.old)) }
+    ensures { IfOk result (λ m.
+        gives (option_map meant_view m) (findings_view found.new) ≡ with_one (option_map value_view value)
+        (sized element first last) (findings_view found.old)) }
 {
     let Some(value) = value else {
         return Ok(None);
@@ -435,7 +457,10 @@ pub fn indexed(
     first: Spot,
     last: u32,
 ) -> Result<Option<Meant>, AllocError>
-    ensures { IfOk result (λ m. gives (option_map meant_view m) (findings_view found.new) ≡ with_two (option_map value_view left) (option_map value_view right) (λ v w. judged (element_of v w) OPERAND_TYPES first last) (findings_view found.old)) }
+    ensures { IfOk result (λ m.
+        gives (option_map meant_view m) (findings_view found.new) ≡ with_two (option_map value_view left)
+        (option_map value_view right) (λ v w. judged (element_of v w) OPERAND_TYPES first last)
+        (findings_view found.old)) }
 {
     match (left, right) {
         (Some(left), Some(right)) => {
@@ -458,7 +483,12 @@ pub fn operated(
     first: Spot,
     last: u32,
 ) -> Result<Option<Meant>, AllocError>
-    ensures { IfOk result (λ m. gives (option_map meant_view m) (findings_view found.new) ≡ with_two (option_map value_view left) (option_map value_view right) (λ v w. judged (option_map IsValue (combined (operation_of operator) v w left_zero right_zero)) OPERAND_TYPES first last) (findings_view found.old)) }
+    ensures { IfOk result (λ m.
+        gives (option_map meant_view m) (findings_view found.new) ≡ with_two (option_map value_view left)
+        (option_map value_view right)
+        (λ v w. judged (option_map IsValue (combined (operation_of operator) v w left_zero right_zero))
+        OPERAND_TYPES first last)
+        (findings_view found.old)) }
 {
     match (left, right) {
         (Some(left), Some(right)) => {
@@ -475,7 +505,10 @@ pub fn followed(
     left: Option<Value>,
     right: Option<Value>,
 ) -> Result<Option<Meant>, AllocError>
-    ensures { IfOk result (λ m. (s : FoundTree) → gives (option_map meant_view m) s ≡ with_two (option_map value_view left) (option_map value_view right) (λ v w. gives (Some (IsValue (sequenced v w)))) s) }
+    ensures { IfOk result (λ m.
+        (s : FoundTree)
+        → gives (option_map meant_view m) s ≡ with_two (option_map value_view left) (option_map value_view right)
+        (λ v w. gives (Some (IsValue (sequenced v w)))) s) }
 {
     match (left, right) {
         (Some(left), Some(right)) => {
@@ -498,7 +531,11 @@ pub fn chosen(
     first: Spot,
     last: u32,
 ) -> Result<Option<Meant>, AllocError>
-    ensures { IfOk result (λ m. gives (option_map meant_view m) (findings_view found.new) ≡ with_three (option_map value_view condition) (option_map value_view then) (option_map value_view otherwise) (λ v w r. judged (option_map IsValue (conditional v w r then_zero other_zero)) OPERAND_TYPES first last) (findings_view found.old)) }
+    ensures { IfOk result (λ m.
+        gives (option_map meant_view m) (findings_view found.new) ≡ with_three (option_map value_view condition)
+        (option_map value_view then) (option_map value_view otherwise)
+        (λ v w r. judged (option_map IsValue (conditional v w r then_zero other_zero)) OPERAND_TYPES first last)
+        (findings_view found.old)) }
 {
     match (condition, then, otherwise) {
         (Some(condition), Some(then), Some(otherwise)) => {
@@ -535,7 +572,9 @@ fn assigning(
     first: Spot,
     last: u32,
 ) -> Result<Option<Meant>, AllocError>
-    ensures { IfOk result (λ m. gives (option_map meant_view m) (findings_view found.new) ≡ assigning (option_map value_view value) first last (meant_view meant) (findings_view found.old)) }
+    ensures { IfOk result (λ m.
+        gives (option_map meant_view m) (findings_view found.new) ≡ assigning (option_map value_view value) first
+        last (meant_view meant) (findings_view found.old)) }
 {
     if value.is_none() {
         given!(found.fault(Code::OPERAND_TYPES, first, last));
@@ -555,7 +594,9 @@ fn updating(
     first: Spot,
     last: u32,
 ) -> Result<Option<Meant>, AllocError>
-    ensures { IfOk result (λ m. gives (option_map meant_view m) (findings_view found.new) ≡ updating operator first last (meant_view meant) (value_view value) (findings_view found.old)) }
+    ensures { IfOk result (λ m.
+        gives (option_map meant_view m) (findings_view found.new) ≡ updating operator first last (meant_view meant)
+        (value_view value) (findings_view found.old)) }
 {
     if !is_updatable(operator, meant_type(&meant), value.of) {
         given!(found.fault(Code::OPERAND_TYPES, first, last));
@@ -576,7 +617,9 @@ pub fn assignment(
     first: Spot,
     last: u32,
 ) -> Result<Option<Meant>, AllocError>
-    ensures { IfOk result (λ m. gives (option_map meant_view m) (findings_view found.new) ≡ with_two (option_map meant_view target) (option_map value_view value) (assignment_by operator is_zero first last) (findings_view found.old)) }
+    ensures { IfOk result (λ m.
+        gives (option_map meant_view m) (findings_view found.new) ≡ with_two (option_map meant_view target)
+        (option_map value_view value) (assignment_by operator is_zero first last) (findings_view found.old)) }
 {
     let (Some(target), Some(value)) = (target, value) else {
         return Ok(None);

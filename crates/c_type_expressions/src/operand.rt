@@ -42,7 +42,8 @@ pub fn function_number(names: &Names, e: &Expression) -> Option<u32>
 
 /// The function that an expression names, perhaps in parentheses.
 pub fn function_named<'a>(names: &'a Names, e: &Expression) -> Option<&'a Signature>
-    ensures { option_map (λ s. signature_view s.now) result ≡ function_named (names_view names.now) (expression_view e.now) }
+    ensures { option_map (λ s. signature_view s.now) result
+        ≡ function_named (names_view names.now) (expression_view e.now) }
 {
     match function_number(names, e) {
         None => None,
@@ -56,7 +57,8 @@ pub fn direct_callee<'a>(
     operand: &Expression,
     suffixes: &[Suffix],
 ) -> Option<&'a Signature>
-    ensures { option_map (λ s. signature_view s.now) result ≡ direct_callee (names_view names.now) (expression_view operand.now) (map suffix_view suffixes.now) }
+    ensures { option_map (λ s. signature_view s.now) result ≡ direct_callee (names_view names.now)
+        (expression_view operand.now) (map suffix_view suffixes.now) }
 {
     match suffixes.first() {
         Some(Suffix::Call { .. }) => function_named(names, operand),

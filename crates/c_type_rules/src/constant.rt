@@ -20,7 +20,8 @@ pub fn in_range(of: IntegerType, number: i128) -> Option<i64>
     }
 }
 
-/// A result of a type: one that does not fit is none in a signed type, and converted in an unsigned one (6.2.5p9, 6.5p5).
+/// A result of a type: one that does not fit is none in a signed type, and converted in an unsigned one (6.2.5p9,
+/// 6.5p5).
 fn kept(of: IntegerType, number: i128) -> Option<i64>
     ensures { result ≡ kept (integer of) number }
 {
@@ -139,7 +140,8 @@ fn right_shift(of: IntegerType, left: i64, by: i64) -> Option<i64>
     Some(left >> by)
 }
 
-/// What an operator gives on two numbers of a type, the right one of a shift of its own; none where C leaves it undefined.
+/// What an operator gives on two numbers of a type, the right one of a shift of its own; none where C leaves it
+/// undefined.
 pub fn calculated(operator: Arithmetic, of: IntegerType, left: i64, right: i64) -> Option<i64>
     ensures { result ≡ calculated operator of left right }
 {

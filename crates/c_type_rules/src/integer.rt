@@ -117,7 +117,8 @@ pub fn number_of(of: IntegerType, bits: u32) -> i64
     i64::from(bits)
 }
 
-/// A number converted to a type: the one of the type's numbers that differs from it by a multiple of how many there are (6.3.1.3).
+/// A number converted to a type: the one of the type's numbers that differs from it by a multiple of how many there are
+/// (6.3.1.3).
 pub fn wrapped(of: IntegerType, number: i128) -> i64
     ensures { result ≡ wrapped of number }
 {
@@ -136,7 +137,8 @@ fn rank(of: IntegerType) -> u8
     }
 }
 
-/// The type after the integer promotions: `int` where the rank is less than that of `int`, which holds all values of such a type (6.3.1.1).
+/// The type after the integer promotions: `int` where the rank is less than that of `int`, which holds all values of
+/// such a type (6.3.1.1).
 pub fn promoted(of: IntegerType) -> IntegerType
     ensures { result ≡ promoted of }
 {
@@ -156,7 +158,9 @@ fn unsigned_of(of: IntegerType) -> IntegerType
     }
 }
 
-/// The common type of two promoted operands, the first of which is of no lesser rank: that one's own where both are signed or both unsigned, or where it is unsigned; else, where the other is unsigned and thus beyond what the first can hold, the unsigned one of the first's rank.
+/// The common type of two promoted operands, the first of which is of no lesser rank: that one's own where both are
+/// signed or both unsigned, or where it is unsigned; else, where the other is unsigned and thus beyond what the first
+/// can hold, the unsigned one of the first's rank.
 fn joined(greater: IntegerType, lesser: IntegerType) -> IntegerType
     ensures { result ≡ joined greater lesser }
 {

@@ -56,7 +56,8 @@ pub fn given_by(results: &[ValueType], callee: Callee) -> ValueType
     }
 }
 
-/// The type of an expression's value; for the null pointer, which is of each pointer type, that of a pointer to characters.
+/// The type of an expression's value; for the null pointer, which is of each pointer type, that of a pointer to
+/// characters.
 pub fn type_of(results: &[ValueType], e: &Rvalue) -> ValueType
     ensures { result ≡ type_of results.now (rvalue_view e.now) }
 {

@@ -24,7 +24,8 @@ fn with_else(
     built: Built,
     otherwise: Option<Box<TypedStatement>>,
 ) -> Result<Box<TypedStatement>, AllocError>
-    ensures { IfOk result (λ t. statement_view t.value ≡ with_else (built_view built) (option_map (λ t. statement_view t.value) otherwise)) }
+    ensures { IfOk result (λ t.
+        statement_view t.value ≡ with_else (built_view built) (option_map (λ t. statement_view t.value) otherwise)) }
 {
     match otherwise {
         None => {
@@ -61,7 +62,9 @@ pub fn nested(
     mut others: Vec<Built>,
     otherwise: Option<Box<TypedStatement>>,
 ) -> Result<Box<TypedStatement>, AllocError>
-    ensures { IfOk result (λ t. statement_view t.value ≡ nested (built_view first) (map built_view others.items) (option_map (λ t. statement_view t.value) otherwise)) }
+    ensures { IfOk result (λ t.
+        statement_view t.value ≡ nested (built_view first) (map built_view others.items)
+        (option_map (λ t. statement_view t.value) otherwise)) }
 {
     let mut inner = otherwise;
     while let Some(built) = others.pop() {

@@ -17,7 +17,8 @@ use std::alloc::{AllocError, Global};
 
 /// Looks at a label out of place.
 fn misplaced_one(alloc: Global, progress: &mut Progress, label: &Label) -> Result<(), AllocError>
-    ensures { OnOk result (progress_view progress.new ≡ misplaced_one (label_view label.now) (progress_view progress.old)) }
+    ensures { OnOk result
+        (progress_view progress.new ≡ misplaced_one (label_view label.now) (progress_view progress.old)) }
 {
     match label {
         Label::Case { extent, value } => {
@@ -30,7 +31,8 @@ fn misplaced_one(alloc: Global, progress: &mut Progress, label: &Label) -> Resul
 
 /// Looks at labels out of place: they stand outside a `switch`, or deeper in its block.
 pub fn misplaced(alloc: Global, progress: &mut Progress, labels: &[Label]) -> Result<(), AllocError>
-    ensures { OnOk result (progress_view progress.new ≡ misplaced (map label_view labels.now) (progress_view progress.old)) }
+    ensures { OnOk result
+        (progress_view progress.new ≡ misplaced (map label_view labels.now) (progress_view progress.old)) }
 {
     for label in labels {
         given!(misplaced_one(alloc, progress, label));
@@ -47,7 +49,10 @@ fn labeled(
     parts: &mut Vec<Part>,
     label: &Label,
 ) -> Result<(), AllocError>
-    ensures { OnOk result (means (so_far parts.new.items labels.new) (progress_view progress.new) ≡ next_met (label_met kind (label_view label.now) (labels_view labels.old) (progress_view progress.old)) (behind (map part_view parts.old.items))) }
+    ensures { OnOk result
+        (means (so_far parts.new.items labels.new) (progress_view progress.new) ≡ next_met
+        (label_met kind (label_view label.now) (labels_view labels.old) (progress_view progress.old))
+        (behind (map part_view parts.old.items))) }
 {
     match label {
         Label::Case { extent, value } => {
@@ -66,7 +71,10 @@ pub fn all_labels(
     parts: &mut Vec<Part>,
     all: &[Label],
 ) -> Result<(), AllocError>
-    ensures { OnOk result (means (so_far parts.new.items known.new) (progress_view progress.new) ≡ next_met (labels_met kind (map label_view all.now) (labels_view known.old) (progress_view progress.old)) (behind (map part_view parts.old.items))) }
+    ensures { OnOk result
+        (means (so_far parts.new.items known.new) (progress_view progress.new) ≡ next_met
+        (labels_met kind (map label_view all.now) (labels_view known.old) (progress_view progress.old))
+        (behind (map part_view parts.old.items))) }
 {
     for label in all {
         labeled(alloc, progress, kind, known, parts, label)?;

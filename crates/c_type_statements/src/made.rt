@@ -99,7 +99,9 @@ pub fn for_of(
     step: Option<Box<TypedStep>>,
     body: Box<TypedStatement>,
 ) -> Result<Box<TypedStatement>, AllocError>
-    ensures { IfOk result (λ t. statement_view t.value ≡ For (start_view start.value) spot (option_map node_view condition) (option_map (λ s. step_view s.value) step) (statement_view body.value)) }
+    ensures { IfOk result (λ t.
+        statement_view t.value ≡ For (start_view start.value) spot (option_map node_view condition)
+        (option_map (λ s. step_view s.value) step) (statement_view body.value)) }
 {
     let start = Box::into_inner(start);
     let condition = unboxed(condition);

@@ -73,7 +73,9 @@ pub fn run(
     progress: &mut Progress,
     e: &Expression,
 ) -> Result<Box<Rvalue>, AllocError>
-    ensures { IfOk result (λ r. means (node_view r) (progress_view progress.new) ≡ run_met (expression_view e.now) (progress_view progress.old)) }
+    ensures { IfOk result (λ r.
+        means (node_view r) (progress_view progress.new) ≡ run_met (expression_view e.now)
+        (progress_view progress.old)) }
 {
     let value = given!(progress.value(alloc, e));
     let tree = given!(tree_of(alloc, value));
@@ -87,7 +89,9 @@ fn tested(
     extent: Extent,
     value: Option<Value>,
 ) -> Result<Box<Rvalue>, AllocError>
-    ensures { IfOk result (λ r. means (node_view r) (progress_view progress.new) ≡ tested extent (option_map value_view value) (progress_view progress.old)) }
+    ensures { IfOk result (λ r.
+        means (node_view r) (progress_view progress.new) ≡ tested extent (option_map value_view value)
+        (progress_view progress.old)) }
 {
     let Some(value) = value else {
         let nothing = given!(tree_of(alloc, None));
@@ -104,7 +108,9 @@ pub fn condition(
     extent: Extent,
     e: &Expression,
 ) -> Result<Box<Rvalue>, AllocError>
-    ensures { IfOk result (λ r. means (node_view r) (progress_view progress.new) ≡ condition_met extent (expression_view e.now) (progress_view progress.old)) }
+    ensures { IfOk result (λ r.
+        means (node_view r) (progress_view progress.new) ≡ condition_met extent (expression_view e.now)
+        (progress_view progress.old)) }
 {
     let value = given!(progress.value(alloc, e));
     tested(alloc, progress, extent, value)
@@ -117,7 +123,9 @@ pub fn condition_if_any(
     extent: Extent,
     e: &Option<Expression>,
 ) -> Result<Option<Box<Rvalue>>, AllocError>
-    ensures { IfOk result (λ r. means (option_map node_view r) (progress_view progress.new) ≡ condition_if_any extent (option_map expression_view e.now) (progress_view progress.old)) }
+    ensures { IfOk result (λ r.
+        means (option_map node_view r) (progress_view progress.new) ≡ condition_if_any extent
+        (option_map expression_view e.now) (progress_view progress.old)) }
 {
     match e {
         None => Ok(None),
@@ -134,7 +142,9 @@ pub fn start(
     progress: &mut Progress,
     start: &ForStart,
 ) -> Result<Box<TypedStart>, AllocError>
-    ensures { IfOk result (λ s. means (start_view s.value) (progress_view progress.new) ≡ start_met (tree.start_view start.now) (progress_view progress.old)) }
+    ensures { IfOk result (λ s.
+        means (start_view s.value) (progress_view progress.new) ≡ start_met (tree.start_view start.now)
+        (progress_view progress.old)) }
 {
     match start {
         ForStart::Nothing => {
@@ -162,7 +172,9 @@ pub fn step(
     progress: &mut Progress,
     e: &Option<Expression>,
 ) -> Result<Option<Box<TypedStep>>, AllocError>
-    ensures { IfOk result (λ s. means (option_map (λ x. step_view x.value) s) (progress_view progress.new) ≡ step_met (option_map expression_view e.now) (progress_view progress.old)) }
+    ensures { IfOk result (λ s.
+        means (option_map (λ x. step_view x.value) s) (progress_view progress.new) ≡ step_met
+        (option_map expression_view e.now) (progress_view progress.old)) }
 {
     match e {
         None => Ok(None),
@@ -207,7 +219,9 @@ fn given_back(
     value: Option<Value>,
     extent: Extent,
 ) -> Result<Option<Box<Rvalue>>, AllocError>
-    ensures { IfOk result (λ r. means (option_map node_view r) (progress_view progress.new) ≡ given (option_map value_view value) extent (progress_view progress.old)) }
+    ensures { IfOk result (λ r.
+        means (option_map node_view r) (progress_view progress.new) ≡ given (option_map value_view value) extent
+        (progress_view progress.old)) }
 {
     match value {
         Some(value) => Ok(Some(value.tree)),
@@ -227,7 +241,9 @@ fn returns(
     is_zero: bool,
     value: Option<Value>,
 ) -> Result<Option<Box<Rvalue>>, AllocError>
-    ensures { IfOk result (λ r. means (option_map node_view r) (progress_view progress.new) ≡ returns of extent is_zero (option_map value_view value) (progress_view progress.old)) }
+    ensures { IfOk result (λ r.
+        means (option_map node_view r) (progress_view progress.new) ≡ returns of extent is_zero
+        (option_map value_view value) (progress_view progress.old)) }
 {
     match value {
         Some(value) => {
@@ -251,7 +267,9 @@ pub fn return_value(
     extent: Extent,
     e: &Option<Expression>,
 ) -> Result<Option<Box<Rvalue>>, AllocError>
-    ensures { IfOk result (λ r. means (option_map node_view r) (progress_view progress.new) ≡ return_met of extent (option_map expression_view e.now) (progress_view progress.old)) }
+    ensures { IfOk result (λ r.
+        means (option_map node_view r) (progress_view progress.new) ≡ return_met of extent
+        (option_map expression_view e.now) (progress_view progress.old)) }
 {
     match e {
         Some(e) => {

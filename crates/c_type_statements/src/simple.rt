@@ -26,7 +26,10 @@ pub fn declared(
     progress: &mut Progress,
     d: &Declaration,
 ) -> Result<Box<TypedStatement>, AllocError>
-    ensures { IfOk result (λ t. means (typed_tree.statement_view t.value) (progress_view progress.new) ≡ next_met (declaration_met (declaration_view d.now) (progress_view progress.old)) (λ all. means (typed_tree.Declaration all))) }
+    ensures { IfOk result (λ t.
+        means (typed_tree.statement_view t.value) (progress_view progress.new) ≡ next_met
+        (declaration_met (declaration_view d.now) (progress_view progress.old))
+        (λ all. means (typed_tree.Declaration all))) }
 {
     let all = given!(declaration(alloc, progress, d));
     let made = given!(node(alloc, TypedStatement::Declaration(all)));
@@ -39,7 +42,10 @@ pub fn executed(
     progress: &mut Progress,
     e: &Expression,
 ) -> Result<Box<TypedStatement>, AllocError>
-    ensures { IfOk result (λ t. means (typed_tree.statement_view t.value) (progress_view progress.new) ≡ next_met (run_met (expression_view e.now) (progress_view progress.old)) (λ r. means (typed_tree.Run (first_of (expression_view e.now)) r))) }
+    ensures { IfOk result (λ t.
+        means (typed_tree.statement_view t.value) (progress_view progress.new) ≡ next_met
+        (run_met (expression_view e.now) (progress_view progress.old))
+        (λ r. means (typed_tree.Run (first_of (expression_view e.now)) r))) }
 {
     let spot = e.first();
     let tree = given!(run(alloc, progress, e));
@@ -55,7 +61,10 @@ pub fn broken(
     setting: Setting,
     extent: Extent,
 ) -> Result<Box<TypedStatement>, AllocError>
-    ensures { IfOk result (λ t. means (typed_tree.statement_view t.value) (progress_view progress.new) ≡ means (typed_tree.Break extent.first) (unless setting.may_break MISPLACED_JUMP extent (progress_view progress.old))) }
+    ensures { IfOk result (λ t.
+        means (typed_tree.statement_view t.value) (progress_view progress.new) ≡ means
+        (typed_tree.Break extent.first)
+        (unless setting.may_break MISPLACED_JUMP extent (progress_view progress.old))) }
 {
     given!(unless(progress, setting.may_break, Code::MISPLACED_JUMP, extent));
     let made = given!(node(alloc, TypedStatement::Break(extent.first)));
@@ -69,7 +78,10 @@ pub fn continued(
     setting: Setting,
     extent: Extent,
 ) -> Result<Box<TypedStatement>, AllocError>
-    ensures { IfOk result (λ t. means (typed_tree.statement_view t.value) (progress_view progress.new) ≡ means (typed_tree.Continue extent.first) (unless setting.may_continue MISPLACED_JUMP extent (progress_view progress.old))) }
+    ensures { IfOk result (λ t.
+        means (typed_tree.statement_view t.value) (progress_view progress.new) ≡ means
+        (typed_tree.Continue extent.first)
+        (unless setting.may_continue MISPLACED_JUMP extent (progress_view progress.old))) }
 {
     given!(unless(progress, setting.may_continue, Code::MISPLACED_JUMP, extent));
     let made = given!(node(alloc, TypedStatement::Continue(extent.first)));
@@ -84,7 +96,10 @@ pub fn returned(
     extent: Extent,
     e: &Option<Expression>,
 ) -> Result<Box<TypedStatement>, AllocError>
-    ensures { IfOk result (λ t. means (typed_tree.statement_view t.value) (progress_view progress.new) ≡ next_met (return_met setting.result extent (option_map expression_view e.now) (progress_view progress.old)) (λ r. means (typed_tree.Return extent.first r))) }
+    ensures { IfOk result (λ t.
+        means (typed_tree.statement_view t.value) (progress_view progress.new) ≡ next_met
+        (return_met setting.result extent (option_map expression_view e.now) (progress_view progress.old))
+        (λ r. means (typed_tree.Return extent.first r))) }
 {
     let tree = given!(return_value(alloc, progress, setting.result, extent, e));
     let value = unboxed(tree);

@@ -35,7 +35,9 @@ pub fn statement(
     setting: Setting,
     s: &Statement,
 ) -> Result<Box<TypedStatement>, AllocError>
-    ensures { IfOk result (λ t. means (typed_tree.statement_view t.value) (progress_view progress.new) ≡ statement_met setting (statement_view s.now) (progress_view progress.old)) }
+    ensures { IfOk result (λ t.
+        means (typed_tree.statement_view t.value) (progress_view progress.new) ≡ statement_met setting
+        (statement_view s.now) (progress_view progress.old)) }
 {
     match s {
         Statement::Block(block) => {
@@ -116,7 +118,9 @@ pub fn statements(
     setting: Setting,
     all: &[Statement],
 ) -> Result<TypedStatements, AllocError>
-    ensures { IfOk result (λ t. means (typed_tree.statements_view t) (progress_view progress.new) ≡ statements_met setting (chain (map statement_view all.now)) (progress_view progress.old)) }
+    ensures { IfOk result (λ t.
+        means (typed_tree.statements_view t) (progress_view progress.new) ≡ statements_met setting
+        (chain (map statement_view all.now)) (progress_view progress.old)) }
 {
     let mut parts = Vec::new(alloc);
     for one in all {
@@ -134,7 +138,9 @@ fn block_in_scope(
     setting: Setting,
     all: &[Statement],
 ) -> Result<TypedStatements, AllocError>
-    ensures { IfOk result (λ t. means (typed_tree.statements_view t) (progress_view progress.new) ≡ in_scope (statements_met setting (chain (map statement_view all.now))) (progress_view progress.old)) }
+    ensures { IfOk result (λ t.
+        means (typed_tree.statements_view t) (progress_view progress.new) ≡ in_scope
+        (statements_met setting (chain (map statement_view all.now))) (progress_view progress.old)) }
 {
     progress.open(alloc)?;
     let made = statements(alloc, progress, setting, all)?;
@@ -151,7 +157,9 @@ fn branch(
     last: u32,
     branch: &Branch,
 ) -> Result<Built, AllocError>
-    ensures { IfOk result (λ b. means (built_view b) (progress_view progress.new) ≡ branch_met setting last (branch_view branch.now) (progress_view progress.old)) }
+    ensures { IfOk result (λ b.
+        means (built_view b) (progress_view progress.new) ≡ branch_met setting last (branch_view branch.now)
+        (progress_view progress.old)) }
 {
     let extent = Extent {
         first: branch.spot,
@@ -175,7 +183,9 @@ fn branches(
     last: u32,
     all: &[Branch],
 ) -> Result<Vec<Built>, AllocError>
-    ensures { IfOk result (λ v. means (map built_view v.items) (progress_view progress.new) ≡ branches_met setting last (map branch_view all.now) (progress_view progress.old)) }
+    ensures { IfOk result (λ v.
+        means (map built_view v.items) (progress_view progress.new) ≡ branches_met setting last
+        (map branch_view all.now) (progress_view progress.old)) }
 {
     let mut built = Vec::new(alloc);
     for one in all {
@@ -193,7 +203,9 @@ fn last_else(
     setting: Setting,
     otherwise: &Option<Box<Statement>>,
 ) -> Result<Option<Box<TypedStatement>>, AllocError>
-    ensures { IfOk result (λ t. means (option_map (λ s. typed_tree.statement_view s.value) t) (progress_view progress.new) ≡ else_met setting (option_map (λ s. statement_view s.value) otherwise.now) (progress_view progress.old)) }
+    ensures { IfOk result (λ t.
+        means (option_map (λ s. typed_tree.statement_view s.value) t) (progress_view progress.new) ≡ else_met
+        setting (option_map (λ s. statement_view s.value) otherwise.now) (progress_view progress.old)) }
 {
     match otherwise {
         None => Ok(None),
@@ -216,7 +228,10 @@ fn for_loop(
     last: &Option<Expression>,
     body: &Statement,
 ) -> Result<Box<TypedStatement>, AllocError>
-    ensures { IfOk result (λ t. means (typed_tree.statement_view t.value) (progress_view progress.new) ≡ for_met setting spot (start_view first.now) (option_map expression_view test.now) (option_map expression_view last.now) (statement_view body.now) (progress_view progress.old)) }
+    ensures { IfOk result (λ t.
+        means (typed_tree.statement_view t.value) (progress_view progress.new) ≡ for_met setting spot
+        (start_view first.now) (option_map expression_view test.now) (option_map expression_view last.now)
+        (statement_view body.now) (progress_view progress.old)) }
 {
     let extent = Extent {
         first: spot,
@@ -251,7 +266,10 @@ fn switch(
     block: &Block,
     value: &Expression,
 ) -> Result<Box<TypedStatement>, AllocError>
-    ensures { IfOk result (λ t. means (typed_tree.statement_view t.value) (progress_view progress.new) ≡ switch_met setting spot (expression_view value.now) (chain (map statement_view block.now.statements.items)) block.now.closing (progress_view progress.old)) }
+    ensures { IfOk result (λ t.
+        means (typed_tree.statement_view t.value) (progress_view progress.new) ≡ switch_met setting spot
+        (expression_view value.now) (chain (map statement_view block.now.statements.items)) block.now.closing
+        (progress_view progress.old)) }
 {
     let extent = Extent {
         first: spot,
@@ -280,7 +298,9 @@ fn items(
     kind: Option<IntegerType>,
     all: &[Statement],
 ) -> Result<TypedStatements, AllocError>
-    ensures { IfOk result (λ t. means (typed_tree.statements_view t) (progress_view progress.new) ≡ items_met setting kind (chain (map statement_view all.now)) no_labels (progress_view progress.old)) }
+    ensures { IfOk result (λ t.
+        means (typed_tree.statements_view t) (progress_view progress.new) ≡ items_met setting kind
+        (chain (map statement_view all.now)) no_labels (progress_view progress.old)) }
 {
     let mut labels = no_labels(alloc);
     let mut parts = Vec::new(alloc);
@@ -301,7 +321,10 @@ fn item(
     parts: &mut Vec<Part>,
     s: &Statement,
 ) -> Result<(), AllocError>
-    ensures { OnOk result (means (so_far parts.new.items labels.new) (progress_view progress.new) ≡ next_met (met (Inside kind (labels_view labels.old)) setting (statement_view s.now) (progress_view progress.old)) (added (map part_view parts.old.items))) }
+    ensures { OnOk result
+        (means (so_far parts.new.items labels.new) (progress_view progress.new) ≡ next_met
+        (met (Inside kind (labels_view labels.old)) setting (statement_view s.now) (progress_view progress.old))
+        (added (map part_view parts.old.items))) }
 {
     match s {
         Statement::Labeled {

@@ -51,7 +51,9 @@ fn chosen_from(
     extent: Extent,
     value: Option<Value>,
 ) -> Result<Chosen, AllocError>
-    ensures { IfOk result (λ c. means (chosen_view c) (progress_view progress.new) ≡ chosen extent (option_map value_view value) (progress_view progress.old)) }
+    ensures { IfOk result (λ c.
+        means (chosen_view c) (progress_view progress.new) ≡ chosen extent (option_map value_view value)
+        (progress_view progress.old)) }
 {
     let Some(value) = value else {
         let tree = given!(tree_of(alloc, None));
@@ -83,7 +85,9 @@ pub fn chosen_value(
     extent: Extent,
     e: &Expression,
 ) -> Result<Chosen, AllocError>
-    ensures { IfOk result (λ c. means (chosen_view c) (progress_view progress.new) ≡ chosen_met extent (expression_view e.now) (progress_view progress.old)) }
+    ensures { IfOk result (λ c.
+        means (chosen_view c) (progress_view progress.new) ≡ chosen_met extent (expression_view e.now)
+        (progress_view progress.old)) }
 {
     let value = given!(progress.value(alloc, e));
     chosen_from(alloc, progress, extent, value)
@@ -136,7 +140,10 @@ fn numbered(
     extent: Extent,
     value: Option<i64>,
 ) -> Result<(), AllocError>
-    ensures { OnOk result (means (so_far parts.new.items labels.new) (progress_view progress.new) ≡ next_met (case_numbered value extent (labels_view labels.old) (progress_view progress.old)) (behind (map part_view parts.old.items))) }
+    ensures { OnOk result
+        (means (so_far parts.new.items labels.new) (progress_view progress.new) ≡ next_met
+        (case_numbered value extent (labels_view labels.old) (progress_view progress.old))
+        (behind (map part_view parts.old.items))) }
 {
     let Some(value) = value else {
         return progress.fault(Code::MISPLACED_JUMP, extent);
@@ -158,7 +165,10 @@ pub fn case(
     extent: Extent,
     e: &Expression,
 ) -> Result<(), AllocError>
-    ensures { OnOk result (means (so_far parts.new.items labels.new) (progress_view progress.new) ≡ next_met (case_met kind extent (expression_view e.now) (labels_view labels.old) (progress_view progress.old)) (behind (map part_view parts.old.items))) }
+    ensures { OnOk result
+        (means (so_far parts.new.items labels.new) (progress_view progress.new) ≡ next_met
+        (case_met kind extent (expression_view e.now) (labels_view labels.old) (progress_view progress.old))
+        (behind (map part_view parts.old.items))) }
 {
     let value = progress.value(alloc, e)?;
     match value {
@@ -178,7 +188,10 @@ pub fn default(
     parts: &mut Vec<Part>,
     extent: Extent,
 ) -> Result<(), AllocError>
-    ensures { OnOk result (means (so_far parts.new.items labels.new) (progress_view progress.new) ≡ next_met (default_met extent (labels_view labels.old) (progress_view progress.old)) (behind (map part_view parts.old.items))) }
+    ensures { OnOk result
+        (means (so_far parts.new.items labels.new) (progress_view progress.new) ≡ next_met
+        (default_met extent (labels_view labels.old) (progress_view progress.old))
+        (behind (map part_view parts.old.items))) }
 {
     unless(progress, !labels.has_default, Code::REPEATED_LABEL, extent)?;
     labels.has_default = true;

@@ -55,7 +55,9 @@ pub fn null(alloc: Global, of: ValueType) -> Result<Value, AllocError>
     })
 }
 
-/// A value as if assigned to an object that holds values of a type: an integer is converted to any integer type, a pointer only to its own, and a constant token 0 to the null pointer. None where the language does not allow it (6.5.16.1).
+/// A value as if assigned to an object that holds values of a type: an integer is converted to any integer type, a
+/// pointer only to its own, and a constant token 0 to the null pointer. None where the language does not allow it
+/// (6.5.16.1).
 pub fn converted(
     alloc: Global,
     value: Value,

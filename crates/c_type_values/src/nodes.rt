@@ -4,7 +4,8 @@ ghost use Rattle.std.specs.Prelude.{◌≡◌, IfOk};
 
 use std::alloc::{AllocError, Global};
 
-/// What a call gives, where it fails with the very error of the function that it stands in. A `match` in place of `?`, since this is proved in less time.
+/// What a call gives, where it fails with the very error of the function that it stands in. A `match` in place of `?`,
+/// since this is proved in less time.
 #[macro_export]
 macro_rules! given {
     ($e:expr) => {

@@ -139,7 +139,8 @@ fn arithmetic_value(
     left_type: IntegerType,
     right_type: IntegerType,
 ) -> Result<Value, AllocError>
-    ensures { IfOk result (λ v. value_view v ≡ arithmetic_value operator left_type right_type (value_view left) (value_view right)) }
+    ensures { IfOk result (λ v.
+        value_view v ≡ arithmetic_value operator left_type right_type (value_view left) (value_view right)) }
 {
     let integer_type = if is_shift(operator) {
         promoted(left_type)
@@ -247,14 +248,16 @@ fn difference(
     })
 }
 
-/// Arithmetic: on two integers, a pointer plus or minus an integer, an integer plus a pointer, or the difference of two pointers of one type; none of others.
+/// Arithmetic: on two integers, a pointer plus or minus an integer, an integer plus a pointer, or the difference of two
+/// pointers of one type; none of others.
 fn calculated_value(
     alloc: Global,
     operator: Arithmetic,
     left: Value,
     right: Value,
 ) -> Result<Option<Value>, AllocError>
-    ensures { IfOk result (λ v. option_map value_view v ≡ calculated_value operator (value_view left) (value_view right)) }
+    ensures { IfOk result
+        (λ v. option_map value_view v ≡ calculated_value operator (value_view left) (value_view right)) }
 {
     match (left.of, right.of) {
         (ValueType::Integer(left_type), ValueType::Integer(right_type)) => {
@@ -328,7 +331,8 @@ fn integers_compared(
     right: Value,
     integer_type: IntegerType,
 ) -> Result<Value, AllocError>
-    ensures { IfOk result (λ v. value_view v ≡ integers_compared operator integer_type (value_view left) (value_view right)) }
+    ensures { IfOk result
+        (λ v. value_view v ≡ integers_compared operator integer_type (value_view left) (value_view right)) }
 {
     let left = given!(to_integer(alloc, left, integer_type));
     let right = given!(to_integer(alloc, right, integer_type));
@@ -348,7 +352,8 @@ fn integers_compared(
     })
 }
 
-/// A comparison: of two integers, of two pointers of one type, or for equality of a pointer and a constant token 0; none of others.
+/// A comparison: of two integers, of two pointers of one type, or for equality of a pointer and a constant token 0;
+/// none of others.
 fn compared_value(
     alloc: Global,
     operator: Comparison,
@@ -357,7 +362,8 @@ fn compared_value(
     left_zero: bool,
     right_zero: bool,
 ) -> Result<Option<Value>, AllocError>
-    ensures { IfOk result (λ v. option_map value_view v ≡ compared_value operator (value_view left) (value_view right) left_zero right_zero) }
+    ensures { IfOk result (λ v.
+        option_map value_view v ≡ compared_value operator (value_view left) (value_view right) left_zero right_zero) }
 {
     match (left.of, right.of) {
         (ValueType::Integer(left_type), ValueType::Integer(right_type)) => {
@@ -430,7 +436,8 @@ fn either(alloc: Global, left: Value, right: Value) -> Result<Option<Value>, All
     }))
 }
 
-/// An operator between two values, of which may be told that they are constant tokens 0; none where it does not take their types.
+/// An operator between two values, of which may be told that they are constant tokens 0; none where it does not take
+/// their types.
 pub fn combined(
     alloc: Global,
     operator: BinaryOperator,
@@ -439,7 +446,9 @@ pub fn combined(
     left_zero: bool,
     right_zero: bool,
 ) -> Result<Option<Value>, AllocError>
-    ensures { IfOk result (λ v. option_map value_view v ≡ combined (operation_of operator) (value_view left) (value_view right) left_zero right_zero) }
+    ensures { IfOk result (λ v.
+        option_map value_view v ≡ combined (operation_of operator) (value_view left) (value_view right) left_zero
+        right_zero) }
 {
     match operation_of(operator) {
         Operation::Calculates(arithmetic) => calculated_value(alloc, arithmetic, left, right),
@@ -472,7 +481,8 @@ fn chosen(
     otherwise: Value,
     constant: Constancy,
 ) -> Result<Value, AllocError>
-    ensures { IfOk result (λ v. value_view v ≡ chosen of (value_view condition) (value_view then) (value_view otherwise) constant) }
+    ensures { IfOk result (λ v.
+        value_view v ≡ chosen of (value_view condition) (value_view then) (value_view otherwise) constant) }
 {
     let tree = given!(node(
         alloc,
@@ -493,7 +503,8 @@ fn chosen_integer(
     then: Value,
     otherwise: Value,
 ) -> Result<Value, AllocError>
-    ensures { IfOk result (λ v. value_view v ≡ chosen_integer integer_type (value_view condition) (value_view then) (value_view otherwise)) }
+    ensures { IfOk result (λ v.
+        value_view v ≡ chosen_integer integer_type (value_view condition) (value_view then) (value_view otherwise)) }
 {
     let then = given!(to_integer(alloc, then, integer_type));
     let otherwise = given!(to_integer(alloc, otherwise, integer_type));
@@ -517,7 +528,9 @@ fn chosen_as(
     then_zero: bool,
     other_zero: bool,
 ) -> Result<Option<Value>, AllocError>
-    ensures { IfOk result (λ v. option_map value_view v ≡ chosen_as then.of otherwise.of (value_view condition) (value_view then) (value_view otherwise) then_zero other_zero) }
+    ensures { IfOk result (λ v.
+        option_map value_view v ≡ chosen_as then.of otherwise.of (value_view condition) (value_view then)
+        (value_view otherwise) then_zero other_zero) }
 {
     let varies = Constancy::Varies;
     match (then.of, otherwise.of) {
@@ -554,7 +567,8 @@ fn chosen_as(
     }
 }
 
-/// `a?b:c`: the condition is a scalar, and the arms are two integers, of one type, or a pointer and a constant token 0; none of others.
+/// `a?b:c`: the condition is a scalar, and the arms are two integers, of one type, or a pointer and a constant token 0;
+/// none of others.
 pub fn conditional(
     alloc: Global,
     condition: Value,
@@ -563,7 +577,9 @@ pub fn conditional(
     then_zero: bool,
     other_zero: bool,
 ) -> Result<Option<Value>, AllocError>
-    ensures { IfOk result (λ v. option_map value_view v ≡ conditional (value_view condition) (value_view then) (value_view otherwise) then_zero other_zero) }
+    ensures { IfOk result (λ v.
+        option_map value_view v ≡ conditional (value_view condition) (value_view then) (value_view otherwise)
+        then_zero other_zero) }
 {
     if !is_scalar(condition.of) {
         return Ok(None);

@@ -70,7 +70,8 @@ fn named_array(pointer: &Rvalue) -> Option<(u32, u32, u32)>
     }
 }
 
-/// The address of an element as a constant: the array is named, and the index an integer constant expression from 0 to the number of elements.
+/// The address of an element as a constant: the array is named, and the index an integer constant expression from 0 to
+/// the number of elements.
 fn element_address(pointer: &Rvalue, index: Constancy) -> Constancy
     ensures { result ≡ element_address (named_array (rvalue_view pointer.now)) index }
 {

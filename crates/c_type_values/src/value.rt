@@ -30,7 +30,8 @@ pub enum Meant {
     Value(Value),
 }
 
-/// The value of an expression: what an object of a scalar type holds, and a pointer to the first element of an array (6.3.2.1).
+/// The value of an expression: what an object of a scalar type holds, and a pointer to the first element of an array
+/// (6.3.2.1).
 pub fn as_value(alloc: Global, meant: Meant) -> Result<Value, AllocError>
     ensures { IfOk result (λ v. value_view v ≡ as_value (meant_view meant)) }
 {

@@ -103,7 +103,8 @@ pub fn stepped(
     }
 }
 
-/// `a=b` with an object of a scalar type and a value of its type. Of others, which is a fault, the left side's own value stands for it.
+/// `a=b` with an object of a scalar type and a value of its type. Of others, which is a fault, the left side's own
+/// value stands for it.
 pub fn assigned(alloc: Global, meant: Meant, value: Option<Value>) -> Result<Value, AllocError>
     ensures { IfOk result (λ v. value_view v ≡ assigned (meant_view meant) (option_map value_view value)) }
 {
@@ -171,7 +172,8 @@ fn integer_updated(
     value: Value,
     value_type: IntegerType,
 ) -> Result<Box<Rvalue>, AllocError>
-    ensures { IfOk result (λ r. node_view r ≡ integer_updated operator target_type value_type (lvalue_view target.value) (value_view value)) }
+    ensures { IfOk result (λ r.
+        node_view r ≡ integer_updated operator target_type value_type (lvalue_view target.value) (value_view value)) }
 {
     let integer_type = update_type(operator, target_type, value_type);
     let right_type = if is_shift(operator) {
@@ -212,7 +214,8 @@ fn pointer_updated(
     value: Value,
     value_type: IntegerType,
 ) -> Result<Box<Rvalue>, AllocError>
-    ensures { IfOk result (λ r. node_view r ≡ pointer_updated operator element value_type (lvalue_view target.value) (value_view value)) }
+    ensures { IfOk result (λ r.
+        node_view r ≡ pointer_updated operator element value_type (lvalue_view target.value) (value_view value)) }
 {
     let by = given!(to_integer(alloc, value, promoted(value_type)));
     let tree = given!(node(
@@ -236,7 +239,8 @@ fn update_tree(
     value: Value,
     value_type: IntegerType,
 ) -> Result<Box<Rvalue>, AllocError>
-    ensures { IfOk result (λ r. node_view r ≡ update_tree operator scalar value_type (lvalue_view target.value) (value_view value)) }
+    ensures { IfOk result (λ r.
+        node_view r ≡ update_tree operator scalar value_type (lvalue_view target.value) (value_view value)) }
 {
     if scalar.stars == 0 {
         integer_updated(alloc, operator, scalar.base, target, value, value_type)
@@ -252,7 +256,8 @@ fn update_tree(
     }
 }
 
-/// `a+=b` with an object of a scalar type and an integer. Of others, which is a fault, the left side's own value stands for it.
+/// `a+=b` with an object of a scalar type and an integer. Of others, which is a fault, the left side's own value stands
+/// for it.
 pub fn updated(
     alloc: Global,
     operator: Arithmetic,

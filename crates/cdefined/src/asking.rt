@@ -23,7 +23,8 @@ fn in_turns<'a>(turns: &str, source: &'a str, input: &'a str) -> Option<Asked<'a
     }
 }
 
-/// What the words ask for, the program's own name first: `[--turns N] SRC INPUT`, or `--turns=N`. None where they ask for nothing.
+/// What the words ask for, the program's own name first: `[--turns N] SRC INPUT`, or `--turns=N`. None where they ask
+/// for nothing.
 pub fn asked_by(words: &[String]) -> Option<Asked<'_>> {
     match words {
         [_, source, input] => Some(Asked {

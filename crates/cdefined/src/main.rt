@@ -112,7 +112,8 @@ fn status_of(rt: &HostRuntime) -> Status {
     status_over(rt.alloc(), &words, &mut shelf, &mut sink)
 }
 
-/// Says on standard error why there is no answer, in the words of `cdbg` under this program's name, and gives the status
+/// Says on standard error why there is no answer, in the words of `cdbg` under this program's name, and gives the
+/// status
 /// that is said: want of memory where its text is refused memory.
 fn tell(rt: &HostRuntime, status: Status) -> Status {
     if status == Status::Done {

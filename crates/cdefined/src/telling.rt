@@ -49,7 +49,8 @@ fn amounts_text(alloc: Global, run: &RunInShort, between: &str) -> Result<String
     format!(in alloc; "{stops}{between}{bytes}")
 }
 
-/// What is told of a run that C does not define to its end: the place at which it ended, the stops that it made until then, that at this place among them,
+/// What is told of a run that C does not define to its end: the place at which it ended, the stops that it made until
+/// then, that at this place among them,
 /// the bytes that it put out, the place of the last stop where that is another, and the cause.
 fn undefined_line(
     alloc: Global,
@@ -73,8 +74,10 @@ fn undefined_line(
 
 /// The line that says how a run of so many turns ended, with its line end:
 ///
-/// - `defined: 41 stops, 3 bytes, exit 5`, or `depth` in place of the status where a call found 1,024 activations alive;
-/// - `undefined: at 7 line 5 main depth 1, after 40 stops and 2 bytes: division by zero`. The stops are all that the run made, that at this place among them;
+/// - `defined: 41 stops, 3 bytes, exit 5`, or `depth` in place of the status where a call found 1,024 activations
+/// alive;
+/// - `undefined: at 7 line 5 main depth 1, after 40 stops and 2 bytes: division by zero`. The stops are all that the
+/// run made, that at this place among them;
 /// - `open: 1000000 turns, after 999998 stops and 0 bytes`: the turns were used up, and C defined all that was done.
 pub fn line_of(
     alloc: Global,

@@ -22,7 +22,9 @@ fn add_option<'a>(
     arguments: &mut Vec<Arg<'a>>,
     name: &'a str,
 ) -> Result<(), AllocError>
-    ensures { OnOk result (rules_with_reach arguments.new.items ≡ rules_with_reach arguments.old.items ++ (option_rule name.entry.now, false) ∷ []) }
+    ensures { OnOk result
+        (rules_with_reach arguments.new.items
+        ≡ rules_with_reach arguments.old.items ++ (option_rule name.entry.now, false) ∷ []) }
 {
     push(
         arguments,
@@ -36,7 +38,9 @@ fn add_place<'a>(
     arguments: &mut Vec<Arg<'a>>,
     name: &'a str,
 ) -> Result<(), AllocError>
-    ensures { OnOk result (rules_with_reach arguments.new.items ≡ rules_with_reach arguments.old.items ++ (place_rule name.entry.now, false) ∷ []) }
+    ensures { OnOk result
+        (rules_with_reach arguments.new.items
+        ≡ rules_with_reach arguments.old.items ++ (place_rule name.entry.now, false) ∷ []) }
 {
     push(
         arguments,
@@ -87,7 +91,8 @@ fn add_job<'a>(
     places: &[&'a str],
 ) -> Result<(), AllocError>
     ensures { OnOk result (AddsJobCommand name.entry.now
-        (map (λ s. s.now) options.entry.now) (map (λ s. s.now) places.entry.now) commands.old.items commands.new.items) }
+        (map (λ s. s.now) options.entry.now) (map (λ s. s.now) places.entry.now) commands.old.items
+        commands.new.items) }
 {
     push(commands, job_command(alloc, name, options, places)?)
 }

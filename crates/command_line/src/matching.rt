@@ -57,9 +57,11 @@ fn are_readable(words: &[String]) -> bool
     words.iter().all(|word| is_readable_word(word.as_str()))
 }
 
-/// The matches of the words, which are none exactly where the words are of no job's form. `AllocError` where memory was refused.
+/// The matches of the words, which are none exactly where the words are of no job's form. `AllocError` where memory was
+/// refused.
 ///
-/// A word that begins with `-` and is no option is refused first: `clap` takes `-` for a positional, and `--` for the end of the
+/// A word that begins with `-` and is no option is refused first: `clap` takes `-` for a positional, and `--` for the
+/// end of the
 /// options.
 pub fn matches_of<'a>(
     alloc: Global,

@@ -15,7 +15,8 @@ use debug_records::{Mode, PassName};
 use std::alloc::{AllocError, Global};
 
 fn names_or_default(alloc: Global, value: Option<&str>) -> Result<Option<Vec<PassName>>, AllocError>
-    ensures { IfOk result (λ r. option_map (λ v. map letters v.items) r ≡ names_given (option_map (λ s. s.now) value.entry)) }
+    ensures { IfOk result
+        (λ r. option_map (λ v. map letters v.items) r ≡ names_given (option_map (λ s. s.now) value.entry)) }
 {
     names_of(alloc, value.unwrap_or("copy,motion,dead"))
 }
@@ -178,7 +179,8 @@ fn job_read(alloc: Global, words: &[String]) -> Result<Option<Job>, AllocError>
     }
 }
 
-/// The job that the words are, the program's own name first. None where they are no job. `AllocError` where memory was refused.
+/// The job that the words are, the program's own name first. None where they are no job. `AllocError` where memory was
+/// refused.
 ///
 /// Behind the program's name stands the job's name, and then its options and positionals in any order, as
 ///
@@ -188,9 +190,12 @@ fn job_read(alloc: Global, words: &[String]) -> Result<Option<Job>, AllocError>
 /// - `passes [--passes LIST] SRC`
 /// - `sweep SEED SIZE`
 ///
-/// An option is `--limit N` or `--limit=N`, at most once. No positional and no value of an option begins with `-`. LIST is `none`
-/// or 1 to 32 names with commas between, each of 1 to 16 lower-case letters, and `copy,motion,dead` if it is not given; MODE is
-/// `slots` or `registers`, the default; N is 0 to 1000000000, by default 10000000; SEED is 0 to 4294967295, SIZE is 1 to 400, each
+/// An option is `--limit N` or `--limit=N`, at most once. No positional and no value of an option begins with `-`. LIST
+/// is `none`
+/// or 1 to 32 names with commas between, each of 1 to 16 lower-case letters, and `copy,motion,dead` if it is not given;
+/// MODE is
+/// `slots` or `registers`, the default; N is 0 to 1000000000, by default 10000000; SEED is 0 to 4294967295, SIZE is 1
+/// to 400, each
 /// in one or more decimal digits.
 pub fn job_of(alloc: Global, words: &[String]) -> Result<Option<Job>, AllocError>
     ensures job { IfOk result (λ r. IfSome r (λ j. IsJob (map string_bytes words.now) (job_given j))) }

@@ -2,7 +2,7 @@
 use Rattle.std.specs.Prelude.{◌≡◌, ◌≤◌, ◌-◌, ◌++◌, ◌&&◌, ℕ, nat_le, Bool, true, false, List, replicate, take, length}
 use Rattle.std.specs.List.{list_all}
 use Rattle.debug_records.specs.declared.change.Change.{Change}
-use Rattle.debug_records.specs.declared.change.ChangeLog.{ChangeLog}
+use Rattle.debug_records.specs.declared.log.ChangeLog.{ChangeLog}
 use Rattle.debug_records.specs.declared.change.Kind.{Kind}
 use Rattle.debug_records.specs.declared.change.Kind.TheVariants.{Removed, Moved, Reused, Replaced, Sunk}
 use Rattle.debug_records.specs.declared.change.PassName.{PassName}

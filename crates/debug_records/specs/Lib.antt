@@ -1,3 +1,4 @@
 pub mod Code
 pub mod Change
+pub mod Numbers
 pub mod Refusals

@@ -1,16 +1,16 @@
 //! What the passes changed, numbered.
 
-ghost use Rattle.std.specs.Prelude.{◌≡◌, ◌≢◌, ◌≤◌, ◌<◌, ◌+◌, ◌++◌, [], ◌∷◌, IfOk, IfSome, MatchOption, OnErr, length, true};
+ghost use Rattle.std.specs.Prelude.{◌≡◌, ◌<◌, IfSome, MatchOption, length, true};
 ghost use Rattle.std.specs.List.{list_all};
-ghost use Rattle.debug_records.specs.Change.{changes, is_lower_case, is_taken, IsPassName, letters, pass_name};
+ghost use Rattle.debug_records.specs.Change.{is_lower_case, is_taken, IsPassName, letters, pass_name};
 
-use std::alloc::{AllocError, Global};
-
-/// A place of the source: a point where a debugger may stop, or a function's entry. Places are numbered from 1 in text order.
+/// A place of the source: a point where a debugger may stop, or a function's entry. Places are numbered from 1 in text
+/// order.
 #[derive(Clone, Copy, Default, PartialEq, Eq, PartialOrd, Ord)]
 pub struct Place(pub u32);
 
-/// A variable of the program, by its number from 0: the named static ones, then literals, then automatic ones, each by position.
+/// A variable of the program, by its number from 0: the named static ones, then literals, then automatic ones, each by
+/// position.
 #[derive(Clone, Copy, Default, PartialEq, Eq, PartialOrd, Ord)]
 pub struct Var(pub u32);
 
@@ -42,7 +42,8 @@ fn are_lower_case(bytes: &[u8]) -> bool
 impl PassName {
     /// The name of these letters. None exactly where they are not 1 to 16 lower-case letters.
     pub fn of(bytes: &[u8]) -> Option<PassName>
-        ensures letters { MatchOption result (IsPassName bytes.now → ⊥) (λ name. IsPassName bytes.now × (letters name ≡ bytes.now)) }
+        ensures letters { MatchOption result (IsPassName bytes.now → ⊥)
+            (λ name. IsPassName bytes.now × (letters name ≡ bytes.now)) }
         ensures whole { IfSome result (λ name. name ≡ pass_name bytes.now) }
     {
         if bytes.is_empty() || bytes.len() > PASS_NAME_SIZE {
@@ -105,60 +106,4 @@ pub struct Change {
     pub place: Place,
     /// The variable that it concerns.
     pub var: Var,
-}
-
-/// The changes of all passes in order, numbered from 1.
-#[derive(Drop)]
-pub struct ChangeLog {
-    changes: Vec<Change>,
-}
-
-impl ChangeLog {
-    /// A log of no changes. It takes no memory.
-    pub fn new(alloc: Global) -> ChangeLog
-        ensures { changes result ≡ [] }
-    {
-        ChangeLog {
-            changes: Vec::new(alloc),
-        }
-    }
-
-    /// Appends a change, and tells its number. `AllocError`, and the log as it was, where memory was refused.
-    pub fn push(
-        &mut self,
-        pass: PassName,
-        kind: Kind,
-        place: Place,
-        var: Var,
-    ) -> Result<u32, AllocError>
-        requires { length (changes self.old) < 4294967295 }
-        ensures number { IfOk result (λ n. n ≡ length (changes self.old) + 1) }
-        ensures appended { IfOk result (λ n. changes self.new ≡ changes self.old ++ record { number = n; pass = pass; kind = kind; place = place; var = var } ∷ []) }
-        ensures kept { OnErr result (changes self.new ≡ changes self.old) }
-    {
-        let number = self.changes.len() as u32 + 1;
-        self.changes.push(Change {
-            number,
-            pass,
-            kind,
-            place,
-            var,
-        })?;
-        Ok(number)
-    }
-
-    /// A log of the same changes. `AllocError` where memory was refused.
-    pub fn duplicate(&self, alloc: Global) -> Result<ChangeLog, AllocError>
-        ensures { IfOk result (λ log. changes log ≡ changes self.now) }
-    {
-        let changes = Vec::from_slice(alloc, &self.changes)?;
-        Ok(ChangeLog { changes })
-    }
-
-    /// The changes in order.
-    pub fn changes(&self) -> &[Change]
-        ensures { result.now ≡ changes self.entry.now }
-    {
-        self.changes.as_slice()
-    }
 }

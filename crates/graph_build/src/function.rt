@@ -86,7 +86,9 @@ fn blocks_of(
     function: &TypedFunction,
     is_main: bool,
 ) -> Result<Vec<Block>, AllocError>
-    ensures { IfOk result (λ v. map block_view v.items ≡ blocks_in (coding_view form.now) (function_part (coding_view form.now) (function_view function.now) is_main)) }
+    ensures { IfOk result (λ v.
+        map block_view v.items ≡ blocks_in (coding_view form.now)
+        (function_part (coding_view form.now) (function_view function.now) is_main)) }
 {
     let part = function_part(alloc, form, function, is_main)?;
     in_order(part)
@@ -114,7 +116,9 @@ fn form_with<'a>(
     function: &TypedFunction,
     top: u32,
 ) -> Result<Form<'a>, AllocError>
-    ensures { IfOk result (λ c. coding_view c ≡ coding_with (program_view source.now.program.now) (function_view function.now) (names_view names.now) top) }
+    ensures { IfOk result (λ c.
+        coding_view c ≡ coding_with (program_view source.now.program.now) (function_view function.now)
+        (names_view names.now) top) }
 {
     let scalars = scalars_of(alloc, names, function)?;
     Ok(Form {
@@ -133,7 +137,8 @@ fn is_again(
     fresh: &Names,
     function: &TypedFunction,
 ) -> Result<bool, AllocError>
-    requires { names_view fresh.now ≡ naming.names_of (program_view source.now.program.now) (function_view function.now) false }
+    requires { names_view fresh.now
+        ≡ naming.names_of (program_view source.now.program.now) (function_view function.now) false }
     ensures { IfOk result (λ b. b ≡ is_again (program_view source.now.program.now) (function_view function.now)) }
 {
     let form = form_with(alloc, source, fresh, function, 0)?;
@@ -147,7 +152,9 @@ fn names_for(
     source: &Source<'_>,
     function: &TypedFunction,
 ) -> Result<Names, AllocError>
-    ensures { IfOk result (λ n. names_view n ≡ naming.names_of (program_view source.now.program.now) (function_view function.now) (is_again (program_view source.now.program.now) (function_view function.now))) }
+    ensures { IfOk result (λ n.
+        names_view n ≡ naming.names_of (program_view source.now.program.now) (function_view function.now)
+        (is_again (program_view source.now.program.now) (function_view function.now))) }
 {
     let fresh = names_of(alloc, source.program, function, false)?;
     if is_again(alloc, source, &fresh, function)? {
@@ -164,7 +171,9 @@ fn graph_in(
     function: &TypedFunction,
     is_main: bool,
 ) -> Result<Graph, AllocError>
-    ensures { IfOk result (λ g. graph_view g ≡ graph_in (coding_view form.now).program (coding_view form.now) (function_view function.now) is_main) }
+    ensures { IfOk result (λ g.
+        graph_view g ≡ graph_in (coding_view form.now).program (coding_view form.now) (function_view function.now)
+        is_main) }
 {
     let names = form.names;
     let used = names_used(form, function)?;
@@ -187,8 +196,10 @@ fn block_count(
     function: &TypedFunction,
     is_main: bool,
 ) -> Result<u32, AllocError>
-    requires { names_view names.now ≡ naming.names_of (program_view source.now.program.now) (function_view function.now) (is_again (program_view source.now.program.now) (function_view function.now)) }
-    ensures { IfOk result (λ n. n ≡ block_count (program_view source.now.program.now) (function_view function.now) is_main) }
+    requires { names_view names.now ≡ naming.names_of (program_view source.now.program.now) (function_view function.now)
+        (is_again (program_view source.now.program.now) (function_view function.now)) }
+    ensures { IfOk result
+        (λ n. n ≡ block_count (program_view source.now.program.now) (function_view function.now) is_main) }
 {
     let form = form_with(alloc, source, names, function, 0)?;
     let blocks = blocks_of(alloc, &form, function, is_main)?;
@@ -204,8 +215,10 @@ fn graph_with(
     function: &TypedFunction,
     is_main: bool,
 ) -> Result<Graph, AllocError>
-    requires { names_view names.now ≡ naming.names_of (program_view source.now.program.now) (function_view function.now) (is_again (program_view source.now.program.now) (function_view function.now)) }
-    ensures { IfOk result (λ g. graph_view g ≡ graph_of (program_view source.now.program.now) (function_view function.now) is_main) }
+    requires { names_view names.now ≡ naming.names_of (program_view source.now.program.now) (function_view function.now)
+        (is_again (program_view source.now.program.now) (function_view function.now)) }
+    ensures { IfOk result (λ g.
+        graph_view g ≡ graph_of (program_view source.now.program.now) (function_view function.now) is_main) }
 {
     let count = block_count(alloc, source, names, function, is_main)?;
     let form = form_with(alloc, source, names, function, count)?;
@@ -220,7 +233,8 @@ pub fn graph_of(
     function: &TypedFunction,
     is_main: bool,
 ) -> Result<Graph, AllocError>
-    ensures { IfOk result (λ g. graph_view g ≡ graph_of (program_view source.now.program.now) (function_view function.now) is_main) }
+    ensures { IfOk result (λ g.
+        graph_view g ≡ graph_of (program_view source.now.program.now) (function_view function.now) is_main) }
 {
     let names = names_for(alloc, source, function)?;
     let graph = graph_with(alloc, source, &names, function, is_main)?;

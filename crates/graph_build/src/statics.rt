@@ -34,7 +34,8 @@ pub fn object_count(of: ObjectType) -> u32
     }
 }
 
-/// The number of an object of static storage: the static variables come first, and then the literals. An automatic object is none: 0 stands for it.
+/// The number of an object of static storage: the static variables come first, and then the literals. An automatic
+/// object is none: 0 stands for it.
 fn static_number(program: &Program, object: Object) -> Result<u32, AllocError>
     ensures { IfOk result (λ n. n ≡ static_number (program_view program.now) object) }
 {
@@ -104,7 +105,8 @@ fn literal_of(alloc: Global, literal: &StringLiteral) -> Result<StaticObject, Al
 
 /// The static variables.
 fn variables_of(alloc: Global, program: &Program) -> Result<Vec<StaticObject>, AllocError>
-    ensures { IfOk result (λ v. map static_view v.items ≡ map (static_of (program_view program.now)) (program_view program.now).statics) }
+    ensures { IfOk result (λ v.
+        map static_view v.items ≡ map (static_of (program_view program.now)) (program_view program.now).statics) }
 {
     let mut objects = Vec::new(alloc);
     for variable in &program.statics {
@@ -126,7 +128,9 @@ fn literals_of(alloc: Global, program: &Program) -> Result<Vec<StaticObject>, Al
 
 /// The objects of static storage: the static variables and then the literals.
 pub fn statics_of(alloc: Global, program: &Program) -> Result<Vec<StaticObject>, AllocError>
-    ensures { IfOk result (λ v. map static_view v.items ≡ map (static_of (program_view program.now)) (program_view program.now).statics ++ map literal_of (program_view program.now).literals) }
+    ensures { IfOk result (λ v.
+        map static_view v.items ≡ map (static_of (program_view program.now)) (program_view program.now).statics ++
+        map literal_of (program_view program.now).literals) }
 {
     let mut objects = variables_of(alloc, program)?;
     let mut literals = literals_of(alloc, program)?;
@@ -136,7 +140,8 @@ pub fn statics_of(alloc: Global, program: &Program) -> Result<Vec<StaticObject>,
 
 /// The bytes that initialise automatic arrays.
 pub fn array_bytes_of(alloc: Global, program: &Program) -> Result<Vec<Bytes>, AllocError>
-    ensures { IfOk result (λ v. map bytes_view v.items ≡ map (λ (l : tree.LiteralTree). l.bytes) (program_view program.now).array_literals) }
+    ensures { IfOk result (λ v.
+        map bytes_view v.items ≡ map (λ (l : tree.LiteralTree). l.bytes) (program_view program.now).array_literals) }
 {
     let mut all = Vec::new(alloc);
     for literal in &program.array_literals {

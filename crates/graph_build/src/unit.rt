@@ -35,7 +35,9 @@ fn positions_in(alloc: Global, program: &Program) -> Result<Vec<u32>, AllocError
 
 /// The graphs of a program's functions, in their order.
 fn graphs_of(alloc: Global, source: &Source<'_>) -> Result<Vec<Graph>, AllocError>
-    ensures { IfOk result (λ v. map graph_view v.items ≡ graphs_from (program_view source.now.program.now) 0 (program_view source.now.program.now).functions) }
+    ensures { IfOk result (λ v.
+        map graph_view v.items ≡ graphs_from (program_view source.now.program.now) 0
+        (program_view source.now.program.now).functions) }
 {
     let mut graphs = Vec::new(alloc);
     for (number, function) in source.program.functions.iter().enumerate() {
@@ -52,9 +54,12 @@ pub fn build(alloc: Global, program: &Program) -> Result<Unit, AllocError>
     ensures main { IfOk result (λ u. (unit_view u).main ≡ (program_view program.now).main) }
     ensures unchanged { IfOk result (λ u. (unit_view u).log ≡ []) }
     ensures steps_in_order { IfOk result (λ u. AreInOrder (unit_view u).steps) }
-    ensures steps { IfOk result (λ u. (s : FlowStep) → Contains (unit_view u).steps s ↔ Contains (steps_of_program (program_view program.now)) s) }
+    ensures steps { IfOk result (λ u.
+        (s : FlowStep) → Contains (unit_view u).steps s ↔ Contains (steps_of_program (program_view program.now)) s) }
     ensures assignments_in_order { IfOk result (λ u. AllPairs IsAssignmentBefore (unit_view u).assignments) }
-    ensures assignments { IfOk result (λ u. (a : Assignment) → Contains (unit_view u).assignments a ↔ Contains (assignments_of_program (program_view program.now)) a) }
+    ensures assignments { IfOk result (λ u.
+        (a : Assignment)
+        → Contains (unit_view u).assignments a ↔ Contains (assignments_of_program (program_view program.now)) a) }
 {
     let flow = flow_table(alloc, program)?;
     let positions = positions_in(alloc, program)?;

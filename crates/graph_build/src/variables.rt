@@ -76,7 +76,8 @@ pub fn scalars_of(
     names: &Names,
     function: &TypedFunction,
 ) -> Result<Vec<u32>, AllocError>
-    ensures { IfOk result (λ v. v.items ≡ scalars_among (names_view names.now) (variables_in (function_view function.now))) }
+    ensures { IfOk result
+        (λ v. v.items ≡ scalars_among (names_view names.now) (variables_in (function_view function.now))) }
 {
     let variables = variables_in(alloc, function)?;
     let scalars = scalars_among(alloc, names, &variables)?;
@@ -149,7 +150,9 @@ fn scalar_record(
     scalars: &[u32],
     variable: u32,
 ) -> Result<Scalar, AllocError>
-    ensures { IfOk result (λ s. scalar_view s ≡ scalar_record (program_view source.now.program.now) (function_view function.now) entry scalars.now variable) }
+    ensures { IfOk result (λ s.
+        scalar_view s ≡ scalar_record (program_view source.now.program.now) (function_view function.now) entry
+        scalars.now variable) }
 {
     Ok(Scalar {
         var: variable_of(source.program, variable)?,
@@ -166,7 +169,10 @@ fn scalar_records(
     entry: u32,
     scalars: &[u32],
 ) -> Result<Vec<Scalar>, AllocError>
-    ensures { IfOk result (λ v. map scalar_view v.items ≡ map (scalar_record (program_view source.now.program.now) (function_view function.now) entry scalars.now) scalars.now) }
+    ensures { IfOk result (λ v.
+        map scalar_view v.items ≡ map
+        (scalar_record (program_view source.now.program.now) (function_view function.now) entry scalars.now)
+        scalars.now) }
 {
     let mut found = Vec::new(alloc);
     for variable in scalars {
@@ -183,7 +189,11 @@ pub fn graph_scalars(
     function: &TypedFunction,
     entry: u32,
 ) -> Result<Vec<Scalar>, AllocError>
-    ensures { IfOk result (λ v. map scalar_view v.items ≡ map (scalar_record (program_view source.now.program.now) (function_view function.now) entry (scalars_among (names_view names.now) (variables_in (function_view function.now)))) (scalars_among (names_view names.now) (variables_in (function_view function.now)))) }
+    ensures { IfOk result (λ v.
+        map scalar_view v.items ≡ map
+        (scalar_record (program_view source.now.program.now) (function_view function.now) entry
+        (scalars_among (names_view names.now) (variables_in (function_view function.now))))
+        (scalars_among (names_view names.now) (variables_in (function_view function.now)))) }
 {
     let scalars = scalars_of(alloc, names, function)?;
     let records = scalar_records(alloc, source, function, entry, &scalars)?;
@@ -224,7 +234,9 @@ pub fn graph_objects(
     names: &Names,
     function: &TypedFunction,
 ) -> Result<Vec<MemoryObject>, AllocError>
-    ensures { IfOk result (λ v. v.items ≡ map (memory_object (program_view program.now)) (kept_among (names_view names.now) (variables_in (function_view function.now)))) }
+    ensures { IfOk result (λ v.
+        v.items ≡ map (memory_object (program_view program.now))
+        (kept_among (names_view names.now) (variables_in (function_view function.now)))) }
 {
     let kept = kept_of(alloc, names, function)?;
     let objects = memory_objects(alloc, program, &kept)?;
@@ -262,7 +274,9 @@ pub fn bindings_of(
     names: &Names,
     function: &TypedFunction,
 ) -> Result<Vec<Binding>, AllocError>
-    ensures { IfOk result (λ v. map binding_view v.items ≡ map (binding_of (names_view names.now)) (places.parameters_of (function_view function.now))) }
+    ensures { IfOk result (λ v.
+        map binding_view v.items ≡ map (binding_of (names_view names.now))
+        (places.parameters_of (function_view function.now))) }
 {
     let parameters = parameters_of(alloc, function)?;
     let bindings = bindings_among(alloc, names, &parameters)?;
@@ -292,7 +306,9 @@ pub fn note_all(
     function: &TypedFunction,
     draft: Draft,
 ) -> Result<Draft, AllocError>
-    ensures { IfOk result (λ d. made_of d ≡ note_parameters (names_view names.now) (places.parameters_of (function_view function.now)) (made_of draft)) }
+    ensures { IfOk result (λ d.
+        made_of d ≡ note_parameters (names_view names.now) (places.parameters_of (function_view function.now))
+        (made_of draft)) }
 {
     let parameters = parameters_of(alloc, function)?;
     let noted = note_parameters(names, &parameters, draft)?;

@@ -65,7 +65,9 @@ fn code_two(
     begun: u32,
     goal: Goal,
 ) -> Result<Draft, AllocError>
-    ensures { IfOk result (λ d. made_of d ≡ code_two (names_view site.now.names.now) site.now.place.0 site.now.top (rvalue_view first.now) (rvalue_view second.now) two begun (goal_of goal)) }
+    ensures { IfOk result (λ d.
+        made_of d ≡ code_two (names_view site.now.names.now) site.now.place.0 site.now.top (rvalue_view first.now)
+        (rvalue_view second.now) two begun (goal_of goal)) }
 {
     let laid = given_for!(
         goal,
@@ -98,8 +100,11 @@ fn code_two_known(
     goal: Goal,
 ) -> Result<Draft, AllocError>
     requires one { laid_view one ≡ laid (names_view site.now.names.now) (rvalue_view first.now) Anywhere begun }
-    requires known { map laid_view known.now ≡ lefts (names_view site.now.names.now) (rvalue_view first.now) Anywhere begun }
-    ensures { IfOk result (λ d. made_of d ≡ code_two (names_view site.now.names.now) site.now.place.0 site.now.top (rvalue_view first.now) (rvalue_view second.now) two begun (goal_of goal)) }
+    requires known { map laid_view known.now
+        ≡ lefts (names_view site.now.names.now) (rvalue_view first.now) Anywhere begun }
+    ensures { IfOk result (λ d.
+        made_of d ≡ code_two (names_view site.now.names.now) site.now.place.0 site.now.top (rvalue_view first.now)
+        (rvalue_view second.now) two begun (goal_of goal)) }
 {
     let pair = given_for!(goal, pair_behind(site.names, first, one, second, begun));
     let last = given!(finished(alloc, site, two, pair, begun, goal));
@@ -118,8 +123,12 @@ fn code_known(
     begun: u32,
     goal: Goal,
 ) -> Result<Draft, AllocError>
-    requires { map laid_view known.now ≡ lefts (names_view site.now.names.now) (rvalue_view e.now) (use_of (goal_of goal)) begun }
-    ensures { IfOk result (λ d. made_of d ≡ code (names_view site.now.names.now) site.now.place.0 site.now.top (rvalue_view e.now) begun (goal_of goal)) }
+    requires { map laid_view known.now
+        ≡ lefts (names_view site.now.names.now) (rvalue_view e.now) (use_of (goal_of goal))
+        begun }
+    ensures { IfOk result (λ d.
+        made_of d ≡ code (names_view site.now.names.now) site.now.place.0 site.now.top (rvalue_view e.now) begun
+        (goal_of goal)) }
 {
     let [one, rest @ ..] = known else {
         return code(alloc, site, e, begun, goal);
@@ -178,8 +187,11 @@ fn code_comma_known(
     goal: Goal,
 ) -> Result<Draft, AllocError>
     requires one { laid_view one ≡ laid (names_view site.now.names.now) (rvalue_view left.now) Nothing begun }
-    requires known { map laid_view known.now ≡ lefts (names_view site.now.names.now) (rvalue_view left.now) Nothing begun }
-    ensures { IfOk result (λ d. made_of d ≡ code (names_view site.now.names.now) site.now.place.0 site.now.top (tree.Comma (rvalue_view left.now) (rvalue_view right.now)) begun (goal_of goal)) }
+    requires known { map laid_view known.now
+        ≡ lefts (names_view site.now.names.now) (rvalue_view left.now) Nothing begun }
+    ensures { IfOk result (λ d.
+        made_of d ≡ code (names_view site.now.names.now) site.now.place.0 site.now.top
+        (tree.Comma (rvalue_view left.now) (rvalue_view right.now)) begun (goal_of goal)) }
 {
     let at = pick(site.names, begun, one.top);
     let draft = given!(code(alloc, site, right, at, goal));
@@ -196,7 +208,9 @@ fn code_comma(
     begun: u32,
     goal: Goal,
 ) -> Result<Draft, AllocError>
-    ensures { IfOk result (λ d. made_of d ≡ code (names_view site.now.names.now) site.now.place.0 site.now.top (tree.Comma (rvalue_view left.now) (rvalue_view right.now)) begun (goal_of goal)) }
+    ensures { IfOk result (λ d.
+        made_of d ≡ code (names_view site.now.names.now) site.now.place.0 site.now.top
+        (tree.Comma (rvalue_view left.now) (rvalue_view right.now)) begun (goal_of goal)) }
 {
     let laid = given_for!(
         goal,
@@ -214,7 +228,9 @@ fn code_place(
     begun: u32,
     draft: Draft,
 ) -> Result<Draft, AllocError>
-    ensures { IfOk result (λ d. made_of d ≡ code_place (names_view site.now.names.now) site.now.place.0 site.now.top (lvalue_view l.now) begun (made_of draft)) }
+    ensures { IfOk result (λ d.
+        made_of d ≡ code_place (names_view site.now.names.now) site.now.place.0 site.now.top (lvalue_view l.now)
+        begun (made_of draft)) }
 {
     match l {
         Lvalue::Named { .. } => Ok(draft),
@@ -257,7 +273,9 @@ fn code_address(
     begun: u32,
     goal: Goal,
 ) -> Result<Draft, AllocError>
-    ensures { IfOk result (λ d. made_of d ≡ code_address (names_view site.now.names.now) site.now.place.0 site.now.top (lvalue_view l.now) begun (goal_of goal)) }
+    ensures { IfOk result (λ d.
+        made_of d ≡ code_address (names_view site.now.names.now) site.now.place.0 site.now.top (lvalue_view l.now)
+        begun (goal_of goal)) }
 {
     match l {
         Lvalue::Named { object, .. } => object_address(alloc, site, *object, begun, goal),
@@ -293,7 +311,9 @@ fn code_load(
     begun: u32,
     goal: Goal,
 ) -> Result<Draft, AllocError>
-    ensures { IfOk result (λ d. made_of d ≡ code (names_view site.now.names.now) site.now.place.0 site.now.top (tree.Load scalar (lvalue_view from.now)) begun (goal_of goal)) }
+    ensures { IfOk result (λ d.
+        made_of d ≡ code (names_view site.now.names.now) site.now.place.0 site.now.top
+        (tree.Load scalar (lvalue_view from.now)) begun (goal_of goal)) }
 {
     match scalar_named(site.names, from) {
         Some(name) => leaf(alloc, goal, Operand::Name(Name(name))),
@@ -316,7 +336,9 @@ fn code_converted(
     begun: u32,
     goal: Goal,
 ) -> Result<Draft, AllocError>
-    ensures { IfOk result (λ d. made_of d ≡ code (names_view site.now.names.now) site.now.place.0 site.now.top (tree.Convert to (rvalue_view operand.now)) begun (goal_of goal)) }
+    ensures { IfOk result (λ d.
+        made_of d ≡ code (names_view site.now.names.now) site.now.place.0 site.now.top
+        (tree.Convert to (rvalue_view operand.now)) begun (goal_of goal)) }
 {
     let from = integer_in(type_of(&site.names.results, operand));
     let value = given_for!(goal, value_laid(site.names, operand, Use::Anywhere, begun));
@@ -343,7 +365,10 @@ fn code_signed(
     begun: u32,
     goal: Goal,
 ) -> Result<Draft, AllocError>
-    ensures { (of : IntegerType) → IfOk result (λ d. made_of d ≡ code (names_view site.now.names.now) site.now.place.0 site.now.top (tree.Signed sign of (rvalue_view operand.now)) begun (goal_of goal)) }
+    ensures { (of : IntegerType)
+        → IfOk result (λ d.
+        made_of d ≡ code (names_view site.now.names.now) site.now.place.0 site.now.top
+        (tree.Signed sign of (rvalue_view operand.now)) begun (goal_of goal)) }
 {
     let value = given_for!(goal, value_laid(site.names, operand, Use::Anywhere, begun));
     match sign {
@@ -370,7 +395,9 @@ fn code_not(
     begun: u32,
     goal: Goal,
 ) -> Result<Draft, AllocError>
-    ensures { IfOk result (λ d. made_of d ≡ code (names_view site.now.names.now) site.now.place.0 site.now.top (tree.Not (rvalue_view operand.now)) begun (goal_of goal)) }
+    ensures { IfOk result (λ d.
+        made_of d ≡ code (names_view site.now.names.now) site.now.place.0 site.now.top
+        (tree.Not (rvalue_view operand.now)) begun (goal_of goal)) }
 {
     match goal {
         Goal::Either(one, other, inner) => {
@@ -396,7 +423,11 @@ fn code_both(
     begun: u32,
     goal: Goal,
 ) -> Result<Draft, AllocError>
-    ensures { IfOk result (λ d. made_of d ≡ code (names_view site.now.names.now) site.now.place.0 site.now.top (if is_and then tree.And (rvalue_view left.now) (rvalue_view right.now) else tree.Or (rvalue_view left.now) (rvalue_view right.now)) begun (goal_of goal)) }
+    ensures { IfOk result (λ d.
+        made_of d ≡ code (names_view site.now.names.now) site.now.place.0 site.now.top
+        (if is_and then tree.And (rvalue_view left.now) (rvalue_view right.now) else tree.Or
+        (rvalue_view left.now) (rvalue_view right.now))
+        begun (goal_of goal)) }
 {
     let laid = given_for!(
         goal,
@@ -428,9 +459,15 @@ fn code_both_known(
     begun: u32,
     goal: Goal,
 ) -> Result<Draft, AllocError>
-    requires one { laid_view one ≡ laid (names_view site.now.names.now) (rvalue_view left.now) Tested (behind_own (use_of (goal_of goal)) begun) }
-    requires known { map laid_view known.now ≡ lefts (names_view site.now.names.now) (rvalue_view left.now) Tested (behind_own (use_of (goal_of goal)) begun) }
-    ensures { IfOk result (λ d. made_of d ≡ code (names_view site.now.names.now) site.now.place.0 site.now.top (if is_and then tree.And (rvalue_view left.now) (rvalue_view right.now) else tree.Or (rvalue_view left.now) (rvalue_view right.now)) begun (goal_of goal)) }
+    requires one { laid_view one ≡ laid (names_view site.now.names.now) (rvalue_view left.now) Tested
+        (behind_own (use_of (goal_of goal)) begun) }
+    requires known { map laid_view known.now ≡ lefts (names_view site.now.names.now) (rvalue_view left.now) Tested
+        (behind_own (use_of (goal_of goal)) begun) }
+    ensures { IfOk result (λ d.
+        made_of d ≡ code (names_view site.now.names.now) site.now.place.0 site.now.top
+        (if is_and then tree.And (rvalue_view left.now) (rvalue_view right.now) else tree.Or
+        (rvalue_view left.now) (rvalue_view right.now))
+        begun (goal_of goal)) }
 {
     let at = given_for!(goal, behind_own(use_of(&goal), begun));
     let behind = pick(site.names, at, one.top);
@@ -467,7 +504,10 @@ fn code_conditional(
     begun: u32,
     goal: Goal,
 ) -> Result<Draft, AllocError>
-    ensures { IfOk result (λ d. made_of d ≡ code (names_view site.now.names.now) site.now.place.0 site.now.top (tree.Conditional (rvalue_view condition.now) (rvalue_view chosen.now) (rvalue_view otherwise.now)) begun (goal_of goal)) }
+    ensures { IfOk result (λ d.
+        made_of d ≡ code (names_view site.now.names.now) site.now.place.0 site.now.top
+        (tree.Conditional (rvalue_view condition.now) (rvalue_view chosen.now) (rvalue_view otherwise.now))
+        begun (goal_of goal)) }
 {
     let laid = given_for!(goal, arms_laid(site.names, condition, chosen, begun));
     let after = given!(leaf(alloc, goal, arm_value(laid.is_void, Name(begun))));
@@ -501,7 +541,9 @@ fn code_assigned(
     begun: u32,
     goal: Goal,
 ) -> Result<Draft, AllocError>
-    ensures { IfOk result (λ d. made_of d ≡ code (names_view site.now.names.now) site.now.place.0 site.now.top (tree.Assign scalar (lvalue_view l.now) (rvalue_view value.now)) begun (goal_of goal)) }
+    ensures { IfOk result (λ d.
+        made_of d ≡ code (names_view site.now.names.now) site.now.place.0 site.now.top
+        (tree.Assign scalar (lvalue_view l.now) (rvalue_view value.now)) begun (goal_of goal)) }
 {
     let names = site.names;
     match scalar_named(names, l) {
@@ -534,7 +576,9 @@ fn code_updated(
     begun: u32,
     goal: Goal,
 ) -> Result<Draft, AllocError>
-    ensures { IfOk result (λ d. made_of d ≡ code_updated (names_view site.now.names.now) site.now.place.0 site.now.top change (lvalue_view l.now) (rvalue_view value.now) begun (goal_of goal)) }
+    ensures { IfOk result (λ d.
+        made_of d ≡ code_updated (names_view site.now.names.now) site.now.place.0 site.now.top change
+        (lvalue_view l.now) (rvalue_view value.now) begun (goal_of goal)) }
 {
     let names = site.names;
     match scalar_named(names, l) {
@@ -570,7 +614,9 @@ fn code_stepped(
     begun: u32,
     goal: Goal,
 ) -> Result<Draft, AllocError>
-    ensures { IfOk result (λ d. made_of d ≡ code_stepped (names_view site.now.names.now) site.now.place.0 site.now.top change given (lvalue_view l.now) begun (goal_of goal)) }
+    ensures { IfOk result (λ d.
+        made_of d ≡ code_stepped (names_view site.now.names.now) site.now.place.0 site.now.top change given
+        (lvalue_view l.now) begun (goal_of goal)) }
 {
     let names = site.names;
     match (given, scalar_named(names, l)) {
@@ -604,7 +650,9 @@ fn code_called(
     begun: u32,
     goal: Goal,
 ) -> Result<Draft, AllocError>
-    ensures { IfOk result (λ d. made_of d ≡ code (names_view site.now.names.now) site.now.place.0 site.now.top (tree.Call callee (arguments_view arguments.now)) begun (goal_of goal)) }
+    ensures { IfOk result (λ d.
+        made_of d ≡ code (names_view site.now.names.now) site.now.place.0 site.now.top
+        (tree.Call callee (arguments_view arguments.now)) begun (goal_of goal)) }
 {
     let passed = given_for!(goal, passed_laid(alloc, site.names, arguments, begun));
     let is_void = is_void(given_by(&site.names.results, callee));
@@ -622,7 +670,9 @@ fn code_all(
     begun: u32,
     draft: Draft,
 ) -> Result<Draft, AllocError>
-    ensures { IfOk result (λ d. made_of d ≡ code_all (names_view site.now.names.now) site.now.place.0 site.now.top (arguments_view all.now) begun (made_of draft)) }
+    ensures { IfOk result (λ d.
+        made_of d ≡ code_all (names_view site.now.names.now) site.now.place.0 site.now.top (arguments_view all.now)
+        begun (made_of draft)) }
 {
     match all {
         Arguments::End => Ok(draft),
@@ -645,7 +695,9 @@ pub fn code(
     begun: u32,
     goal: Goal,
 ) -> Result<Draft, AllocError>
-    ensures { IfOk result (λ d. made_of d ≡ code (names_view site.now.names.now) site.now.place.0 site.now.top (rvalue_view e.now) begun (goal_of goal)) }
+    ensures { IfOk result (λ d.
+        made_of d ≡ code (names_view site.now.names.now) site.now.place.0 site.now.top (rvalue_view e.now) begun
+        (goal_of goal)) }
 {
     match e {
         Rvalue::Constant { value, .. } => leaf(alloc, goal, Operand::Constant(word_of(*value))),

@@ -84,7 +84,8 @@ pub fn chain_laid(
     begun: u32,
 ) -> Result<ChainLaid, AllocError>
     ensures one { IfOk result (λ c. laid_view c.one ≡ laid (names_view names.now) (rvalue_view left.now) wanted begun) }
-    ensures known { IfOk result (λ c. map laid_view c.known.items ≡ lefts (names_view names.now) (rvalue_view left.now) wanted begun) }
+    ensures known { IfOk result (λ c.
+        map laid_view c.known.items ≡ lefts (names_view names.now) (rvalue_view left.now) wanted begun) }
 {
     let mut known = Vec::new(alloc);
     let one = given!(lefts_laid(names, left, wanted, begun, &mut known));
@@ -100,8 +101,11 @@ pub fn tested_laid(
     wanted: Use,
     begun: u32,
 ) -> Result<ChainLaid, AllocError>
-    ensures one { IfOk result (λ c. laid_view c.one ≡ laid (names_view names.now) (rvalue_view left.now) Tested (behind_own wanted begun)) }
-    ensures known { IfOk result (λ c. map laid_view c.known.items ≡ lefts (names_view names.now) (rvalue_view left.now) Tested (behind_own wanted begun)) }
+    ensures one { IfOk result (λ c.
+        laid_view c.one ≡ laid (names_view names.now) (rvalue_view left.now) Tested (behind_own wanted begun)) }
+    ensures known { IfOk result (λ c.
+        map laid_view c.known.items ≡ lefts (names_view names.now) (rvalue_view left.now) Tested
+        (behind_own wanted begun)) }
 {
     let at = given!(behind_own(wanted, begun));
     chain_laid(alloc, names, left, Use::Tested, at)
@@ -116,7 +120,8 @@ pub fn later_laid(
     begun: u32,
 ) -> Result<LaterLaid, AllocError>
     ensures from { IfOk result (λ r. r.from ≡ behind_move taken begun) }
-    ensures value { IfOk result (λ r. laid_view r.value ≡ laid (names_view names.now) (rvalue_view value.now) wanted (behind_move taken begun)) }
+    ensures value { IfOk result (λ r.
+        laid_view r.value ≡ laid (names_view names.now) (rvalue_view value.now) wanted (behind_move taken begun)) }
 {
     let from = given!(behind_move(taken, begun));
     let value = given!(value_laid(names, value, wanted, from));
@@ -133,9 +138,14 @@ pub fn written_laid(
     begun: u32,
 ) -> Result<WrittenLaid, AllocError>
     ensures place { IfOk result (λ w. place_view w.place ≡ place_laid (names_view names.now) (lvalue_view l.now) begun) }
-    ensures moved { IfOk result (λ w. w.moved ≡ written.is_location_moved (λ y. written.writes (names_view names.now) y (rvalue_view value.now)) (place_laid (names_view names.now) (lvalue_view l.now) begun).location) }
-    ensures from { IfOk result (λ w. w.right.from ≡ behind_move w.moved (behind_move kept (place_laid (names_view names.now) (lvalue_view l.now) begun).next)) }
-    ensures right { IfOk result (λ w. laid_view w.right.value ≡ laid (names_view names.now) (rvalue_view value.now) wanted w.right.from) }
+    ensures moved { IfOk result (λ w.
+        w.moved ≡ written.is_location_moved (λ y. written.writes (names_view names.now) y (rvalue_view value.now))
+        (place_laid (names_view names.now) (lvalue_view l.now) begun).location) }
+    ensures from { IfOk result (λ w.
+        w.right.from ≡ behind_move w.moved
+        (behind_move kept (place_laid (names_view names.now) (lvalue_view l.now) begun).next)) }
+    ensures right { IfOk result (λ w.
+        laid_view w.right.value ≡ laid (names_view names.now) (rvalue_view value.now) wanted w.right.from) }
 {
     let place = given!(place_laid(names, l, begun));
     let moved = is_location_moved(names, place.location, value);
@@ -155,10 +165,15 @@ pub fn arms_laid(
     chosen: &Rvalue,
     begun: u32,
 ) -> Result<ArmsLaid, AllocError>
-    ensures void { IfOk result (λ q. q.is_void ≡ types.is_void (types.type_of (names_view names.now).results (rvalue_view chosen.now))) }
+    ensures void { IfOk result (λ q.
+        q.is_void ≡ types.is_void (types.type_of (names_view names.now).results (rvalue_view chosen.now))) }
     ensures at { IfOk result (λ q. q.at ≡ behind_move (not q.is_void) begun) }
-    ensures then { IfOk result (λ q. q.at_then ≡ named.pick (names_view names.now) q.at (laid (names_view names.now) (rvalue_view condition.now) Tested q.at).top) }
-    ensures other { IfOk result (λ q. q.at_other ≡ named.pick (names_view names.now) q.at (laid (names_view names.now) (rvalue_view chosen.now) (arm_use q.is_void begun) q.at_then).top) }
+    ensures then { IfOk result (λ q.
+        q.at_then ≡ named.pick (names_view names.now) q.at
+        (laid (names_view names.now) (rvalue_view condition.now) Tested q.at).top) }
+    ensures other { IfOk result (λ q.
+        q.at_other ≡ named.pick (names_view names.now) q.at
+        (laid (names_view names.now) (rvalue_view chosen.now) (arm_use q.is_void begun) q.at_then).top) }
 {
     let is_void = is_void(type_of(&names.results, chosen));
     let at = given!(behind_move(!is_void, begun));
@@ -181,9 +196,13 @@ pub fn argument_laid(
     rest: &Arguments,
     begun: u32,
 ) -> Result<ArgumentLaid, AllocError>
-    ensures value { IfOk result (λ p. laid_view p.value ≡ laid (names_view names.now) (rvalue_view first.now) Anywhere begun) }
-    ensures moved { IfOk result (λ p. p.moved ≡ written.is_moved (λ y. written.writes_any (names_view names.now) y (arguments_view rest.now)) (laid (names_view names.now) (rvalue_view first.now) Anywhere begun).value) }
-    ensures behind { IfOk result (λ p. p.behind ≡ behind_move p.moved (laid (names_view names.now) (rvalue_view first.now) Anywhere begun).next) }
+    ensures value { IfOk result
+        (λ p. laid_view p.value ≡ laid (names_view names.now) (rvalue_view first.now) Anywhere begun) }
+    ensures moved { IfOk result (λ p.
+        p.moved ≡ written.is_moved (λ y. written.writes_any (names_view names.now) y (arguments_view rest.now))
+        (laid (names_view names.now) (rvalue_view first.now) Anywhere begun).value) }
+    ensures behind { IfOk result (λ p.
+        p.behind ≡ behind_move p.moved (laid (names_view names.now) (rvalue_view first.now) Anywhere begun).next) }
 {
     let value = given!(value_laid(names, first, Use::Anywhere, begun));
     let moved = is_moved_before(names, value.value, rest);

@@ -13,8 +13,10 @@ use graph_build::build;
 use graph_core::Unit;
 use std::alloc::{AllocError, Global};
 
-/// The unit of a program: it is the one that the forms give, its flow and assignments are the program's, its markers follow that flow, and it does
-/// what the program does, as far as C defines it (ISO/IEC 9899:2011, 5.1.2.3). It is valid, which nothing tests. The only error is want of memory.
+/// The unit of a program: it is the one that the forms give, its flow and assignments are the program's, its markers
+/// follow that flow, and it does
+/// what the program does, as far as C defines it (ISO/IEC 9899:2011, 5.1.2.3). It is valid, which nothing tests. The
+/// only error is want of memory.
 pub fn program_unit(alloc: Global, program: &Program) -> Result<Unit, AllocError>
     requires fits { Fits32 (program_view program.now) }
     requires laws { IsWellFormed (program_view program.now) }

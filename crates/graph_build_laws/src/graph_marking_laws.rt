@@ -7,7 +7,8 @@ ghost use Rattle.graph_build.specs.Units.{IsUnitOf};
 ghost use Rattle.graph_build_laws.specs.Following.{FollowFlow, HasSteps};
 ghost use Rattle.graph_build_laws.specs.GraphMarkingWorked.{ComputesBetween};
 
-/// A law: each graph of a well-formed program's unit, which has the program's steps, begins with the marker of its entry, to which no edge leads back, its markers follow the flow, and each cycle has one.
+/// A law: each graph of a well-formed program's unit, which has the program's steps, begins with the marker of its
+/// entry, to which no edge leads back, its markers follow the flow, and each cycle has one.
 pub fn markers_follow_flow()
     ensures { (p : ProgramTree) (u : UnitForm) → IsWellFormed p → IsUnitOf p u → HasSteps p u → FollowFlow u }
 {}

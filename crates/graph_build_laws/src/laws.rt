@@ -17,7 +17,8 @@ pub fn graphs_keep_bounds()
     ensures { (p : ProgramTree) (u : UnitForm) → IsWellFormed p → IsUnitOf p u → KeepBounds u }
 {}
 
-/// A law: nodes alone are too few to weigh by, since conversions are none; so the laws of programs count those that were written.
+/// A law: nodes alone are too few to weigh by, since conversions are none; so the laws of programs count those that
+/// were written.
 pub fn nodes_are_too_few()
     ensures { IsConverting }
 {}

@@ -31,7 +31,8 @@ macro_rules! given {
     };
 }
 
-/// Where a left operand stands. Behind those that a list has are put the left operands within it, the innermost first, and then itself.
+/// Where a left operand stands. Behind those that a list has are put the left operands within it, the innermost first,
+/// and then itself.
 #[cycle(lefts)]
 fn left_laid(
     names: &Names,
@@ -41,7 +42,10 @@ fn left_laid(
     known: &mut Vec<Laid>,
 ) -> Result<Laid, AllocError>
     ensures laid { IfOk result (λ r. laid_view r ≡ laid (names_view names.now) (rvalue_view left.now) wanted begun) }
-    ensures known { OnOk result (map laid_view (reverse known.new.items) ≡ (laid (names_view names.now) (rvalue_view left.now) wanted begun ∷ lefts (names_view names.now) (rvalue_view left.now) wanted begun) ++ map laid_view (reverse known.old.items)) }
+    ensures known { OnOk result
+        (map laid_view (reverse known.new.items) ≡ (laid (names_view names.now) (rvalue_view left.now) wanted begun
+        ∷ lefts (names_view names.now) (rvalue_view left.now) wanted begun) ++ map laid_view (reverse
+        known.old.items)) }
 {
     let one = given!(lefts_laid(names, left, wanted, begun, known));
     known.push(one)?;
@@ -57,8 +61,14 @@ fn pair_lefts_laid(
     begun: u32,
     known: &mut Vec<Laid>,
 ) -> Result<Pair, AllocError>
-    ensures pair { IfOk result (λ q. pair_view q ≡ pair (λ y. writes (names_view names.now) y (rvalue_view right.now)) (laid (names_view names.now) (rvalue_view left.now) Anywhere begun) (laid (names_view names.now) (rvalue_view right.now) Anywhere)) }
-    ensures known { OnOk result (map laid_view (reverse known.new.items) ≡ (laid (names_view names.now) (rvalue_view left.now) Anywhere begun ∷ lefts (names_view names.now) (rvalue_view left.now) Anywhere begun) ++ map laid_view (reverse known.old.items)) }
+    ensures pair { IfOk result (λ q.
+        pair_view q ≡ pair (λ y. writes (names_view names.now) y (rvalue_view right.now))
+        (laid (names_view names.now) (rvalue_view left.now) Anywhere begun)
+        (laid (names_view names.now) (rvalue_view right.now) Anywhere)) }
+    ensures known { OnOk result
+        (map laid_view (reverse known.new.items) ≡ (laid (names_view names.now) (rvalue_view left.now) Anywhere
+        begun ∷ lefts (names_view names.now) (rvalue_view left.now) Anywhere begun) ++ map laid_view (reverse
+        known.old.items)) }
 {
     let one = given!(left_laid(names, left, Use::Anywhere, begun, known));
     pair_behind(names, left, one, right, begun)
@@ -74,8 +84,15 @@ fn arithmetic_lefts_laid(
     begun: u32,
     known: &mut Vec<Laid>,
 ) -> Result<Laid, AllocError>
-    ensures laid { IfOk result (λ r. laid_view r ≡ spec.after_pair (names_view names.now) wanted begun (pair (λ y. writes (names_view names.now) y (rvalue_view right.now)) (laid (names_view names.now) (rvalue_view left.now) Anywhere begun) (laid (names_view names.now) (rvalue_view right.now) Anywhere))) }
-    ensures known { OnOk result (map laid_view (reverse known.new.items) ≡ (laid (names_view names.now) (rvalue_view left.now) Anywhere begun ∷ lefts (names_view names.now) (rvalue_view left.now) Anywhere begun) ++ map laid_view (reverse known.old.items)) }
+    ensures laid { IfOk result (λ r.
+        laid_view r ≡ spec.after_pair (names_view names.now) wanted begun (pair
+        (λ y. writes (names_view names.now) y (rvalue_view right.now))
+        (laid (names_view names.now) (rvalue_view left.now) Anywhere begun)
+        (laid (names_view names.now) (rvalue_view right.now) Anywhere))) }
+    ensures known { OnOk result
+        (map laid_view (reverse known.new.items) ≡ (laid (names_view names.now) (rvalue_view left.now) Anywhere
+        begun ∷ lefts (names_view names.now) (rvalue_view left.now) Anywhere begun) ++ map laid_view (reverse
+        known.old.items)) }
 {
     let pair = given!(pair_lefts_laid(names, left, right, begun, known));
     after_pair(names, wanted, begun, pair)
@@ -92,8 +109,14 @@ fn moved_lefts_laid(
     begun: u32,
     known: &mut Vec<Laid>,
 ) -> Result<Laid, AllocError>
-    ensures laid { let q = pair (λ y. writes (names_view names.now) y (rvalue_view by.now)) (laid (names_view names.now) (rvalue_view pointer.now) Anywhere begun) (laid (names_view names.now) (rvalue_view by.now) Anywhere) in IfOk result (λ r. laid_view r ≡ spec.moved_laid (names_view names.now) wanted begun (object_size of) q.right q) }
-    ensures known { OnOk result (map laid_view (reverse known.new.items) ≡ (laid (names_view names.now) (rvalue_view pointer.now) Anywhere begun ∷ lefts (names_view names.now) (rvalue_view pointer.now) Anywhere begun) ++ map laid_view (reverse known.old.items)) }
+    ensures laid { let q = pair (λ y.
+        writes (names_view names.now) y (rvalue_view by.now)) (laid (names_view names.now) (rvalue_view pointer.now)
+        Anywhere begun) (laid (names_view names.now) (rvalue_view by.now) Anywhere) in IfOk result (λ r.
+        laid_view r ≡ spec.moved_laid (names_view names.now) wanted begun (object_size of) q.right q) }
+    ensures known { OnOk result
+        (map laid_view (reverse known.new.items) ≡ (laid (names_view names.now) (rvalue_view pointer.now) Anywhere
+        begun ∷ lefts (names_view names.now) (rvalue_view pointer.now) Anywhere begun) ++ map laid_view (reverse
+        known.old.items)) }
 {
     let pair = given!(pair_lefts_laid(names, pointer, by, begun, known));
     moved_laid(names, wanted, begun, object_size(of), pair.right, pair)
@@ -109,8 +132,14 @@ fn both_lefts_laid(
     begun: u32,
     known: &mut Vec<Laid>,
 ) -> Result<Laid, AllocError>
-    ensures laid { IfOk result (λ r. laid_view r ≡ spec.both_laid (names_view names.now) wanted begun (laid (names_view names.now) (rvalue_view left.now) Tested) (laid (names_view names.now) (rvalue_view right.now) Tested)) }
-    ensures known { OnOk result (map laid_view (reverse known.new.items) ≡ (laid (names_view names.now) (rvalue_view left.now) Tested (spec.behind_own wanted begun) ∷ lefts (names_view names.now) (rvalue_view left.now) Tested (spec.behind_own wanted begun)) ++ map laid_view (reverse known.old.items)) }
+    ensures laid { IfOk result (λ r.
+        laid_view r ≡ spec.both_laid (names_view names.now) wanted begun
+        (laid (names_view names.now) (rvalue_view left.now) Tested)
+        (laid (names_view names.now) (rvalue_view right.now) Tested)) }
+    ensures known { OnOk result
+        (map laid_view (reverse known.new.items) ≡ (laid (names_view names.now) (rvalue_view left.now) Tested
+        (spec.behind_own wanted begun) ∷ lefts (names_view names.now) (rvalue_view left.now) Tested
+        (spec.behind_own wanted begun)) ++ map laid_view (reverse known.old.items)) }
 {
     let start = given!(behind_own(wanted, begun));
     let one = given!(left_laid(names, left, Use::Tested, start, known));
@@ -128,15 +157,22 @@ fn comma_lefts_laid(
     begun: u32,
     known: &mut Vec<Laid>,
 ) -> Result<Laid, AllocError>
-    ensures laid { let one = laid (names_view names.now) (rvalue_view left.now) Nothing begun in IfOk result (λ r. laid_view r ≡ spec.behind_top one.top (laid (names_view names.now) (rvalue_view right.now) wanted (pick (names_view names.now) begun one.top))) }
-    ensures known { OnOk result (map laid_view (reverse known.new.items) ≡ (laid (names_view names.now) (rvalue_view left.now) Nothing begun ∷ lefts (names_view names.now) (rvalue_view left.now) Nothing begun) ++ map laid_view (reverse known.old.items)) }
+    ensures laid { let one = laid (names_view names.now) (rvalue_view left.now) Nothing begun in IfOk result (λ r.
+        laid_view r ≡ spec.behind_top one.top
+        (laid (names_view names.now) (rvalue_view right.now) wanted
+        (pick (names_view names.now) begun one.top))) }
+    ensures known { OnOk result
+        (map laid_view (reverse known.new.items) ≡ (laid (names_view names.now) (rvalue_view left.now) Nothing begun
+        ∷ lefts (names_view names.now) (rvalue_view left.now) Nothing begun) ++ map laid_view (reverse
+        known.old.items)) }
 {
     let one = given!(left_laid(names, left, Use::Nothing, begun, known));
     let other = given!(value_laid(names, right, wanted, pick(names, begun, one.top)));
     Ok(behind_top(one.top, other))
 }
 
-/// Where the value of an expression stands. Behind those that a list has are put its left operand and those within it, the innermost first.
+/// Where the value of an expression stands. Behind those that a list has are put its left operand and those within it,
+/// the innermost first.
 #[cycle(lefts)]
 pub fn lefts_laid(
     names: &Names,
@@ -146,7 +182,9 @@ pub fn lefts_laid(
     known: &mut Vec<Laid>,
 ) -> Result<Laid, AllocError>
     ensures laid { IfOk result (λ r. laid_view r ≡ laid (names_view names.now) (rvalue_view e.now) wanted begun) }
-    ensures known { OnOk result (map laid_view (reverse known.new.items) ≡ lefts (names_view names.now) (rvalue_view e.now) wanted begun ++ map laid_view (reverse known.old.items)) }
+    ensures known { OnOk result
+        (map laid_view (reverse known.new.items) ≡ lefts (names_view names.now) (rvalue_view e.now) wanted begun
+        ++ map laid_view (reverse known.old.items)) }
 {
     match e {
         Rvalue::Arithmetic { left, right, .. } => {

@@ -147,7 +147,8 @@ pub fn moved_laid(
     index: Operand,
     pair: Pair,
 ) -> Result<Laid, AllocError>
-    ensures { IfOk result (λ r. laid_view r ≡ moved_laid (names_view names.now) wanted begun size (operand_view index) (pair_view pair)) }
+    ensures { IfOk result (λ r.
+        laid_view r ≡ moved_laid (names_view names.now) wanted begun size (operand_view index) (pair_view pair)) }
 {
     let free = given!(behind_move(is_scaled(size, index), pair.next));
     operation_laid(names, wanted, begun, free, pair.top)

@@ -63,7 +63,10 @@ pub fn pair_behind(
     _begun: u32,
 ) -> Result<Pair, AllocError>
     requires { laid_view one ≡ laid (names_view names.now) (rvalue_view _a.now) Anywhere _begun }
-    ensures { IfOk result (λ q. pair_view q ≡ pair (λ y. writes (names_view names.now) y (rvalue_view b.now)) (laid (names_view names.now) (rvalue_view _a.now) Anywhere _begun) (laid (names_view names.now) (rvalue_view b.now) Anywhere)) }
+    ensures { IfOk result (λ q.
+        pair_view q ≡ pair (λ y. writes (names_view names.now) y (rvalue_view b.now))
+        (laid (names_view names.now) (rvalue_view _a.now) Anywhere _begun)
+        (laid (names_view names.now) (rvalue_view b.now) Anywhere)) }
 {
     let moved = is_moved(names, one.value, b);
     let from = given!(behind_move(moved, one.next));
@@ -83,7 +86,10 @@ pub fn pair_behind(
 /// Where two values stand that are computed in turn.
 #[cycle(laid)]
 fn pair_laid(names: &Names, a: &Rvalue, b: &Rvalue, begun: u32) -> Result<Pair, AllocError>
-    ensures { IfOk result (λ q. pair_view q ≡ pair (λ y. writes (names_view names.now) y (rvalue_view b.now)) (laid (names_view names.now) (rvalue_view a.now) Anywhere begun) (laid (names_view names.now) (rvalue_view b.now) Anywhere)) }
+    ensures { IfOk result (λ q.
+        pair_view q ≡ pair (λ y. writes (names_view names.now) y (rvalue_view b.now))
+        (laid (names_view names.now) (rvalue_view a.now) Anywhere begun)
+        (laid (names_view names.now) (rvalue_view b.now) Anywhere)) }
 {
     let one = given!(value_laid(names, a, Use::Anywhere, begun));
     pair_behind(names, a, one, b, begun)
@@ -100,7 +106,11 @@ fn element_laid(
     index_first: bool,
     begun: u32,
 ) -> Result<Laid, AllocError>
-    ensures { let q = pair (λ y. writes (names_view names.now) y (rvalue_view second.now)) (laid (names_view names.now) (rvalue_view first.now) Anywhere begun) (laid (names_view names.now) (rvalue_view second.now) Anywhere) in IfOk result (λ r. laid_view r ≡ spec.moved_laid (names_view names.now) wanted begun (object_size of) (if index_first then q.left else q.right) q) }
+    ensures { let q = pair (λ y.
+        writes (names_view names.now) y (rvalue_view second.now)) (laid (names_view names.now)
+        (rvalue_view first.now) Anywhere begun) (laid (names_view names.now) (rvalue_view second.now)
+        Anywhere) in IfOk result (λ r. laid_view r ≡ spec.moved_laid (names_view names.now) wanted begun
+        (object_size of) (if index_first then q.left else q.right) q) }
 {
     let pair = given!(pair_laid(names, first, second, begun));
     let index = if index_first { pair.left } else { pair.right };
@@ -214,7 +224,10 @@ fn both_laid(
     wanted: Use,
     begun: u32,
 ) -> Result<Laid, AllocError>
-    ensures { IfOk result (λ r. laid_view r ≡ spec.both_laid (names_view names.now) wanted begun (laid (names_view names.now) (rvalue_view a.now) Tested) (laid (names_view names.now) (rvalue_view b.now) Tested)) }
+    ensures { IfOk result (λ r.
+        laid_view r ≡ spec.both_laid (names_view names.now) wanted begun
+        (laid (names_view names.now) (rvalue_view a.now) Tested)
+        (laid (names_view names.now) (rvalue_view b.now) Tested)) }
 {
     let start = given!(behind_own(wanted, begun));
     let one = given!(value_laid(names, a, Use::Tested, start));
@@ -232,8 +245,16 @@ fn arms_laid(
     wanted: Use,
     start: u32,
 ) -> Result<Arms, AllocError>
-    ensures all { IfOk result (λ r. r.all ≡ spec.choice_top (names_view names.now) start (laid (names_view names.now) (rvalue_view condition.now) Tested start) (laid (names_view names.now) (rvalue_view chosen.now) wanted) (laid (names_view names.now) (rvalue_view other.now) wanted)) }
-    ensures arms { IfOk result (λ r. r.arms ≡ spec.arms_top (names_view names.now) start (laid (names_view names.now) (rvalue_view condition.now) Tested start) (laid (names_view names.now) (rvalue_view chosen.now) wanted) (laid (names_view names.now) (rvalue_view other.now) wanted)) }
+    ensures all { IfOk result (λ r.
+        r.all ≡ spec.choice_top (names_view names.now) start
+        (laid (names_view names.now) (rvalue_view condition.now) Tested start)
+        (laid (names_view names.now) (rvalue_view chosen.now) wanted)
+        (laid (names_view names.now) (rvalue_view other.now) wanted)) }
+    ensures arms { IfOk result (λ r.
+        r.arms ≡ spec.arms_top (names_view names.now) start
+        (laid (names_view names.now) (rvalue_view condition.now) Tested start)
+        (laid (names_view names.now) (rvalue_view chosen.now) wanted)
+        (laid (names_view names.now) (rvalue_view other.now) wanted)) }
 {
     let test = given!(value_laid(names, condition, Use::Tested, start));
     let one = given!(value_laid(names, chosen, wanted, pick(names, start, test.top)));
@@ -255,7 +276,9 @@ fn conditional_laid(
     wanted: Use,
     begun: u32,
 ) -> Result<Laid, AllocError>
-    ensures { IfOk result (λ r. laid_view r ≡ laid (names_view names.now) (Conditional (rvalue_view condition.now) (rvalue_view chosen.now) (rvalue_view other.now)) wanted begun) }
+    ensures { IfOk result (λ r.
+        laid_view r ≡ laid (names_view names.now)
+        (Conditional (rvalue_view condition.now) (rvalue_view chosen.now) (rvalue_view other.now)) wanted begun) }
 {
     if is_void(type_of(&names.results, chosen)) {
         let unused = Use::Nothing;
@@ -277,7 +300,11 @@ fn assigned_laid(
     wanted: Use,
     begun: u32,
 ) -> Result<Laid, AllocError>
-    ensures { let scalar = scalar_named (names_view names.now) (lvalue_view target.now) in let place = place_laid (names_view names.now) (lvalue_view target.now) begun in IfOk result (λ r. laid_view r ≡ spec.assigned_laid (names_view names.now) wanted scalar begun place (laid (names_view names.now) (rvalue_view value.now) (spec.use_for scalar wanted) (spec.begun_at scalar begun (λ y. writes (names_view names.now) y (rvalue_view value.now)) place))) }
+    ensures { let scalar = scalar_named (names_view names.now) (lvalue_view target.now) in let place = place_laid
+        (names_view names.now) (lvalue_view target.now) begun in IfOk result
+        (λ r. laid_view r ≡ spec.assigned_laid (names_view names.now) wanted scalar begun place (laid
+        (names_view names.now) (rvalue_view value.now) (spec.use_for scalar wanted)
+        (spec.begun_at scalar begun (λ y. writes (names_view names.now) y (rvalue_view value.now)) place))) }
 {
     match scalar_named(names, target) {
         Some(x) => {
@@ -310,7 +337,13 @@ fn updated_laid(
     wanted: Use,
     begun: u32,
 ) -> Result<Laid, AllocError>
-    ensures { let scalar = scalar_named (names_view names.now) (lvalue_view target.now) in let place = place_laid (names_view names.now) (lvalue_view target.now) begun in let by = laid (names_view names.now) (rvalue_view value.now) Anywhere (spec.begun_behind scalar begun (λ y. writes (names_view names.now) y (rvalue_view value.now)) place) in IfOk result (λ r. laid_view r ≡ spec.updated_laid (names_view names.now) wanted narrow (scales element by.value) scalar begun place by) }
+    ensures { let scalar = scalar_named (names_view names.now) (lvalue_view target.now) in let place = place_laid
+        (names_view names.now) (lvalue_view target.now) begun in let by = laid (names_view names.now)
+        (rvalue_view value.now) Anywhere
+        (spec.begun_behind scalar begun (λ y. writes (names_view names.now) y (rvalue_view value.now)) place) in
+        IfOk result
+        (λ r. laid_view r ≡ spec.updated_laid (names_view names.now) wanted narrow (scales element by.value) scalar
+        begun place by) }
 {
     match scalar_named(names, target) {
         Some(x) => {
@@ -358,7 +391,10 @@ fn step_laid(
     wanted: Use,
     begun: u32,
 ) -> Result<Laid, AllocError>
-    ensures { IfOk result (λ r. laid_view r ≡ spec.step_laid (names_view names.now) given wanted narrow (scalar_named (names_view names.now) (lvalue_view target.now)) begun (place_laid (names_view names.now) (lvalue_view target.now) begun)) }
+    ensures { IfOk result (λ r.
+        laid_view r ≡ spec.step_laid (names_view names.now) given wanted narrow
+        (scalar_named (names_view names.now) (lvalue_view target.now)) begun
+        (place_laid (names_view names.now) (lvalue_view target.now) begun)) }
 {
     match scalar_named(names, target) {
         Some(x) => match given {
@@ -385,7 +421,10 @@ fn step_laid(
 /// What an object holds.
 #[cycle(laid)]
 fn loaded_laid(names: &Names, from: &Lvalue, wanted: Use, begun: u32) -> Result<Laid, AllocError>
-    ensures { IfOk result (λ r. laid_view r ≡ spec.loaded_laid (names_view names.now) wanted (scalar_named (names_view names.now) (lvalue_view from.now)) begun (place_laid (names_view names.now) (lvalue_view from.now) begun)) }
+    ensures { IfOk result (λ r.
+        laid_view r ≡ spec.loaded_laid (names_view names.now) wanted
+        (scalar_named (names_view names.now) (lvalue_view from.now)) begun
+        (place_laid (names_view names.now) (lvalue_view from.now) begun)) }
 {
     match scalar_named(names, from) {
         Some(x) => Ok(leaf_laid(names, wanted, Operand::Name(Name(x)), begun)),
@@ -399,7 +438,8 @@ fn loaded_laid(names: &Names, from: &Lvalue, wanted: Use, begun: u32) -> Result<
 /// An operation on one value.
 #[cycle(laid)]
 fn one_laid(names: &Names, operand: &Rvalue, wanted: Use, begun: u32) -> Result<Laid, AllocError>
-    ensures { let one = laid (names_view names.now) (rvalue_view operand.now) Anywhere begun in IfOk result (λ r. laid_view r ≡ spec.operation_laid (names_view names.now) wanted begun one.next one.top) }
+    ensures { let one = laid (names_view names.now) (rvalue_view operand.now) Anywhere begun in IfOk result (λ r.
+        laid_view r ≡ spec.operation_laid (names_view names.now) wanted begun one.next one.top) }
 {
     let one = given!(value_laid(names, operand, Use::Anywhere, begun));
     operation_laid(names, wanted, begun, one.next, one.top)
@@ -414,7 +454,11 @@ fn arithmetic_laid(
     wanted: Use,
     begun: u32,
 ) -> Result<Laid, AllocError>
-    ensures { IfOk result (λ r. laid_view r ≡ spec.after_pair (names_view names.now) wanted begun (pair (λ y. writes (names_view names.now) y (rvalue_view right.now)) (laid (names_view names.now) (rvalue_view left.now) Anywhere begun) (laid (names_view names.now) (rvalue_view right.now) Anywhere))) }
+    ensures { IfOk result (λ r.
+        laid_view r ≡ spec.after_pair (names_view names.now) wanted begun (pair
+        (λ y. writes (names_view names.now) y (rvalue_view right.now))
+        (laid (names_view names.now) (rvalue_view left.now) Anywhere begun)
+        (laid (names_view names.now) (rvalue_view right.now) Anywhere))) }
 {
     let pair = given!(pair_laid(names, left, right, begun));
     after_pair(names, wanted, begun, pair)
@@ -430,7 +474,11 @@ fn difference_laid(
     wanted: Use,
     begun: u32,
 ) -> Result<Laid, AllocError>
-    ensures { IfOk result (λ r. laid_view r ≡ spec.steps_laid (names_view names.now) wanted (not (object_size of == 1)) begun (pair (λ y. writes (names_view names.now) y (rvalue_view right.now)) (laid (names_view names.now) (rvalue_view left.now) Anywhere begun) (laid (names_view names.now) (rvalue_view right.now) Anywhere))) }
+    ensures { IfOk result (λ r.
+        laid_view r ≡ spec.steps_laid (names_view names.now) wanted (not (object_size of == 1)) begun (pair
+        (λ y. writes (names_view names.now) y (rvalue_view right.now))
+        (laid (names_view names.now) (rvalue_view left.now) Anywhere begun)
+        (laid (names_view names.now) (rvalue_view right.now) Anywhere))) }
 {
     let pair = given!(pair_laid(names, left, right, begun));
     steps_laid(names, wanted, is_wide(of), begun, pair)
@@ -445,7 +493,8 @@ fn conversion_laid(
     wanted: Use,
     begun: u32,
 ) -> Result<Laid, AllocError>
-    ensures { IfOk result (λ r. laid_view r ≡ laid (names_view names.now) (Convert to (rvalue_view operand.now)) wanted begun) }
+    ensures { IfOk result
+        (λ r. laid_view r ≡ laid (names_view names.now) (Convert to (rvalue_view operand.now)) wanted begun) }
 {
     if keeps_bits(integer_in(type_of(&names.results, operand)), to) {
         return value_laid(names, operand, as_value(wanted), begun);
@@ -454,7 +503,8 @@ fn conversion_laid(
     converted_laid(names, wanted, to, begun, one)
 }
 
-/// Where the value of an expression stands that begins to be computed when a name is free. Want of memory also answers names from 2^32 on.
+/// Where the value of an expression stands that begins to be computed when a name is free. Want of memory also answers
+/// names from 2^32 on.
 #[cycle(laid)]
 pub fn value_laid(names: &Names, e: &Rvalue, wanted: Use, begun: u32) -> Result<Laid, AllocError>
     ensures { IfOk result (λ r. laid_view r ≡ laid (names_view names.now) (rvalue_view e.now) wanted begun) }
@@ -582,7 +632,9 @@ fn add_arguments(
 ) -> Result<Reached, AllocError>
     ensures next { IfOk result (λ r. r.next ≡ (passed_laid (names_view names.now) (arguments_view all.now) begun).next) }
     ensures top { IfOk result (λ r. r.top ≡ (passed_laid (names_view names.now) (arguments_view all.now) begun).top) }
-    ensures values { OnOk result (map operand_view values.new.items ≡ map operand_view values.old.items ++ (passed_laid (names_view names.now) (arguments_view all.now) begun).values) }
+    ensures values { OnOk result
+        (map operand_view values.new.items ≡ map operand_view values.old.items
+        ++ (passed_laid (names_view names.now) (arguments_view all.now) begun).values) }
 {
     match all {
         Arguments::End => Ok(Reached {

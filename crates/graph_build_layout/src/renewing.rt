@@ -56,7 +56,8 @@ pub fn renewed_memory_laid(
     top: u32,
     place: PlaceLaid,
 ) -> Result<Laid, AllocError>
-    ensures { IfOk result (λ r. laid_view r ≡ renewed_memory_laid (names_view names.now) wanted free top (place_view place)) }
+    ensures { IfOk result
+        (λ r. laid_view r ≡ renewed_memory_laid (names_view names.now) wanted free top (place_view place)) }
 {
     let all = greater(greater(place.top, top), free);
     operation_laid(names, wanted, place.next, free, all)
@@ -101,7 +102,8 @@ pub fn left_scalar_laid(
 
 /// The old value of what is in memory, where it is computed in a name that wants it.
 fn left_in_laid(names: &Names, name: u32, again: u32, free: u32, top: u32) -> Laid
-    ensures { laid_view result ≡ record { value = form.Name name; next = pick (names_view names.now) again free; top = max top free } }
+    ensures { laid_view result ≡ record
+        { value = form.Name name; next = pick (names_view names.now) again free; top = max top free } }
 {
     Laid {
         value: Operand::Name(Name(name)),
@@ -118,7 +120,8 @@ pub fn left_memory_laid(
     begun: u32,
     place: PlaceLaid,
 ) -> Result<Laid, AllocError>
-    ensures { IfOk result (λ r. laid_view r ≡ left_memory_laid (names_view names.now) wanted narrow begun (place_view place)) }
+    ensures { IfOk result
+        (λ r. laid_view r ≡ left_memory_laid (names_view names.now) wanted narrow begun (place_view place)) }
 {
     let behind = given!(following(place.next));
     match wanted {

@@ -30,7 +30,8 @@ fn sum(one: u32, other: u32) -> Result<u32, AllocError>
 /// The inner blocks of two expressions.
 #[cycle(inner)]
 fn of_two(is_tested: bool, left: &Rvalue, right: &Rvalue) -> Result<u32, AllocError>
-    ensures { IfOk result (λ count. count ≡ inner is_tested (rvalue_view left.now) + inner is_tested (rvalue_view right.now)) }
+    ensures { IfOk result
+        (λ count. count ≡ inner is_tested (rvalue_view left.now) + inner is_tested (rvalue_view right.now)) }
 {
     let one = given!(inner_blocks(is_tested, left));
     let other = given!(inner_blocks(is_tested, right));

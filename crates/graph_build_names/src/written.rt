@@ -104,7 +104,8 @@ pub fn writes_any(names: &Names, y: u32, all: &Arguments) -> bool
     }
 }
 
-/// Whether an operand is moved to a name of its own before an expression: it stands in a name that this one's code writes.
+/// Whether an operand is moved to a name of its own before an expression: it stands in a name that this one's code
+/// writes.
 pub fn is_moved(names: &Names, operand: Operand, later: &Rvalue) -> bool
     ensures { result ≡ is_moved (λ y. writes (names_view names.now) y (rvalue_view later.now)) (operand_view operand) }
 {
@@ -116,7 +117,8 @@ pub fn is_moved(names: &Names, operand: Operand, later: &Rvalue) -> bool
 
 /// Whether an operand is moved to a name of its own before arguments.
 pub fn is_moved_before(names: &Names, operand: Operand, later: &Arguments) -> bool
-    ensures { result ≡ is_moved (λ y. writes_any (names_view names.now) y (arguments_view later.now)) (operand_view operand) }
+    ensures { result
+        ≡ is_moved (λ y. writes_any (names_view names.now) y (arguments_view later.now)) (operand_view operand) }
 {
     match operand {
         Operand::Name(name) => writes_any(names, name.0, later),
@@ -126,7 +128,8 @@ pub fn is_moved_before(names: &Names, operand: Operand, later: &Arguments) -> bo
 
 /// Whether the address of a location is moved to a name of its own before an expression.
 pub fn is_location_moved(names: &Names, location: Location, later: &Rvalue) -> bool
-    ensures { result ≡ is_location_moved (λ y. writes (names_view names.now) y (rvalue_view later.now)) (location_view location) }
+    ensures { result ≡ is_location_moved (λ y.
+        writes (names_view names.now) y (rvalue_view later.now)) (location_view location) }
 {
     match location {
         Location::At(operand) => is_moved(names, operand, later),

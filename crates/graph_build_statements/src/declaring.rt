@@ -64,7 +64,9 @@ fn copied_words(form: &Form<'_>, literal: u32, bytes: u64) -> Result<u32, AllocE
 
 /// An object of so many words is set to zero first, unless so many of them are covered by a literal and these are all.
 fn cleared_words(object: u32, words: u32, covered: u32, draft: Draft) -> Result<Draft, AllocError>
-    ensures { IfOk result (λ d. made_of d ≡ (if nat_le words covered then made_of draft else before (unit.Zero object words) (made_of draft))) }
+    ensures { IfOk result (λ d.
+        made_of d ≡
+        (if nat_le words covered then made_of draft else before (unit.Zero object words) (made_of draft))) }
 {
     if words <= covered {
         Ok(draft)
@@ -101,7 +103,9 @@ fn store_elements(
     free: u32,
     draft: Draft,
 ) -> Result<Draft, AllocError>
-    ensures { IfOk result (λ d. made_of d ≡ store_elements (coding_view form.now) at scalar object index (map rvalue_view all.now) free (made_of draft)) }
+    ensures { IfOk result (λ d.
+        made_of d ≡ store_elements (coding_view form.now) at scalar object index (map rvalue_view all.now) free
+        (made_of draft)) }
 {
     match all.split_first() {
         None => Ok(draft),
@@ -129,7 +133,9 @@ fn declare_single(
     free: u32,
     draft: Draft,
 ) -> Result<Draft, AllocError>
-    ensures { IfOk result (λ d. made_of d ≡ declare_single (coding_view form.now) at object scalar (initial_view initial.now) free (made_of draft)) }
+    ensures { IfOk result (λ d.
+        made_of d ≡ declare_single (coding_view form.now) at object scalar (initial_view initial.now) free
+        (made_of draft)) }
 {
     let to = Location::Automatic { object, offset: 0 };
     let element = element_of(scalar);
@@ -156,7 +162,9 @@ fn declare_array(
     free: u32,
     draft: Draft,
 ) -> Result<Draft, AllocError>
-    ensures { IfOk result (λ d. made_of d ≡ declare_array (coding_view form.now) at object element bytes (initial_view initial.now) free (made_of draft)) }
+    ensures { IfOk result (λ d.
+        made_of d ≡ declare_array (coding_view form.now) at object element bytes (initial_view initial.now) free
+        (made_of draft)) }
 {
     match initial {
         Initial::Elements(all) => {
@@ -184,7 +192,9 @@ fn declare_kept(
     free: u32,
     draft: Draft,
 ) -> Result<Draft, AllocError>
-    ensures { IfOk result (λ d. made_of d ≡ declare_kept (coding_view form.now) at object of (initial_view initial.now) free (made_of draft)) }
+    ensures { IfOk result (λ d.
+        made_of d
+        ≡ declare_kept (coding_view form.now) at object of (initial_view initial.now) free (made_of draft)) }
 {
     match of {
         ObjectType::Scalar(scalar) => {
@@ -209,7 +219,8 @@ fn declare_scalar(
     free: u32,
     draft: Draft,
 ) -> Result<Draft, AllocError>
-    ensures { IfOk result (λ d. made_of d ≡ declare_scalar (coding_view form.now) at name (initial_view initial.now) free (made_of draft)) }
+    ensures { IfOk result (λ d.
+        made_of d ≡ declare_scalar (coding_view form.now) at name (initial_view initial.now) free (made_of draft)) }
 {
     let draft = note(Name(name), draft)?;
     match initial {
@@ -226,7 +237,8 @@ fn declare(
     free: u32,
     draft: Draft,
 ) -> Result<Draft, AllocError>
-    ensures { IfOk result (λ d. made_of d ≡ declare (coding_view form.now) (declared_view declared.now) free (made_of draft)) }
+    ensures { IfOk result
+        (λ d. made_of d ≡ declare (coding_view form.now) (declared_view declared.now) free (made_of draft)) }
 {
     let at = declared.spot.at;
     let initial = &declared.initial;
@@ -249,7 +261,8 @@ pub fn add_declared(
     next: Option<u32>,
     part: Part,
 ) -> Result<Part, AllocError>
-    ensures { IfOk result (λ p. part_view p ≡ add_declared (coding_view form.now) (map declared_view all.now) free next (part_view part)) }
+    ensures { IfOk result (λ p.
+        part_view p ≡ add_declared (coding_view form.now) (map declared_view all.now) free next (part_view part)) }
 {
     match all.split_first() {
         None => Ok(part),

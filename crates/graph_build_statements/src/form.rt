@@ -88,7 +88,8 @@ pub fn with_end(
     next: Option<u32>,
     inner: Vec<Block>,
 ) -> Result<Vec<Block>, AllocError>
-    ensures { IfOk result (λ v. map block_view v.items ≡ with_end (coding_view form.now) at next (map block_view inner.items)) }
+    ensures { IfOk result
+        (λ v. map block_view v.items ≡ with_end (coding_view form.now) at next (map block_view inner.items)) }
 {
     match next {
         Some(_) => Ok(inner),
@@ -103,7 +104,8 @@ pub fn placed_at(
     draft: Draft,
     later: Vec<Block>,
 ) -> Result<Part, AllocError>
-    ensures { IfOk result (λ p. part_view p ≡ placed_at (coding_view form.now) at (made_of draft) (map block_view (reverse later.items))) }
+    ensures { IfOk result (λ p.
+        part_view p ≡ placed_at (coding_view form.now) at (made_of draft) (map block_view (reverse later.items))) }
 {
     let (block, inner) = marked(place_of(form, at), draft)?;
     let mut placed = later;
@@ -120,7 +122,9 @@ pub fn coded_from(
     begun: u32,
     goal: Goal,
 ) -> Result<Draft, AllocError>
-    ensures { IfOk result (λ d. made_of d ≡ definition.code (names_view form.now.names.now) (place_of (coding_view form.now) at) form.now.top (rvalue_view e.now) begun (goal_of goal)) }
+    ensures { IfOk result (λ d.
+        made_of d ≡ definition.code (names_view form.now.names.now) (place_of (coding_view form.now) at)
+        form.now.top (rvalue_view e.now) begun (goal_of goal)) }
 {
     let site = Site {
         names: form.names,
@@ -155,7 +159,9 @@ pub fn branching(
     other: Option<u32>,
     inner: Vec<Block>,
 ) -> Result<Draft, AllocError>
-    ensures { IfOk result (λ d. made_of d ≡ branching (coding_view form.now) at (rvalue_view e.now) free one other (map block_view inner.items)) }
+    ensures { IfOk result (λ d.
+        made_of d ≡ branching (coding_view form.now) at (rvalue_view e.now) free one other
+        (map block_view inner.items)) }
 {
     let other_label = label_for(form, other, &inner);
     let ends = with_end(alloc, form, at, other, inner)?;

@@ -105,7 +105,8 @@ pub fn condition_reached(
     condition: &Option<Rvalue>,
     free: u32,
 ) -> Result<u32, AllocError>
-    ensures { IfOk result (λ n. n ≡ condition_reached (coding_view form.now) (option_map rvalue_view condition.now) free) }
+    ensures { IfOk result
+        (λ n. n ≡ condition_reached (coding_view form.now) (option_map rvalue_view condition.now) free) }
 {
     match condition {
         None => Ok(free),
@@ -133,7 +134,8 @@ fn result_reached(form: &Form<'_>, value: &Option<Rvalue>, free: u32) -> Result<
     }
 }
 
-/// The same of a statement, in the order in which code is made: of a `for` its first part, its condition, its body and its step.
+/// The same of a statement, in the order in which code is made: of a `for` its first part, its condition, its body and
+/// its step.
 #[cycle(reached)]
 pub fn statement_reached(
     form: &Form<'_>,

@@ -56,7 +56,9 @@ fn tests(
     other: Option<u32>,
     inner: Vec<Block>,
 ) -> Result<Draft, AllocError>
-    ensures { IfOk result (λ d. made_of d ≡ tests (coding_view form.now) at (operand_view value) (statements_view all.now) next other (map block_view inner.items)) }
+    ensures { IfOk result (λ d.
+        made_of d ≡ tests (coding_view form.now) at (operand_view value) (statements_view all.now) next other
+        (map block_view inner.items)) }
 {
     match all {
         TypedStatements::End => Ok(going(alloc, form, other, inner)),
@@ -91,7 +93,8 @@ fn add_run(
     next: Option<u32>,
     part: Part,
 ) -> Result<Part, AllocError>
-    ensures { IfOk result (λ p. part_view p ≡ add_run (coding_view form.now) at (rvalue_view e.now) free next (part_view part)) }
+    ensures { IfOk result (λ p.
+        part_view p ≡ add_run (coding_view form.now) at (rvalue_view e.now) free next (part_view part)) }
 {
     let draft = going(alloc, form, next, part.inner);
     let draft = coded(alloc, form, at, e, free, Goal::Unused(draft))?;
@@ -123,7 +126,8 @@ fn add_branching(
     other: Option<u32>,
     part: Part,
 ) -> Result<Part, AllocError>
-    ensures { IfOk result (λ p. part_view p ≡ add_branching (coding_view form.now) at (rvalue_view e.now) free one other (part_view part)) }
+    ensures { IfOk result (λ p.
+        part_view p ≡ add_branching (coding_view form.now) at (rvalue_view e.now) free one other (part_view part)) }
 {
     let draft = branching(alloc, form, at, e, free, one, other, part.inner)?;
     placed_at(form, at, draft, part.placed)
@@ -138,7 +142,8 @@ fn add_start(
     head: u32,
     part: Part,
 ) -> Result<Part, AllocError>
-    ensures { IfOk result (λ p. part_view p ≡ add_start (coding_view form.now) (start_view begin.now) free head (part_view part)) }
+    ensures { IfOk result (λ p.
+        part_view p ≡ add_start (coding_view form.now) (start_view begin.now) free head (part_view part)) }
 {
     match begin {
         TypedStart::Nothing => Ok(part),
@@ -158,7 +163,8 @@ fn add_step(
     head: u32,
     part: Part,
 ) -> Result<Part, AllocError>
-    ensures { IfOk result (λ p. part_view p ≡ add_step (coding_view form.now) (option_map step_view step.now) free head (part_view part)) }
+    ensures { IfOk result (λ p.
+        part_view p ≡ add_step (coding_view form.now) (option_map step_view step.now) free head (part_view part)) }
 {
     match step {
         None => Ok(part),
@@ -186,7 +192,9 @@ fn add_head(
     next: Option<u32>,
     part: Part,
 ) -> Result<Part, AllocError>
-    ensures { IfOk result (λ p. part_view p ≡ add_head (coding_view form.now) (start_view begin.now) free at (option_map rvalue_view condition.now) inside next (part_view part)) }
+    ensures { IfOk result (λ p.
+        part_view p ≡ add_head (coding_view form.now) (start_view begin.now) free at
+        (option_map rvalue_view condition.now) inside next (part_view part)) }
 {
     match condition {
         None => {
@@ -210,7 +218,8 @@ fn add_result(
     free: u32,
     part: Part,
 ) -> Result<Part, AllocError>
-    ensures { IfOk result (λ p. part_view p ≡ add_result (coding_view form.now) at (option_map rvalue_view value.now) free (part_view part)) }
+    ensures { IfOk result (λ p.
+        part_view p ≡ add_result (coding_view form.now) at (option_map rvalue_view value.now) free (part_view part)) }
 {
     match value {
         None => {
@@ -237,7 +246,9 @@ fn add_switch(
     next: Option<u32>,
     part: Part,
 ) -> Result<Part, AllocError>
-    ensures { IfOk result (λ p. part_view p ≡ add_switch (coding_view form.now) at (rvalue_view e.now) (statements_view all.now) free next (part_view part)) }
+    ensures { IfOk result (λ p.
+        part_view p ≡ add_switch (coding_view form.now) at (rvalue_view e.now) (statements_view all.now) free next
+        (part_view part)) }
 {
     let value = value_laid(form.names, e, Use::Anywhere, begun(form, free))?.value;
     let other = default_start(all, next);
@@ -253,7 +264,9 @@ fn behind_head(
     condition: &Option<Rvalue>,
     free: u32,
 ) -> Result<u32, AllocError>
-    ensures { IfOk result (λ n. n ≡ definition.condition_reached (coding_view form.now) (option_map rvalue_view condition.now) (definition.start_reached (coding_view form.now) (start_view begin.now) free)) }
+    ensures { IfOk result (λ n.
+        n ≡ definition.condition_reached (coding_view form.now) (option_map rvalue_view condition.now)
+        (definition.start_reached (coding_view form.now) (start_view begin.now) free)) }
 {
     let head = start_reached(form, begin, free)?;
     condition_reached(form, condition, head)
@@ -269,7 +282,8 @@ pub fn add(
     ways: Ways,
     part: Part,
 ) -> Result<Part, AllocError>
-    ensures { IfOk result (λ p. part_view p ≡ add (coding_view form.now) (statement_view statement.now) free ways (part_view part)) }
+    ensures { IfOk result (λ p.
+        part_view p ≡ add (coding_view form.now) (statement_view statement.now) free ways (part_view part)) }
 {
     match statement {
         TypedStatement::Block(all) => add_all(alloc, form, all, free, ways, part),
@@ -374,7 +388,8 @@ pub fn add_all(
     ways: Ways,
     part: Part,
 ) -> Result<Part, AllocError>
-    ensures { IfOk result (λ p. part_view p ≡ add_all (coding_view form.now) (statements_view all.now) free ways (part_view part)) }
+    ensures { IfOk result (λ p.
+        part_view p ≡ add_all (coding_view form.now) (statements_view all.now) free ways (part_view part)) }
 {
     match all {
         TypedStatements::End => Ok(part),

@@ -57,7 +57,8 @@ fn changed(
     by: Operand,
     draft: Draft,
 ) -> Result<Draft, AllocError>
-    ensures { IfOk result (λ d. made_of d ≡ changed change target.0 between.0 free (operand_view old) (operand_view by) (made_of draft)) }
+    ensures { IfOk result (λ d.
+        made_of d ≡ changed change target.0 between.0 free (operand_view old) (operand_view by) (made_of draft)) }
 {
     match change {
         Change::Integer(operator, of, calculated) => {
@@ -116,7 +117,9 @@ pub fn renewed_memory(
     by: Laid,
     goal: Goal,
 ) -> Result<Draft, AllocError>
-    ensures { IfOk result (λ d. made_of d ≡ renewed_memory (names_view names.now) change (place_view place) moved (laid_view by) (goal_of goal)) }
+    ensures { IfOk result (λ d.
+        made_of d ≡ renewed_memory (names_view names.now) change (place_view place) moved (laid_view by)
+        (goal_of goal)) }
 {
     let behind = behind_move(true, place.next)?;
     let free = behind_move(takes_more(change, by.value), by.next)?;
@@ -158,7 +161,8 @@ pub fn assigned_memory(
     element: Element,
     value: Operand,
 ) -> Result<Goal, AllocError>
-    ensures { IfOk result (λ g. goal_of g ≡ assigned_memory (goal_of goal) (place_view place) moved element (operand_view value)) }
+    ensures { IfOk result (λ g.
+        goal_of g ≡ assigned_memory (goal_of goal) (place_view place) moved element (operand_view value)) }
 {
     let asked = use_of(&goal);
     let held = held_location(moved, Name(place.next), place.location);

@@ -19,7 +19,8 @@ fn by_two(
     second: Computation,
     draft: Draft,
 ) -> Result<Draft, AllocError>
-    ensures { IfOk result (λ d. made_of d ≡ before (computing first between.0) (before (computing second target.0) (made_of draft))) }
+    ensures { IfOk result (λ d.
+        made_of d ≡ before (computing first between.0) (before (computing second target.0) (made_of draft))) }
 {
     let draft = compute(draft, target, second)?;
     compute(draft, between, first)
@@ -34,7 +35,9 @@ fn at_most(
     right: Operand,
     draft: Draft,
 ) -> Result<Draft, AllocError>
-    ensures { IfOk result (λ d. made_of d ≡ compare_by LessEqual signed target.0 between.0 (operand_view left) (operand_view right) (made_of draft)) }
+    ensures { IfOk result (λ d.
+        made_of d ≡ compare_by LessEqual signed target.0 between.0 (operand_view left) (operand_view right)
+        (made_of draft)) }
 {
     by_two(
         target,
@@ -55,7 +58,9 @@ pub fn compare_by(
     right: Operand,
     draft: Draft,
 ) -> Result<Draft, AllocError>
-    ensures { IfOk result (λ d. made_of d ≡ compare_by operator signed target.0 between.0 (operand_view left) (operand_view right) (made_of draft)) }
+    ensures { IfOk result (λ d.
+        made_of d ≡ compare_by operator signed target.0 between.0 (operand_view left) (operand_view right)
+        (made_of draft)) }
 {
     let difference = Computation::Operate(Operation::Xor, left, right);
     let first = Operand::Name(between);
@@ -96,7 +101,9 @@ pub fn compare_pointers_by(
     right: Operand,
     draft: Draft,
 ) -> Result<Draft, AllocError>
-    ensures { IfOk result (λ d. made_of d ≡ compare_pointers_by operator target.0 between.0 (operand_view left) (operand_view right) (made_of draft)) }
+    ensures { IfOk result (λ d.
+        made_of d ≡ compare_pointers_by operator target.0 between.0 (operand_view left) (operand_view right)
+        (made_of draft)) }
 {
     let same = Computation::Same(left, right);
     match operator {

@@ -106,7 +106,8 @@ pub fn store(
     value: Operand,
     draft: Draft,
 ) -> Result<Draft, AllocError>
-    ensures { IfOk result (λ d. made_of d ≡ before (form.Store element (location_view to) (operand_view value)) (made_of draft)) }
+    ensures { IfOk result (λ d.
+        made_of d ≡ before (form.Store element (location_view to) (operand_view value)) (made_of draft)) }
 {
     let mut made = draft;
     made.ops.push(Instr::Store { element, to, value })?;
@@ -142,7 +143,11 @@ pub fn call(
     arguments: SmallVec<Operand, 4>,
     draft: Draft,
 ) -> Result<Draft, AllocError>
-    ensures { IfOk result (λ d. made_of d ≡ before (form.Call (option_map (λ (n : declared-name.Name). n.0) target) callee (map operand_view arguments.items)) (made_of draft)) }
+    ensures { IfOk result (λ d.
+        made_of d ≡ before
+        (form.Call (option_map (λ (n : declared-name.Name). n.0) target) callee
+        (map operand_view arguments.items))
+        (made_of draft)) }
 {
     let mut made = draft;
     made.ops.push(Instr::Call {
@@ -167,7 +172,9 @@ pub fn note(scalar: Name, draft: Draft) -> Result<Draft, AllocError>
 
 /// The block of a place: its marker, and then what follows. The inner blocks stand beside it.
 pub fn marked(place: Place, draft: Draft) -> Result<(Block, Vec<Block>), AllocError>
-    ensures block { IfOk result (λ r. block_view r.0 ≡ record { place = None; instructions = form.Marker place.0 ∷ (made_of draft).ops; end = (made_of draft).end }) }
+    ensures block { IfOk result (λ r.
+        block_view r.0 ≡ record
+        { place = None; instructions = form.Marker place.0 ∷ (made_of draft).ops; end = (made_of draft).end }) }
     ensures inner { IfOk result (λ r. map block_view r.1.items ≡ (made_of draft).inner) }
 {
     let mut ops = draft.ops;

@@ -35,7 +35,8 @@ pub fn operated(
     free: u32,
     computation: Computation,
 ) -> Result<Draft, AllocError>
-    ensures { IfOk result (λ d. made_of d ≡ operated (names_view names.now) (goal_of goal) begun free (computing computation)) }
+    ensures { IfOk result
+        (λ d. made_of d ≡ operated (names_view names.now) (goal_of goal) begun free (computing computation)) }
 {
     let own = Name(pick(names, begun, free));
     let written = target(&goal, own);
@@ -102,7 +103,9 @@ pub fn scaled_pair(
     index: Operand,
     free: u32,
 ) -> Result<Draft, AllocError>
-    ensures { IfOk result (λ d. made_of d ≡ code_scaled_pair (names_view names.now) (goal_of goal) begun operation size (operand_view pointer) (operand_view index) free) }
+    ensures { IfOk result (λ d.
+        made_of d ≡ code_scaled_pair (names_view names.now) (goal_of goal) begun operation size
+        (operand_view pointer) (operand_view index) free) }
 {
     let behind = behind_move(is_scaled(size, index), free)?;
     let moved = Computation::Operate(operation, pointer, scaled(size, index, free));
@@ -120,7 +123,9 @@ fn compared_value(
     begun: u32,
     pair: Pair,
 ) -> Result<Draft, AllocError>
-    ensures { IfOk result (λ d. made_of d ≡ compared_value (names_view names.now) (goal_of goal) signed operator begun (is_two operator) (pair_view pair)) }
+    ensures { IfOk result (λ d.
+        made_of d ≡ compared_value (names_view names.now) (goal_of goal) signed operator begun (is_two operator)
+        (pair_view pair)) }
 {
     let own = Name(pick(names, begun, behind_move(is_two(operator), pair.next)?));
     let between = Name(pick(names, begun, pair.next));
@@ -141,7 +146,9 @@ pub fn compared(
     begun: u32,
     pair: Pair,
 ) -> Result<Draft, AllocError>
-    ensures { IfOk result (λ d. made_of d ≡ compared (names_view names.now) (goal_of goal) signed operator begun (is_two operator) (pair_view pair)) }
+    ensures { IfOk result (λ d.
+        made_of d ≡ compared (names_view names.now) (goal_of goal) signed operator begun (is_two operator)
+        (pair_view pair)) }
 {
     match goal {
         Goal::Either(one, other, inner) => {
@@ -182,7 +189,8 @@ fn compared_pointers_value(
     begun: u32,
     pair: Pair,
 ) -> Result<Draft, AllocError>
-    ensures { IfOk result (λ d. made_of d ≡ compared_pointers_value (names_view names.now) (goal_of goal) operator begun (pair_view pair)) }
+    ensures { IfOk result (λ d.
+        made_of d ≡ compared_pointers_value (names_view names.now) (goal_of goal) operator begun (pair_view pair)) }
 {
     let own = Name(pick(
         names,
@@ -204,7 +212,8 @@ pub fn compared_pointers(
     begun: u32,
     pair: Pair,
 ) -> Result<Draft, AllocError>
-    ensures { IfOk result (λ d. made_of d ≡ compared_pointers (names_view names.now) (goal_of goal) operator begun (pair_view pair)) }
+    ensures { IfOk result (λ d.
+        made_of d ≡ compared_pointers (names_view names.now) (goal_of goal) operator begun (pair_view pair)) }
 {
     match goal {
         Goal::Either(one, other, inner) => {
@@ -293,7 +302,9 @@ pub fn called_by(
     callee: Callee,
     arguments: SmallVec<Operand, 4>,
 ) -> Result<Draft, AllocError>
-    ensures { IfOk result (λ d. made_of d ≡ called_by is_void (goal_of goal) own.0 (λ x. form.Call x callee (map operand_view arguments.items))) }
+    ensures { IfOk result (λ d.
+        made_of d ≡ called_by is_void (goal_of goal) own.0 (λ x.
+        form.Call x callee (map operand_view arguments.items))) }
 {
     if is_void {
         let draft = leaf(alloc, goal, Operand::Constant(0))?;

@@ -66,7 +66,9 @@ fn in_elements(
     free: u32,
     goal: Goal,
 ) -> Result<Draft, AllocError>
-    ensures { IfOk result (λ d. made_of d ≡ operated (names_view site.now.names.now) (goal_of goal) begun free (λ x. unscaling (shift_of size) size x bytes.0)) }
+    ensures { IfOk result (λ d.
+        made_of d ≡ operated (names_view site.now.names.now) (goal_of goal) begun free
+        (λ x. unscaling (shift_of size) size x bytes.0)) }
 {
     let bytes = Operand::Name(bytes);
     let elements = match shift_of(size) {
@@ -88,7 +90,8 @@ fn distance(
     begun: u32,
     goal: Goal,
 ) -> Result<Draft, AllocError>
-    ensures { IfOk result (λ d. made_of d ≡ distance (names_view site.now.names.now) size (goal_of goal) begun (pair_view pair)) }
+    ensures { IfOk result (λ d.
+        made_of d ≡ distance (names_view site.now.names.now) size (goal_of goal) begun (pair_view pair)) }
 {
     let bytes = Computation::Operate(Operation::Sub, pair.left, pair.right);
     if size == 1 {
@@ -109,7 +112,8 @@ pub fn finished(
     begun: u32,
     goal: Goal,
 ) -> Result<Draft, AllocError>
-    ensures { IfOk result (λ d. made_of d ≡ finished (names_view site.now.names.now) two (goal_of goal) begun (pair_view pair)) }
+    ensures { IfOk result (λ d.
+        made_of d ≡ finished (names_view site.now.names.now) two (goal_of goal) begun (pair_view pair)) }
 {
     let names = site.names;
     let (a, b) = (pair.left, pair.right);
@@ -154,7 +158,9 @@ pub fn signed(
     begun: u32,
     goal: Goal,
 ) -> Result<Draft, AllocError>
-    ensures { IfOk result (λ d. made_of d ≡ operated (names_view site.now.names.now) (goal_of goal) begun (laid_view value).next (signed sign (laid_view value).value)) }
+    ensures { IfOk result (λ d.
+        made_of d ≡ operated (names_view site.now.names.now) (goal_of goal) begun (laid_view value).next
+        (signed sign (laid_view value).value)) }
 {
     let names = site.names;
     let a = value.value;
@@ -181,7 +187,10 @@ pub fn negated(
     begun: u32,
     goal: Goal,
 ) -> Result<Draft, AllocError>
-    ensures { IfOk result (λ d. made_of d ≡ operated (names_view site.now.names.now) (goal_of goal) begun (laid_view value).next (λ x. if is_pointer then Same x (laid_view value).value zero else Operate x operation.Sltu (laid_view value).value (unit.Constant 1))) }
+    ensures { IfOk result (λ d.
+        made_of d ≡ operated (names_view site.now.names.now) (goal_of goal) begun (laid_view value).next (λ x.
+        if is_pointer then Same x (laid_view value).value zero else Operate x operation.Sltu
+        (laid_view value).value (unit.Constant 1))) }
 {
     let names = site.names;
     if is_pointer {
@@ -202,7 +211,11 @@ pub fn narrowed(
     begun: u32,
     goal: Goal,
 ) -> Result<Draft, AllocError>
-    ensures { IfOk result (λ d. made_of d ≡ (if is_kept_constant to (laid_view value).value then leaf (goal_of goal) (laid_view value).value else operated (names_view site.now.names.now) (goal_of goal) begun (laid_view value).next (λ x. Truncate x (truncation_to to) (laid_view value).value))) }
+    ensures { IfOk result (λ d.
+        made_of d ≡
+        (if is_kept_constant to (laid_view value).value then leaf (goal_of goal) (laid_view value).value else
+        operated (names_view site.now.names.now) (goal_of goal) begun (laid_view value).next
+        (λ x. Truncate x (truncation_to to) (laid_view value).value))) }
 {
     if is_kept_constant(to, value.value) {
         leaf(alloc, goal, value.value)

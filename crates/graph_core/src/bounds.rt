@@ -1,4 +1,5 @@
-//! How much a valid unit, and a run of it, may have. What is said "of a function" is asked of each; what all functions together may have goes by the unit's room.
+//! How much a valid unit, and a run of it, may have. What is said "of a function" is asked of each; what all functions
+//! together may have goes by the unit's room.
 
 ghost use Rattle.std.specs.Prelude.{◌≡◌};
 ghost use Rattle.graph_core.specs.Bounds.{most_arguments, most_blocks, most_instructions, most_markers};

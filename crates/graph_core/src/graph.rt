@@ -25,7 +25,8 @@ pub struct MemoryObject {
 #[derive(Clone, Copy, PartialEq, Eq)]
 pub struct Scalar {
     pub var: Var,
-    /// The number of its type: equal for two scalars exactly where their C types are equal, so that `int` and `long` differ.
+    /// The number of its type: equal for two scalars exactly where their C types are equal, so that `int` and `long`
+    /// differ.
     pub of: u32,
     /// The place of its declarator, or the function's entry where it is a parameter.
     pub place: Place,

@@ -17,7 +17,8 @@ use debug_records::Place;
 
 const ROOM: usize = MAX_MARKERS as usize;
 
-/// A table that has room for the places of all markers of a valid unit of either room. It takes no memory but the stack's.
+/// A table that has room for the places of all markers of a valid unit of either room. It takes no memory but the
+/// stack's.
 #[derive(Drop)]
 pub(crate) struct PlaceTable {
     places: [u32; ROOM],
@@ -46,7 +47,8 @@ impl PlaceTable {
 
     /// Lists the places that instructions begin behind the others.
     fn add_instructions(&mut self, instructions: &[Instr])
-        requires room { self.old.count + length (markers_in (map instruction_view instructions.now)) ≤ most_markers Large }
+        requires room { self.old.count + length (markers_in (map instruction_view instructions.now))
+            ≤ most_markers Large }
         ensures added { listed self.new ≡ listed self.old ++ markers_in (map instruction_view instructions.now) }
         ensures count { self.new.count ≡ self.old.count + length (markers_in (map instruction_view instructions.now)) }
     {

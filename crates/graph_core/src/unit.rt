@@ -9,7 +9,8 @@ use places::FlowTable;
 /// The address that an element of a static object holds as a run begins: that of a static object, so many bytes on.
 #[derive(Clone, Copy, PartialEq, Eq)]
 pub struct Relocation {
-    /// How many bytes behind the beginning of its object the element begins. Where none begins, nothing reads the relocation.
+    /// How many bytes behind the beginning of its object the element begins. Where none begins, nothing reads the
+    /// relocation.
     pub at: u32,
     /// The number of the object whose address it holds. Each relocation of a valid unit names an object.
     pub object: u32,
@@ -25,8 +26,10 @@ pub struct StaticObject {
     pub count: u32,
     /// Its first bytes, little endian, with zeros in the place of addresses. Those behind them are zero.
     pub bytes: Vec<u8>,
-    /// One for each element that holds an address, by ascending `at`. Validity asks for none of this: relocations may stand in
-    /// any order, several at one offset, or so close that their words overlap. A word holds the address of the first relocation at the
+    /// One for each element that holds an address, by ascending `at`. Validity asks for none of this: relocations may
+    /// stand in
+    /// any order, several at one offset, or so close that their words overlap. A word holds the address of the first
+    /// relocation at the
     /// offset where it begins; its bytes are not read then. Of a narrower element at such an offset nothing is known.
     pub relocations: Vec<Relocation>,
 }

@@ -28,7 +28,8 @@ fn push_operand(operand: Operand, names: &mut Vec<Name>) -> Result<(), AllocErro
 
 /// Appends the names that a location reads.
 fn push_location(location: Location, names: &mut Vec<Name>) -> Result<(), AllocError>
-    ensures { OnOk result (numbers names.new.items ≡ numbers names.old.items ++ names_of_location (location_view location)) }
+    ensures { OnOk result
+        (numbers names.new.items ≡ numbers names.old.items ++ names_of_location (location_view location)) }
 {
     match location {
         Location::At(operand) => push_operand(operand, names),
@@ -98,7 +99,8 @@ impl Instr {
 
 /// Appends the names that operands read.
 fn push_all(operands: &[Operand], names: &mut Vec<Name>) -> Result<(), AllocError>
-    ensures { OnOk result (numbers names.new.items ≡ numbers names.old.items ++ names_of_all (map operand_view operands.now)) }
+    ensures { OnOk result
+        (numbers names.new.items ≡ numbers names.old.items ++ names_of_all (map operand_view operands.now)) }
 {
     for operand in operands {
         push_operand(*operand, names)?;

@@ -1,4 +1,5 @@
-//! Whether a unit is valid: its numbers name what it has, its counts stay within bounds, each instruction has a place, and the place that a block keeps is
+//! Whether a unit is valid: its numbers name what it has, its counts stay within bounds, each instruction has a place,
+//! and the place that a block keeps is
 //! one of its graph and right along each edge into it.
 
 ghost use Rattle.std.specs.Prelude.{◌≡◌, ◌≤◌, ◌<◌, ◌↔◌, ◌^◌, ◌-◌, IsTrue, MatchOption, None, Some, length, map, min, option_map, slice_get};
@@ -160,14 +161,16 @@ fn is_within(recipe: &Recipe, depth: u32) -> bool
 
 /// The graph of a number.
 fn graph_at(unit: &Unit, function: u32) -> Option<&Graph>
-    ensures { MatchOption result (slice_get (unit_view unit.now).graphs function ≡ None) (λ g. slice_get (unit_view unit.now).graphs function ≡ Some (graph_view g.now)) }
+    ensures { MatchOption result (slice_get (unit_view unit.now).graphs function ≡ None) (λ g.
+        slice_get (unit_view unit.now).graphs function ≡ Some (graph_view g.now)) }
 {
     unit.graphs.get(function as usize)
 }
 
 /// The block of a number.
 fn block_at(graph: &Graph, label: Label) -> Option<&Block>
-    ensures { MatchOption result (slice_get (graph_view graph.now).blocks label.0 ≡ None) (λ b. slice_get (graph_view graph.now).blocks label.0 ≡ Some (block_view b.now)) }
+    ensures { MatchOption result (slice_get (graph_view graph.now).blocks label.0 ≡ None) (λ b.
+        slice_get (graph_view graph.now).blocks label.0 ≡ Some (block_view b.now)) }
 {
     graph.blocks.get(label.0 as usize)
 }
@@ -232,7 +235,8 @@ fn is_operand(unit: &Unit, graph: &Graph, operand: Operand) -> bool
 }
 
 fn are_operands(unit: &Unit, graph: &Graph, operands: &[Operand]) -> bool
-    ensures { IsTrue result ↔ AllByRecursion (IsOperand (unit_view unit.now).statics (graph_view graph.now)) (map operand_view operands.now) }
+    ensures { IsTrue result ↔ AllByRecursion (IsOperand (unit_view unit.now).statics (graph_view graph.now))
+        (map operand_view operands.now) }
 {
     operands
         .iter()
@@ -296,14 +300,18 @@ fn is_wanted(graph: &Graph, target: Option<Name>) -> bool
 
 /// Whether a graph has the target of an operation, and it and its unit what the operands name.
 fn is_operation(unit: &Unit, graph: &Graph, target: Name, left: Operand, right: Operand) -> bool
-    ensures { IsTrue result ↔ (IsTarget (graph_view graph.now) target.0 × IsOperand (unit_view unit.now).statics (graph_view graph.now) (operand_view left) × IsOperand (unit_view unit.now).statics (graph_view graph.now) (operand_view right)) }
+    ensures { IsTrue result ↔
+        (IsTarget (graph_view graph.now) target.0
+        × IsOperand (unit_view unit.now).statics (graph_view graph.now) (operand_view left)
+        × IsOperand (unit_view unit.now).statics (graph_view graph.now) (operand_view right)) }
 {
     is_target(graph, target) && is_operand(unit, graph, left) && is_operand(unit, graph, right)
 }
 
 /// Whether an instruction names what its graph and its unit have.
 fn is_instruction(unit: &Unit, graph: &Graph, instruction: &Instr) -> bool
-    ensures { IsTrue result ↔ IsInstruction (unit_view unit.now) (graph_view graph.now) (instruction_view instruction.now) }
+    ensures { IsTrue result ↔ IsInstruction (unit_view unit.now) (graph_view graph.now)
+        (instruction_view instruction.now) }
 {
     match instruction {
         Instr::Marker(_) => true,
@@ -343,7 +351,8 @@ fn is_instruction(unit: &Unit, graph: &Graph, instruction: &Instr) -> bool
 }
 
 fn are_instructions(unit: &Unit, graph: &Graph, instructions: &[Instr]) -> bool
-    ensures { IsTrue result ↔ AllByRecursion (IsInstruction (unit_view unit.now) (graph_view graph.now)) (map instruction_view instructions.now) }
+    ensures { IsTrue result ↔ AllByRecursion (IsInstruction (unit_view unit.now) (graph_view graph.now))
+        (map instruction_view instructions.now) }
 {
     instructions
         .iter()
@@ -364,7 +373,8 @@ fn are_operands_of_end(unit: &Unit, graph: &Graph, end: End) -> bool
 
 /// Whether two places are one, or there is none twice.
 fn is_same_place(one: Option<Place>, other: Option<Place>) -> bool
-    ensures { IsTrue result ↔ (option_map (λ (p : declared-place.Place). p.0) one ≡ option_map (λ (p : declared-place.Place). p.0) other) }
+    ensures { IsTrue result ↔
+        (option_map (λ (p : declared-place.Place). p.0) one ≡ option_map (λ (p : declared-place.Place). p.0) other) }
 {
     match one {
         None => other.is_none(),
@@ -377,7 +387,9 @@ fn is_same_place(one: Option<Place>, other: Option<Place>) -> bool
 
 /// Whether a block of these instructions keeps a place where another is in force.
 fn keeps_place(instructions: &[Instr], in_force: Option<Place>, kept: Option<Place>) -> bool
-    ensures { IsTrue result ↔ KeepsPlace (map instruction_view instructions.now) (option_map (λ (p : declared-place.Place). p.0) in_force) (option_map (λ (p : declared-place.Place). p.0) kept) }
+    ensures { IsTrue result ↔ KeepsPlace (map instruction_view instructions.now)
+        (option_map (λ (p : declared-place.Place). p.0) in_force)
+        (option_map (λ (p : declared-place.Place). p.0) kept) }
 {
     match instructions {
         [] => is_same_place(in_force, kept),
@@ -390,7 +402,8 @@ fn keeps_place(instructions: &[Instr], in_force: Option<Place>, kept: Option<Pla
 
 /// Whether each of these instructions has a place where their block keeps one, or none.
 fn has_place(instructions: &[Instr], kept: Option<Place>) -> bool
-    ensures { IsTrue result ↔ HasPlace (map instruction_view instructions.now) (option_map (λ (p : declared-place.Place). p.0) kept) }
+    ensures { IsTrue result ↔ HasPlace (map instruction_view instructions.now)
+        (option_map (λ (p : declared-place.Place). p.0) kept) }
 {
     match instructions {
         [] => kept.is_some(),
@@ -401,7 +414,8 @@ fn has_place(instructions: &[Instr], kept: Option<Place>) -> bool
     }
 }
 
-/// Whether a place that a block keeps, if it keeps one, is the entry of its graph or one of those that the graph begins, which a table lists.
+/// Whether a place that a block keeps, if it keeps one, is the entry of its graph or one of those that the graph
+/// begins, which a table lists.
 fn is_own_place(graph: &Graph, begun: &PlaceTable, kept: Option<Place>) -> bool
     requires { IsTableOf (markers_of_blocks (graph_view graph.now).blocks) begun.now }
     ensures { IsTrue result ↔ IsOwnPlace (graph_view graph.now) (option_map (λ (p : declared-place.Place). p.0) kept) }
@@ -414,7 +428,9 @@ fn is_own_place(graph: &Graph, begun: &PlaceTable, kept: Option<Place>) -> bool
 
 /// The place in force behind instructions.
 fn place_behind(instructions: &[Instr], before: Option<Place>) -> Option<Place>
-    ensures { option_map (λ (p : declared-place.Place). p.0) result ≡ place_behind (map instruction_view instructions.now) (option_map (λ (p : declared-place.Place). p.0) before) }
+    ensures { option_map (λ (p : declared-place.Place). p.0) result
+        ≡ place_behind (map instruction_view instructions.now)
+        (option_map (λ (p : declared-place.Place). p.0) before) }
 {
     let mut place = before;
     let mut left = instructions;
@@ -427,7 +443,8 @@ fn place_behind(instructions: &[Instr], before: Option<Place>) -> Option<Place>
 
 /// Whether there is a block of this number that keeps the place in force.
 fn is_kept(graph: &Graph, in_force: Option<Place>, label: Label) -> bool
-    ensures { IsTrue result ↔ IsKept (option_map (λ (p : declared-place.Place). p.0) in_force) (slice_get (graph_view graph.now).blocks label.0) }
+    ensures { IsTrue result ↔ IsKept (option_map (λ (p : declared-place.Place). p.0) in_force)
+        (slice_get (graph_view graph.now).blocks label.0) }
 {
     match block_at(graph, label) {
         None => false,
@@ -437,7 +454,8 @@ fn is_kept(graph: &Graph, in_force: Option<Place>, label: Label) -> bool
 
 /// Whether each edge leads to a block that keeps the place in force.
 fn are_edges(graph: &Graph, in_force: Option<Place>, end: End) -> bool
-    ensures { IsTrue result ↔ AreEdges (graph_view graph.now) (option_map (λ (p : declared-place.Place). p.0) in_force) (targets_of (end_view end)) }
+    ensures { IsTrue result ↔ AreEdges (graph_view graph.now) (option_map (λ (p : declared-place.Place). p.0) in_force)
+        (targets_of (end_view end)) }
 {
     match end {
         End::Jump(label) => is_kept(graph, in_force, label),
@@ -467,7 +485,8 @@ fn is_block(unit: &Unit, graph: &Graph, begun: &PlaceTable, block: &Block) -> bo
 
 fn are_blocks(unit: &Unit, graph: &Graph, begun: &PlaceTable, blocks: &[Block]) -> bool
     requires { IsTableOf (markers_of_blocks (graph_view graph.now).blocks) begun.now }
-    ensures { IsTrue result ↔ AllByRecursion (IsBlock (unit_view unit.now) (graph_view graph.now)) (map block_view blocks.now) }
+    ensures { IsTrue result ↔ AllByRecursion (IsBlock (unit_view unit.now) (graph_view graph.now))
+        (map block_view blocks.now) }
 {
     blocks
         .iter()
@@ -539,7 +558,8 @@ fn are_relocations(unit: &Unit, relocations: &[Relocation]) -> bool
 }
 
 fn have_relocations(unit: &Unit, objects: &[StaticObject]) -> bool
-    ensures { IsTrue result ↔ AllByRecursion (λ o. AreRelocations (unit_view unit.now).statics o.relocations) (map static_view objects.now) }
+    ensures { IsTrue result ↔ AllByRecursion (λ o.
+        AreRelocations (unit_view unit.now).statics o.relocations) (map static_view objects.now) }
 {
     objects
         .iter()
@@ -579,7 +599,8 @@ impl Unit {
             <= MAX_STATIC_BYTES
     }
 
-    /// Whether the unit is valid. It takes no memory; the time grows as n log n with the number of markers, and else with how much the unit has.
+    /// Whether the unit is valid. It takes no memory; the time grows as n log n with the number of markers, and else
+    /// with how much the unit has.
     pub fn is_valid(&self) -> bool
         ensures { IsTrue result ↔ IsValid (unit_view self.now) }
     {

@@ -5,7 +5,8 @@
 pub enum Value {
     /// A word. The null pointer is 0.
     Number(u32),
-    /// A pointer to an object, by its number among all objects of the run from 0 in the order in which they began: how many bytes
+    /// A pointer to an object, by its number among all objects of the run from 0 in the order in which they began: how
+    /// many bytes
     /// the object has, and how many bytes behind its beginning the pointer points.
     Pointer {
         object: usize,
@@ -23,7 +24,8 @@ pub enum Shadow {
     Gone,
 }
 
-/// What owns an object: a static object's number, or a variable with the depth of its activation, 1 for the first of `main`.
+/// What owns an object: a static object's number, or a variable with the depth of its activation, 1 for the first of
+/// `main`.
 #[derive(Clone, Copy, PartialEq, Eq)]
 pub enum Owner {
     Static(usize),

@@ -8,7 +8,7 @@ use Rattle.graph_core.specs.Uses.{targets_of}
 use Rattle.graph_core.specs.Paths.{Among}
 use Rattle.graph_paths.specs.declared.marks.Marks.{Marks}
 use Rattle.graph_paths.specs.PathMarksTable.{bits_of, told}
-use Rattle.graph_paths.specs.Flood.{HasEdge, FlowsBy, Course, Flows, IsBrought, begun, handed, Bits, AreBrought, AreTables, AreSameBut, AreSame, IsStep, source, sink, IsClosedAlong, IsClosedAt, block_at}
+use Rattle.graph_paths.specs.Flood.{HasEdge, FlowsBy, Course, Flows, IsBrought, begun, handed, Bits, AreBrought, AreTables, AreSameBut, AreSame, IsStep, AreFurther, source, sink, IsClosedAlong, IsClosedAt, block_at}
 use Rattle.graph_paths.proofs.Told.{few_told}
 
 or_second : (a b : Bool) → b ≡ true → (a || b) ≡ true
@@ -130,6 +130,12 @@ module _ (c : Course) where
     spare_leaves = λ row bit out. other.spare_leaves row bit out ∙ one.spare_leaves row bit out;
   }
 
+  pub further_none : (a b : Marks) → AreFurther c a b a b
+  further_none a b = record { is_new = false; step = step_none a b }
+
+  pub further_on : (a b a1 b1 a2 b2 : Marks) (s : Bool) → AreFurther c a b a1 b1 → IsStep c a1 b1 a2 b2 s → AreFurther c a b a2 b2
+  further_on a b a1 b1 a2 b2 s far step = record { is_new = far.is_new || s; step = step_on a b a1 b1 a2 b2 far.is_new s far.step step }
+
   pub tables_on : (a b a1 b1 : Marks) (r : Bool) → AreTables c a b → IsStep c a b a1 b1 r → AreTables c a1 b1
   tables_on a b a1 b1 r are step = record {
     comes_count = omega (arith, are.comes_count, step.comes_count);
@@ -209,3 +215,8 @@ module _ (c : Course) (a b a1 b1 a2 b2 : Marks) (r s : Bool) (one : IsStep c a b
 
   pub falls : (t : Bool) → t ≡ true → a2.count * a2.width - told a2 + (if s then 1 else 0) < a.count * a.width - told a + (if t then 1 else 0)
   falls t e = subst (λ b. a2.count * a2.width - told a2 + (if s then 1 else 0) < a.count * a.width - told a + (if b then 1 else 0)) (sym e) least_room
+
+-- the same of one step alone
+pub falls_once : (c : Course) (a b a1 b1 : Marks) (s : Bool) → IsStep c a b a1 b1 s → (t : Bool) → t ≡ true
+    → a1.count * a1.width - told a1 + (if s then 1 else 0) < a.count * a.width - told a + (if t then 1 else 0)
+falls_once c a b a1 b1 s step = falls c a b a b a1 b1 false s (step_none c a b) step

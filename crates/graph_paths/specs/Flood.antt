@@ -84,6 +84,11 @@ pub record IsStep (c : Course) (comes leaves new_comes new_leaves : Marks) (is_n
   pub spare_comes : AreSameFrom (length c.blocks) (bits_of comes) (bits_of new_comes)
   pub spare_leaves : AreSameFrom (length c.blocks) (bits_of leaves) (bits_of new_leaves)
 
+-- STEPS OF A FLOOD, some or none: whether more is told than was is left open.
+pub record AreFurther (c : Course) (comes leaves new_comes new_leaves : Marks) : Type 0 where
+  pub is_new : Bool
+  pub step : IsStep c comes leaves new_comes new_leaves is_new
+
 -- the block that facts leave along an edge, and the one to which they come
 abbrev pub source : (forward : Bool) → (from to : ℕ) → ℕ
 source true from to = from

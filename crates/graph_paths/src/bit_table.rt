@@ -49,7 +49,8 @@ impl BitTable {
         }
     }
 
-    /// Makes row `to` what a row of `kept` keeps of row `from`, with the bits of that row of `written`. The tables have one width.
+    /// Makes row `to` what a row of `kept` keeps of row `from`, with the bits of that row of `written`. The tables have
+    /// one width.
     pub fn pass(&mut self, from: u32, to: u32, kept: &BitTable, written: &BitTable) {
         if self.width != kept.width || self.width != written.width {
             return;

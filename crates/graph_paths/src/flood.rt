@@ -4,7 +4,7 @@ ghost use Rattle.std.specs.Prelude.{◌≡◌, ℕ, ◌^◌, ◌<◌, IfOk, OnOk
 ghost use Rattle.graph_core.specs.Graphs.{block_view, end_view};
 ghost use Rattle.graph_core.specs.Paths.{Among};
 ghost use Rattle.graph_core.specs.Uses.{targets_of};
-ghost use Rattle.graph_paths.specs.Flood.{AreSameBut, AreSameFrom, AreSettled, AreTables, Flows, HasEdge, IsClosedAlong, IsClosedAt, IsStep, block_at};
+ghost use Rattle.graph_paths.specs.Flood.{AreFurther, AreSameBut, AreSameFrom, AreSettled, AreTables, Flows, HasEdge, IsClosedAlong, IsClosedAt, IsStep, block_at};
 ghost use Rattle.graph_paths.specs.PathMarksTable.{bits_of};
 
 use crate::marks::Marks;
@@ -245,7 +245,28 @@ fn whole_round<T: Transfer>(
     Ok(is_new)
 }
 
-/// To each block the facts that some way brings to it, where those begin that the rows of blocks tell at first, and what leaves it. It ends, since there are but so many facts;
+/// Visits blocks in an order, round by round, until a round brings nothing.
+fn rounds<T: Transfer>(
+    transfer: &T,
+    blocks: &[Block],
+    comes: &mut Marks,
+    leaves: &mut Marks,
+    order: &[u32],
+) -> Result<(), AllocError>
+    requires tables { AreTables (T.course transfer.now) comes.old leaves.old }
+    requires blocks { (T.course transfer.now).blocks ≡ map block_view blocks.now }
+    requires few { length blocks.now < 2 ^ 32 }
+    ensures { OnOk result (AreFurther (T.course transfer.now) comes.old leaves.old comes.new leaves.new) }
+{
+    let mut is_new = true;
+    while is_new {
+        is_new = round(transfer, blocks, comes, leaves, order)?;
+    }
+    Ok(())
+}
+
+/// To each block the facts that some way brings to it, where those begin that the rows of blocks tell at first, and
+/// what leaves it. It ends, since there are but so many facts;
 /// the order in which blocks are visited decides how soon, and nothing else.
 pub fn settle<T: Transfer>(
     transfer: &T,
@@ -257,7 +278,8 @@ pub fn settle<T: Transfer>(
     requires tables { AreTables (T.course transfer.now) comes.old leaves.old }
     requires blocks { (T.course transfer.now).blocks ≡ map block_view blocks.now }
     requires few { length blocks.now < 2 ^ 32 }
-    ensures settled { OnOk result (AreSettled (T.course transfer.now) (bits_of comes.old) (bits_of comes.new) (bits_of leaves.new)) }
+    ensures settled { OnOk result
+        (AreSettled (T.course transfer.now) (bits_of comes.old) (bits_of comes.new) (bits_of leaves.new)) }
     ensures tables { OnOk result (AreTables (T.course transfer.now) comes.new leaves.new) }
     ensures spare_comes { OnOk result (AreSameFrom (length blocks.now) (bits_of comes.old) (bits_of comes.new)) }
     ensures spare_leaves { OnOk result (AreSameFrom (length blocks.now) (bits_of leaves.old) (bits_of leaves.new)) }
@@ -265,9 +287,10 @@ pub fn settle<T: Transfer>(
     ensures leaves_count { OnOk result (leaves.new.count ≡ leaves.old.count) }
 {
     make_all(transfer, blocks.len() as u32, comes, leaves)?;
-    let mut is_new = true;
+    round(transfer, blocks, comes, leaves, order)?;
+    let mut is_new = whole_round(transfer, blocks, comes, leaves)?;
     while is_new {
-        round(transfer, blocks, comes, leaves, order)?;
+        rounds(transfer, blocks, comes, leaves, order)?;
         is_new = whole_round(transfer, blocks, comes, leaves)?;
     }
     Ok(())

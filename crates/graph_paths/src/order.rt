@@ -65,7 +65,8 @@ fn go_on(
     Ok(())
 }
 
-/// The blocks that some path from the first one reaches, each before those to which it leads but where a way leads back.
+/// The blocks that some path from the first one reaches, each before those to which it leads but where a way leads
+/// back.
 pub fn reached_in_order(alloc: Global, blocks: &[Block]) -> Result<Vec<u32>, AllocError> {
     let mut seen = vec![in alloc; false; blocks.len()]?;
     put_flag(&mut seen, 0, true);

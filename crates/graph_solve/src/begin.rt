@@ -13,7 +13,8 @@ use graph_solve_problem::{FlowGraph, Problem};
 use std::alloc::{AllocError, Global};
 use std::collections::VecDeque;
 
-/// Each block once: ascending, or where paths lead against execution descending. In this order most blocks wait no second time.
+/// Each block once: ascending, or where paths lead against execution descending. In this order most blocks wait no
+/// second time.
 fn first_queue(alloc: Global, blocks: u32, forward: bool) -> Result<VecDeque<u32>, AllocError>
     ensures within { IfOk result (λ queue. All (λ b. b < blocks) queue.items) }
     ensures each { IfOk result (λ queue. (block : ℕ) → block < blocks → Contains queue.items block) }
@@ -39,9 +40,13 @@ pub(crate) fn first_work<P: Problem>(
     values: Rows,
 ) -> Result<Work, AllocError>
     requires task { IsTask (P.flow problem.now) graph.now task.now }
-    requires values { values ≡ table (length graph.now.ends.items + length graph.now.ends.items) (P.flow problem.now).width (first_bit graph.now.ends.items (P.flow problem.now).forward (P.flow problem.now).unites (P.flow problem.now).edge) }
+    requires values { values
+        ≡ table (length graph.now.ends.items + length graph.now.ends.items) (P.flow problem.now).width
+        (first_bit graph.now.ends.items (P.flow problem.now).forward (P.flow problem.now).unites
+        (P.flow problem.now).edge) }
     ensures state { IfOk result (λ work. IsWork (P.flow problem.now) graph.now work 0 []) }
-    ensures to_come { IfOk result (λ work. to_come (edges_from task.now) task.now.height work ≡ length graph.now.edges.items * (task.now.height + 1)) }
+    ensures to_come { IfOk result (λ work.
+        to_come (edges_from task.now) task.now.height work ≡ length graph.now.edges.items * (task.now.height + 1)) }
 {
     let forward = problem.forward();
     let queue = first_queue(alloc, task.blocks, forward)?;

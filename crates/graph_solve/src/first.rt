@@ -40,7 +40,8 @@ impl<'a, P: Problem> Bits for WrittenBits<'a, P> {
     }
 }
 
-/// For each block its first value: the edge's where paths begin, and else that of which nothing is known. Further rows may be anything.
+/// For each block its first value: the edge's where paths begin, and else that of which nothing is known. Further rows
+/// may be anything.
 #[derive(Drop)]
 pub(crate) struct FirstBits<'a> {
     pub graph: &'a FlowGraph,

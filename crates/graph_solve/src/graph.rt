@@ -40,7 +40,8 @@ fn push_edges(from: u32, end: &End, edges: &mut Vec<Edge>) -> Result<(), AllocEr
 /// The blocks of a graph, and the edges between them.
 pub fn flow_graph(alloc: Global, graph: &Graph) -> Result<FlowGraph, AllocError>
     requires { length graph.now.blocks.items ≤ 2 ^ 32 }
-    ensures are { IfOk result (λ flow. AreFlow (graph_view graph.now) (length graph.now.blocks.items) flow.ends.items flow.edges.items) }
+    ensures are { IfOk result (λ flow.
+        AreFlow (graph_view graph.now) (length graph.now.blocks.items) flow.ends.items flow.edges.items) }
     ensures count { IfOk result (λ flow. length flow.edges.items ≡ edge_count (graph_view graph.now)) }
 {
     let mut ends = Vec::new(alloc);
@@ -87,7 +88,8 @@ pub fn targets_are_within(graph: &Graph) -> bool
     within
 }
 
-/// At the start and at the end of each block of a function, with the blocks and edges of this graph, the meet over all paths of the problem's direction
+/// At the start and at the end of each block of a function, with the blocks and edges of this graph, the meet over all
+/// paths of the problem's direction
 /// that lead there, from the problem's rows.
 pub fn solve_in_tables<P: Problem, L: Ledger>(
     alloc: Global,
@@ -99,19 +101,24 @@ pub fn solve_in_tables<P: Problem, L: Ledger>(
 ) -> Result<SolvedRows, AllocError>
     requires few { length graph.now.blocks.items < 2 ^ 31 }
     requires within { AreTargetsWithin (graph_view graph.now) }
-    requires flow { AreFlow (graph_view graph.now) (length graph.now.blocks.items) flow.now.ends.items flow.now.edges.items }
+    requires flow { AreFlow (graph_view graph.now) (length graph.now.blocks.items) flow.now.ends.items
+        flow.now.edges.items }
     requires count { length flow.now.edges.items ≡ edge_count (graph_view graph.now) }
     requires tables { AreTables (P.flow problem.now) flow.now tables }
-    ensures solution { IfOk result (λ solved. IsSolution (P.flow problem.now) (graph_flow (graph_view graph.now)) (length graph.now.blocks.items) (starts_of solved) (ends_of solved)) }
+    ensures solution { IfOk result (λ solved.
+        IsSolution (P.flow problem.now) (graph_flow (graph_view graph.now)) (length graph.now.blocks.items)
+        (starts_of solved) (ends_of solved)) }
     ensures blocks { IfOk result (λ solved. solved.blocks ≡ length graph.now.blocks.items) }
     ensures width { IfOk result (λ solved. solved.width ≡ (P.flow problem.now).width) }
-    ensures steps { OnOk result (steps.new ≤ steps.old + edge_count (graph_view graph.now) * ((P.flow problem.now).height + 1)) }
+    ensures steps { OnOk result
+        (steps.new ≤ steps.old + edge_count (graph_view graph.now) * ((P.flow problem.now).height + 1)) }
 {
     let solved = solve_tables(alloc, flow, problem, tables, steps)?;
     Ok(solved)
 }
 
-/// At the start and at the end of each block of a function the meet over all paths of the problem's direction that lead there, in rows of bits,
+/// At the start and at the end of each block of a function the meet over all paths of the problem's direction that lead
+/// there, in rows of bits,
 /// in time linear in their words where no loop is deep. A step is counted for each meet of two values.
 pub fn solve_in_rows<P: Problem, L: Ledger>(
     alloc: Global,
@@ -121,10 +128,13 @@ pub fn solve_in_rows<P: Problem, L: Ledger>(
 ) -> Result<SolvedRows, AllocError>
     requires few { length graph.now.blocks.items < 2 ^ 31 }
     requires within { AreTargetsWithin (graph_view graph.now) }
-    ensures solution { IfOk result (λ solved. IsSolution (P.flow problem.now) (graph_flow (graph_view graph.now)) (length graph.now.blocks.items) (starts_of solved) (ends_of solved)) }
+    ensures solution { IfOk result (λ solved.
+        IsSolution (P.flow problem.now) (graph_flow (graph_view graph.now)) (length graph.now.blocks.items)
+        (starts_of solved) (ends_of solved)) }
     ensures blocks { IfOk result (λ solved. solved.blocks ≡ length graph.now.blocks.items) }
     ensures width { IfOk result (λ solved. solved.width ≡ (P.flow problem.now).width) }
-    ensures steps { OnOk result (steps.new ≤ steps.old + edge_count (graph_view graph.now) * ((P.flow problem.now).height + 1)) }
+    ensures steps { OnOk result
+        (steps.new ≤ steps.old + edge_count (graph_view graph.now) * ((P.flow problem.now).height + 1)) }
 {
     let flow = flow_graph(alloc, graph)?;
     let tables = tables_of(alloc, &flow, problem)?;
@@ -132,7 +142,8 @@ pub fn solve_in_rows<P: Problem, L: Ledger>(
     Ok(solved)
 }
 
-/// At the start and at the end of each block of a function the meet over all paths of the problem's direction that lead there. A step is counted
+/// At the start and at the end of each block of a function the meet over all paths of the problem's direction that lead
+/// there. A step is counted
 /// for each meet of two values.
 pub fn solve_counted<P: Problem, L: Ledger>(
     alloc: Global,
@@ -142,8 +153,11 @@ pub fn solve_counted<P: Problem, L: Ledger>(
 ) -> Result<Solution, AllocError>
     requires few { length graph.now.blocks.items < 2 ^ 31 }
     requires within { AreTargetsWithin (graph_view graph.now) }
-    ensures solution { IfOk result (λ solution. IsSolution (P.flow problem.now) (graph_flow (graph_view graph.now)) (length graph.now.blocks.items) solution.starts.items solution.ends.items) }
-    ensures steps { OnOk result (steps.new ≤ steps.old + edge_count (graph_view graph.now) * ((P.flow problem.now).height + 1)) }
+    ensures solution { IfOk result (λ solution.
+        IsSolution (P.flow problem.now) (graph_flow (graph_view graph.now)) (length graph.now.blocks.items)
+        solution.starts.items solution.ends.items) }
+    ensures steps { OnOk result
+        (steps.new ≤ steps.old + edge_count (graph_view graph.now) * ((P.flow problem.now).height + 1)) }
 {
     let solved = solve_in_rows(alloc, graph, problem, steps)?;
     let solution = solved.solution(alloc)?;
@@ -162,18 +176,23 @@ fn solve_on<P: Problem, L: Ledger>(
     requires name { blank.name ≡ L.name }
     requires parts { blank.parts ≡ L.parts }
     requires some { 0 < blank.parts }
-    ensures { IfOk result (λ solution. IsSolution (P.flow problem.now) (graph_flow (graph_view graph.now)) (length graph.now.blocks.items) solution.starts.items solution.ends.items) }
+    ensures { IfOk result (λ solution.
+        IsSolution (P.flow problem.now) (graph_flow (graph_view graph.now)) (length graph.now.blocks.items)
+        solution.starts.items solution.ends.items) }
 {
     let mut steps = Steps::<L>::new(blank);
     let solution = solve_counted(alloc, graph, problem, &mut steps)?;
     Ok(solution)
 }
 
-/// At the start and at the end of each block of a function the meet over all paths of the problem's direction that lead there.
+/// At the start and at the end of each block of a function the meet over all paths of the problem's direction that lead
+/// there.
 pub fn solve<P: Problem>(alloc: Global, graph: &Graph, problem: &P) -> Result<Solution, AllocError>
     requires few { length graph.now.blocks.items < 2 ^ 31 }
     requires within { AreTargetsWithin (graph_view graph.now) }
-    ensures { IfOk result (λ solution. IsSolution (P.flow problem.now) (graph_flow (graph_view graph.now)) (length graph.now.blocks.items) solution.starts.items solution.ends.items) }
+    ensures { IfOk result (λ solution.
+        IsSolution (P.flow problem.now) (graph_flow (graph_view graph.now)) (length graph.now.blocks.items)
+        solution.starts.items solution.ends.items) }
 {
     let solution = solve_on::<P, Brand>(alloc, graph, problem, Blank::new(1))?;
     Ok(solution)
@@ -187,7 +206,9 @@ pub fn solve_plain<P: Problem>(
 ) -> Result<Solution, AllocError>
     requires few { length graph.now.blocks.items ≤ 2 ^ 32 }
     requires within { AreTargetsWithin (graph_view graph.now) }
-    ensures { IfOk result (λ solution. IsSolution (P.flow problem.now) (graph_flow (graph_view graph.now)) (length graph.now.blocks.items) solution.starts.items solution.ends.items) }
+    ensures { IfOk result (λ solution.
+        IsSolution (P.flow problem.now) (graph_flow (graph_view graph.now)) (length graph.now.blocks.items)
+        solution.starts.items solution.ends.items) }
 {
     let flow = flow_graph(alloc, graph)?;
     let solution = solve_flow_plain(alloc, &flow, problem)?;

@@ -8,7 +8,8 @@ use bit_rows::Rows;
 use graph_solve_problem::Solution;
 use std::alloc::{AllocError, Global};
 
-/// Rows of bits that solve a problem: for each block what comes to it along paths, and then for each what it makes of it.
+/// Rows of bits that solve a problem: for each block what comes to it along paths, and then for each what it makes of
+/// it.
 #[derive(Drop)]
 pub struct SolvedRows {
     pub(crate) rows: Rows,

@@ -38,7 +38,10 @@ fn first_rows<P: Problem>(
 ) -> Result<Rows, AllocError>
     requires blocks { blocks ≡ length graph.now.ends.items }
     requires few { length graph.now.ends.items < 2 ^ 31 }
-    ensures { IfOk result (λ rows. rows ≡ table (length graph.now.ends.items + length graph.now.ends.items) (P.flow problem.now).width (first_bit graph.now.ends.items (P.flow problem.now).forward (P.flow problem.now).unites (P.flow problem.now).edge)) }
+    ensures { IfOk result (λ rows.
+        rows ≡ table (length graph.now.ends.items + length graph.now.ends.items) (P.flow problem.now).width
+        (first_bit graph.now.ends.items (P.flow problem.now).forward (P.flow problem.now).unites
+        (P.flow problem.now).edge)) }
 {
     let edge = problem.edge(alloc)?;
     let bits = FirstBits {
@@ -69,7 +72,8 @@ pub(crate) fn tables_of<P: Problem>(
     })
 }
 
-/// At the start and at the end of each block the meet over all paths of the problem's direction that lead there, as rows of bits, from the problem's
+/// At the start and at the end of each block the meet over all paths of the problem's direction that lead there, as
+/// rows of bits, from the problem's
 /// rows. A step is counted for each meet of two rows.
 pub(crate) fn solve_tables<P: Problem, L: Ledger>(
     alloc: Global,
@@ -81,10 +85,13 @@ pub(crate) fn solve_tables<P: Problem, L: Ledger>(
     requires few { length graph.now.ends.items < 2 ^ 31 }
     requires within { AreWithin (length graph.now.ends.items) graph.now.edges.items }
     requires tables { AreTables (P.flow problem.now) graph.now tables }
-    ensures solution { IfOk result (λ solved. IsSolution (P.flow problem.now) (control_flow graph.now) (length graph.now.ends.items) (starts_of solved) (ends_of solved)) }
+    ensures solution { IfOk result (λ solved.
+        IsSolution (P.flow problem.now) (control_flow graph.now) (length graph.now.ends.items) (starts_of solved)
+        (ends_of solved)) }
     ensures blocks { IfOk result (λ solved. solved.blocks ≡ length graph.now.ends.items) }
     ensures width { IfOk result (λ solved. solved.width ≡ (P.flow problem.now).width) }
-    ensures steps { OnOk result (steps.new ≤ steps.old + length graph.now.edges.items * ((P.flow problem.now).height + 1)) }
+    ensures steps { OnOk result
+        (steps.new ≤ steps.old + length graph.now.edges.items * ((P.flow problem.now).height + 1)) }
 {
     let blocks = graph.ends.len() as u32;
     let Tables {
@@ -103,7 +110,8 @@ pub(crate) fn solve_tables<P: Problem, L: Ledger>(
     })
 }
 
-/// At the start and at the end of each block the meet over all paths of the problem's direction that lead there, as rows of bits. A step is counted for each meet of two rows.
+/// At the start and at the end of each block the meet over all paths of the problem's direction that lead there, as
+/// rows of bits. A step is counted for each meet of two rows.
 pub fn solve_rows<P: Problem, L: Ledger>(
     alloc: Global,
     graph: &FlowGraph,
@@ -112,10 +120,13 @@ pub fn solve_rows<P: Problem, L: Ledger>(
 ) -> Result<SolvedRows, AllocError>
     requires few { length graph.now.ends.items < 2 ^ 31 }
     requires within { AreWithin (length graph.now.ends.items) graph.now.edges.items }
-    ensures solution { IfOk result (λ solved. IsSolution (P.flow problem.now) (control_flow graph.now) (length graph.now.ends.items) (starts_of solved) (ends_of solved)) }
+    ensures solution { IfOk result (λ solved.
+        IsSolution (P.flow problem.now) (control_flow graph.now) (length graph.now.ends.items) (starts_of solved)
+        (ends_of solved)) }
     ensures blocks { IfOk result (λ solved. solved.blocks ≡ length graph.now.ends.items) }
     ensures width { IfOk result (λ solved. solved.width ≡ (P.flow problem.now).width) }
-    ensures steps { OnOk result (steps.new ≤ steps.old + length graph.now.edges.items * ((P.flow problem.now).height + 1)) }
+    ensures steps { OnOk result
+        (steps.new ≤ steps.old + length graph.now.edges.items * ((P.flow problem.now).height + 1)) }
 {
     let tables = tables_of(alloc, graph, problem)?;
     solve_tables(alloc, graph, problem, tables, steps)

@@ -42,7 +42,8 @@ pub(crate) fn targets_of(
     forward: bool,
 ) -> Result<Vec<Vec<u32>>, AllocError>
     requires { AreWithin (length graph.now.ends.items) graph.now.edges.items }
-    ensures { IfOk result (λ targets. AreTargets (map (directed forward) graph.now.edges.items) (length graph.now.ends.items) targets.items) }
+    ensures { IfOk result (λ targets.
+        AreTargets (map (directed forward) graph.now.edges.items) (length graph.now.ends.items) targets.items) }
 {
     let mut targets = no_targets(alloc, graph.ends.len())?;
     for edge in &graph.edges {
@@ -64,7 +65,8 @@ pub(crate) fn task_of<P: Problem>(
     requires blocks { blocks ≡ length graph.now.ends.items }
     requires few { length graph.now.ends.items + length graph.now.ends.items < 2 ^ 32 }
     requires kept { kept ≡ table (length graph.now.ends.items) (P.flow problem.now).width (P.flow problem.now).kept }
-    requires written { written ≡ table (length graph.now.ends.items) (P.flow problem.now).width (P.flow problem.now).written }
+    requires written { written
+        ≡ table (length graph.now.ends.items) (P.flow problem.now).width (P.flow problem.now).written }
     requires within { AreWithin (length graph.now.ends.items) graph.now.edges.items }
     ensures { IfOk result (λ task. IsTask (P.flow problem.now) graph.now task) }
 {

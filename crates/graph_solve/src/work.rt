@@ -39,9 +39,12 @@ fn follow<P: Problem, L: Ledger>(
     requires state { (left : List ℕ) × IsWork (P.flow _problem.now) _graph.now work.old from (to ∷ left) }
     requires edge { HasEdge (edges_of (P.flow _problem.now) _graph.now) from to }
     requires made { IsMadeAt (P.flow _problem.now) _graph.now work.old from }
-    ensures state { OnOk result ((left : List ℕ) → IsWork (P.flow _problem.now) _graph.now work.old from (to ∷ left) → IsWork (P.flow _problem.now) _graph.now work.new from left) }
+    ensures state { OnOk result
+        ((left : List ℕ) → IsWork (P.flow _problem.now) _graph.now work.old from (to ∷ left)
+        → IsWork (P.flow _problem.now) _graph.now work.new from left) }
     ensures made { OnOk result (IsMadeAt (P.flow _problem.now) _graph.now work.new from) }
-    ensures to_come { OnOk result ((weight : ℕ → ℕ) → to_come weight task.now.height work.new ≤ to_come weight task.now.height work.old) }
+    ensures to_come { OnOk result
+        ((weight : ℕ → ℕ) → to_come weight task.now.height work.new ≤ to_come weight task.now.height work.old) }
     ensures steps { steps.new ≡ steps.old + 1 }
 {
     steps.tick();
@@ -68,10 +71,12 @@ fn visit<P: Problem, L: Ledger>(
 ) -> Result<(), AllocError>
     requires task { IsTask (P.flow problem.now) graph.now task.now }
     requires block { block < length graph.now.ends.items }
-    requires state { IsWork (P.flow problem.now) graph.now work.old block (slice_index_or (map (λ v. v.items) task.now.targets.items) block []) }
+    requires state { IsWork (P.flow problem.now) graph.now work.old block
+        (slice_index_or (map (λ v. v.items) task.now.targets.items) block []) }
     requires made { IsMadeAt (P.flow problem.now) graph.now work.old block }
     ensures state { OnOk result (IsWork (P.flow problem.now) graph.now work.new block []) }
-    ensures to_come { OnOk result ((weight : ℕ → ℕ) → to_come weight task.now.height work.new ≤ to_come weight task.now.height work.old) }
+    ensures to_come { OnOk result
+        ((weight : ℕ → ℕ) → to_come weight task.now.height work.new ≤ to_come weight task.now.height work.old) }
     ensures steps { OnOk result (steps.new ≡ steps.old + edges_from task.now block) }
 {
     for to in &task.targets[block as usize] {

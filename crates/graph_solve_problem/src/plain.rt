@@ -20,7 +20,8 @@ fn first_values<P: Problem>(
     forward: bool,
 ) -> Result<Vec<Facts>, AllocError>
     requires { forward ≡ (P.flow problem.now).forward }
-    ensures { IfOk result (λ values. AreFirst (P.flow problem.now) (control_flow graph.now) (length graph.now.ends.items) values.items) }
+    ensures { IfOk result (λ values.
+        AreFirst (P.flow problem.now) (control_flow graph.now) (length graph.now.ends.items) values.items) }
 {
     let mut values = Vec::new(alloc);
     for block in 0..graph.ends.len() {
@@ -79,7 +80,9 @@ pub fn solve_flow_plain<P: Problem>(
 ) -> Result<Solution, AllocError>
     requires few { length graph.now.ends.items ≤ 2 ^ 32 }
     requires within { AreWithin (length graph.now.ends.items) graph.now.edges.items }
-    ensures { IfOk result (λ solution. IsSolution (P.flow problem.now) (control_flow graph.now) (length graph.now.ends.items) solution.starts.items solution.ends.items) }
+    ensures { IfOk result (λ solution.
+        IsSolution (P.flow problem.now) (control_flow graph.now) (length graph.now.ends.items) solution.starts.items
+        solution.ends.items) }
 {
     let forward = problem.forward();
     let met = values_met(alloc, graph, problem, forward)?;

@@ -19,7 +19,8 @@ fn met_value<P: Problem>(
 ) -> Result<Facts, AllocError>
     requires from { (P.flow problem.now).IsValue from_value.now }
     requires to { (P.flow problem.now).IsValue to_value.now }
-    ensures { IfOk result (λ value. value ≡ (P.flow problem.now).meet to_value.now ((P.flow problem.now).transfer from from_value.now)) }
+    ensures { IfOk result (λ value.
+        value ≡ (P.flow problem.now).meet to_value.now ((P.flow problem.now).transfer from from_value.now)) }
 {
     let made = problem.transfer(alloc, from, from_value)?;
     problem.meet(alloc, to_value, &made)
@@ -38,7 +39,8 @@ fn relax<P: Problem>(
     requires from { edge.from < length values.old.items }
     requires to { edge.to < length values.old.items }
     requires counted { AreCounted (P.flow problem.now) values.old.items counts.old.items }
-    ensures { IfOk result (IsRelaxed (P.flow problem.now) edge values.old.items counts.old.items values.new.items counts.new.items) }
+    ensures { IfOk result
+        (IsRelaxed (P.flow problem.now) edge values.old.items counts.old.items values.new.items counts.new.items) }
 {
     let from = edge.from as usize;
     let to = edge.to as usize;
@@ -64,9 +66,12 @@ pub(crate) fn round<P: Problem>(
     requires height { height ≡ (P.flow problem.now).height }
     requires within { AreWithin (length values.old.items) edges.now }
     requires counted { AreCounted (P.flow problem.now) values.old.items counts.old.items }
-    ensures follows { OnOk result (Follows (P.flow problem.now) edges.now values.old.items counts.old.items values.new.items counts.new.items) }
-    ensures settled { IfOk result (λ changed. changed ≡ false → AreAllSettled (P.flow problem.now) edges.now values.new.items) }
-    ensures fell { IfOk result (λ changed. changed ≡ true → falls_left height counts.new.items < falls_left height counts.old.items) }
+    ensures follows { OnOk result
+        (Follows (P.flow problem.now) edges.now values.old.items counts.old.items values.new.items counts.new.items) }
+    ensures settled { IfOk result
+        (λ changed. changed ≡ false → AreAllSettled (P.flow problem.now) edges.now values.new.items) }
+    ensures fell { IfOk result (λ changed.
+        changed ≡ true → falls_left height counts.new.items < falls_left height counts.old.items) }
 {
     let mut changed = false;
     for edge in edges {

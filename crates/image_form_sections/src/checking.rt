@@ -47,7 +47,8 @@ fn breach(
 ) -> Result<(), ImageErr>
     requires start { start (level_of layout.now.version) (count_of (sections_in layout.now)) section < 2 ^ 63 }
     requires broken { IfSome broken (λ b. (b.0 < 2 ^ 32) × (b.1 < 8)) }
-    ensures { let level = level_of layout.now.version in let at = start level (count_of (sections_in layout.now)) section in
+    ensures { let level = level_of layout.now.version in let at = start level (count_of (sections_in layout.now))
+        section in
         Gives (λ _. tt) result (breach_in code at (record_size level section) broken) }
 {
     match broken {

@@ -10,7 +10,8 @@ use thiserror::Error;
 /// Why bytes were not read.
 #[derive(Clone, Copy, Debug, PartialEq, Eq, Error)]
 pub enum ImageErr {
-    /// The bytes are no image: the code of the first rule that they break, and the byte, counted from 0, at which they do.
+    /// The bytes are no image: the code of the first rule that they break, and the byte, counted from 0, at which they
+    /// do.
     #[error("image refused {0} offset {1}")]
     Refused(Code, usize),
     /// Memory was wanting.

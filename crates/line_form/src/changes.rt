@@ -21,7 +21,8 @@ fn kind_word(kind: Kind) -> &'static str
     }
 }
 
-/// `NUMBER PASS KIND PLACE`, a change within a line. `AllocError` where memory for the text was refused, as for each of these texts.
+/// `NUMBER PASS KIND PLACE`, a change within a line. `AllocError` where memory for the text was refused, as for each of
+/// these texts.
 #[tactic(auto, unfolding(crate::specs::Changes::change_text))]
 pub fn change_text(
     alloc: Global,
@@ -141,7 +142,8 @@ pub fn nonresident_line(
     Ok(text)
 }
 
-/// `NAME suspect: CHANGE, path PLACE PLACE .., current path PLACE PLACE ..`: the home of the variable may not hold its value, as the first
+/// `NAME suspect: CHANGE, path PLACE PLACE .., current path PLACE PLACE ..`: the home of the variable may not hold its
+/// value, as the first
 /// path shows, and holds it on the second one.
 #[tactic(auto, unfolding(crate::specs::Changes::suspect_line))]
 pub fn suspect_line(

@@ -29,7 +29,8 @@ pub(crate) fn push_places(
     Ok(())
 }
 
-/// `break at PLACE PLACE ..`: these places are marked. `AllocError` where memory for the text was refused, as for each of these lines.
+/// `break at PLACE PLACE ..`: these places are marked. `AllocError` where memory for the text was refused, as for each
+/// of these lines.
 #[tactic(auto, unfolding(crate::specs::Lines::break_line))]
 pub fn break_line(alloc: Global, places: &[Place]) -> Result<Vec<u8>, AllocError>
     ensures { IfOk result (λ text. text.items ≡ break_line (map (λ p. p.0) places.now)) }
@@ -73,7 +74,8 @@ pub fn no_frame_line(alloc: Global, number: u32) -> Result<Vec<u8>, AllocError>
     Ok(format!(in alloc; "no frame {number}")?.into_bytes())
 }
 
-/// `#NUMBER FUNCTION line LINE place PLACE`: an activation of this function stands there; the innermost one has number 0.
+/// `#NUMBER FUNCTION line LINE place PLACE`: an activation of this function stands there; the innermost one has number
+/// 0.
 #[tactic(auto, unfolding(crate::specs::Lines::frame_line))]
 pub fn frame_line(
     alloc: Global,

@@ -5,7 +5,8 @@ ghost use Rattle.line_form.specs.Lines.{depth_line, exit_line, fault_line, limit
 
 use std::alloc::{AllocError, Global};
 
-/// `exit VALUE`: the program ended with this value. `AllocError` where memory for the text was refused, as for each of these lines.
+/// `exit VALUE`: the program ended with this value. `AllocError` where memory for the text was refused, as for each of
+/// these lines.
 #[tactic(auto, unfolding(crate::specs::Lines::exit_line))]
 pub fn exit_line(alloc: Global, value: i32) -> Result<Vec<u8>, AllocError>
     ensures { IfOk result (λ text. text.items ≡ exit_line value) }

@@ -50,7 +50,8 @@ pub fn out_line(alloc: Global, piece: &[u8]) -> Result<Vec<u8>, AllocError>
     Ok(text)
 }
 
-/// The texts of the lines that show this output, each at most 64 bytes of it, in order; none for no output. `AllocError` where memory
+/// The texts of the lines that show this output, each at most 64 bytes of it, in order; none for no output.
+/// `AllocError` where memory
 /// for them was refused.
 pub fn out_lines(alloc: Global, output: &[u8]) -> Result<Vec<Vec<u8>>, AllocError>
     ensures { IfOk result (λ lines. map (λ text. text.items) lines.items ≡ out_lines output.now) }

@@ -5,7 +5,8 @@ ghost use Rattle.line_form.specs.Lines.{no_stop_line, nothing_here_line, stop_li
 
 use std::alloc::{AllocError, Global};
 
-/// `at PLACE line LINE FUNCTION depth DEPTH`: the run stands at this place of the source, in the function of this name, with so many
+/// `at PLACE line LINE FUNCTION depth DEPTH`: the run stands at this place of the source, in the function of this name,
+/// with so many
 /// activations. `AllocError` where memory for the text was refused, as for each of these lines.
 #[tactic(auto, unfolding(crate::specs::Lines::stop_line))]
 pub fn stop_line(

@@ -23,7 +23,8 @@ pub enum Status {
     WriteFault,
     /// Memory was wanting.
     NoMemory,
-    /// The bytes are no image: the code of the first rule that they break, and the byte, counted from 0, at which they do.
+    /// The bytes are no image: the code of the first rule that they break, and the byte, counted from 0, at which they
+    /// do.
     ImageRefused(Code, usize),
     /// The text of this name is longer than its limit.
     TooLong(String),
@@ -51,7 +52,8 @@ impl Status {
     }
 }
 
-/// The message of a status, without a line end; empty where the job was done. `AllocError` where memory for it was refused.
+/// The message of a status, without a line end; empty where the job was done. `AllocError` where memory for it was
+/// refused.
 pub fn fault_text(alloc: Global, status: &Status) -> Result<String, AllocError>
     ensures { IfOk result (λ text. string_bytes text ≡ fault_text status.now) }
 {

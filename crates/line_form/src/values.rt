@@ -44,7 +44,8 @@ fn array_end(more: bool) -> &'static [u8]
     if more { b", ...}" } else { b"}" }
 }
 
-/// `{VALUE, VALUE}`, an array of these elements, or `{VALUE, VALUE, ...}` where it has more. `AllocError` where memory for the text
+/// `{VALUE, VALUE}`, an array of these elements, or `{VALUE, VALUE, ...}` where it has more. `AllocError` where memory
+/// for the text
 /// was refused, as for each of these texts.
 #[tactic(auto, unfolding(crate::specs::Values::array_text))]
 pub fn array_text(alloc: Global, values: &[Vec<u8>], more: bool) -> Result<Vec<u8>, AllocError>

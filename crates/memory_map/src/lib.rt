@@ -3,4 +3,4 @@
 
 mod map;
 
-pub use map::{CODE_START, Map, Room, map_of};
+pub use map::{BYTES_SIZE, CODE_START, Map, Room, STACK_SIZE, map_of};

@@ -6,6 +6,12 @@ ghost use Rattle.memory_map.specs.Maps.{bytes_end, bytes_start, map_of, most_wor
 /// The address of the first word of code, the same in both maps.
 pub const CODE_START: u32 = 0x0001_0000;
 
+/// How many bytes static memory has, in both maps.
+pub const BYTES_SIZE: u32 = 0x0010_0000;
+
+/// How many bytes the stack has, in both maps.
+pub const STACK_SIZE: u32 = 0x0100_0000;
+
 /// How much a unit may have: what its program weighs decides it.
 #[derive(Clone, Copy, PartialEq, Eq)]
 pub enum Room {
@@ -62,23 +68,19 @@ impl Map {
     }
 
     /// The address after static memory.
+    #[tactic(auto, using(crate::proofs::Facts::map_facts))]
     pub fn bytes_end(self) -> u32
         ensures { result ≡ bytes_end self }
     {
-        match self {
-            Map::One => 0x0050_0000,
-            Map::Two => 0x0190_0000,
-        }
+        self.bytes_start() + BYTES_SIZE
     }
 
     /// The address after the stack.
+    #[tactic(auto, using(crate::proofs::Facts::map_facts))]
     pub fn stack_end(self) -> u32
         ensures { result ≡ stack_end self }
     {
-        match self {
-            Map::One => 0x0200_0000,
-            Map::Two => 0x0300_0000,
-        }
+        self.stack_start() + STACK_SIZE
     }
 
     /// How many words stand before all functions.

@@ -66,5 +66,6 @@ pub trait Shelf {
         ensures telling { tells self.new ≡ tells self.old }
         ensures others { (n : List ℕ) → n ≢ name.now → tells self.old ≡ true → held self.new n ≡ held self.old n }
         ensures ok { OnOk result (tells self.old ≡ true → held self.new name.now ≡ Some bytes.now) }
-        ensures err { OnErr result (tells self.old ≡ true → IsKeptOrCut bytes.now (held self.old name.now) (held self.new name.now)) };
+        ensures err { OnErr result
+            (tells self.old ≡ true → IsKeptOrCut bytes.now (held self.old name.now) (held self.new name.now)) };
 }

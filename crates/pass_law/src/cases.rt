@@ -1,6 +1,6 @@
 //! Cases of changes.
 
-ghost use Rattle.std.specs.Prelude.{◌≡◌, ◌<◌, ◌^◌, ◌++◌, IfOk, false, length, true};
+ghost use Rattle.std.specs.Prelude.{◌≡◌, ◌<◌, ◌^◌, ◌++◌, OnOk, length};
 ghost use Rattle.debug_records.specs.Change.{changes};
 ghost use Rattle.std.specs.List.Sorted.{IsPermutation};
 ghost use Rattle.pass_law.specs.Cases.{logged};
@@ -9,7 +9,8 @@ ghost use Rattle.pass_law.specs.Changes.{AreInOrder};
 use debug_records::{ChangeLog, Kind, PassName, Place, Var};
 use std::alloc::AllocError;
 
-/// A case in which a pass changes something. In order cases come by their places, and those of a place as they stand in the graph.
+/// A case in which a pass changes something. In order cases come by their places, and those of a place as they stand in
+/// the graph.
 #[derive(Clone, Copy, PartialEq, Eq, PartialOrd, Ord)]
 pub struct Case {
     pub place: Place,
@@ -22,25 +23,23 @@ pub struct Case {
     pub var: Var,
 }
 
-/// Puts the cases in order, and appends a change for each to the log. False, with nothing appended, where there are 2^31 of them or more.
+/// Puts the cases in order, and appends a change for each to the log.
 pub fn log_cases(
     log: &mut ChangeLog,
     pass: PassName,
     kind: Kind,
     cases: &mut [Case],
-) -> Result<bool, AllocError>
+) -> Result<(), AllocError>
     requires room { length (changes log.old) < 2 ^ 31 }
-    ensures logged { IfOk result (λ was. was ≡ true → changes log.new ≡ changes log.old ++ logged pass kind (length (changes log.old)) cases.new) }
-    ensures same { IfOk result (λ was. was ≡ true → IsPermutation cases.old cases.new) }
-    ensures in_order { IfOk result (λ was. was ≡ true → AreInOrder cases.new) }
-    ensures kept { IfOk result (λ was. was ≡ false → changes log.new ≡ changes log.old) }
+    requires few { length cases.old < 2 ^ 31 }
+    ensures logged { OnOk result (changes log.new ≡ changes log.old
+        ++ logged pass kind (length (changes log.old)) cases.new) }
+    ensures same { OnOk result (IsPermutation cases.old cases.new) }
+    ensures in_order { OnOk result (AreInOrder cases.new) }
 {
-    if cases.len() >= 0x8000_0000 {
-        return Ok(false);
-    }
     cases.sort_unstable();
     for case in &*cases {
         log.push(pass, kind, case.place, case.var)?;
     }
-    Ok(true)
+    Ok(())
 }

@@ -21,7 +21,8 @@ pub fn logs_are_bounded()
 {}
 
 /// The definitions can be met: the unit of a small program and what a pass of any name makes of it are well marked, the
-/// one is kept by the other, and the pass's change is one that it may log, and earned. And they refuse what they should:
+/// one is kept by the other, and the pass's change is one that it may log, and earned. And they refuse what they
+/// should:
 /// a removal that is not logged, a note of a scalar that is not written, and another value that is returned.
 pub fn definitions_are_met()
     ensures met { (pass : PassName) → AreWorked pass }

@@ -62,7 +62,8 @@ fn apply_one(alloc: Global, pass: &Box<dyn Pass>, unit: &Unit) -> Result<Unit, A
 
 /// The index of the first pass of a name, if one has it.
 fn find_pass(passes: &[Box<dyn Pass>], name: PassName) -> Option<usize>
-    ensures found { MatchOption result (IsNoPass (λ p. named p) passes.now name) (λ i. IsSomeAnd (slice_get passes.now i) (λ p. IsFirst (λ q. named q) name p passes.now)) }
+    ensures found { MatchOption result (IsNoPass (λ p. named p) passes.now name) (λ i.
+        IsSomeAnd (slice_get passes.now i) (λ p. IsFirst (λ q. named q) name p passes.now)) }
     ensures within { IfSome result (λ i. i < length passes.now) }
 {
     for (i, pass) in passes.iter().enumerate() {
@@ -81,7 +82,8 @@ fn push_unit(units: &mut Vec<Unit>, unit: Unit) -> Result<(), AllocError>
     Ok(())
 }
 
-/// Runs the passes of these names on a unit, in order. Of two passes of one name the first is taken. The error tells the first
+/// Runs the passes of these names on a unit, in order. Of two passes of one name the first is taken. The error tells
+/// the first
 /// name that is no pass's, or that memory was refused.
 pub fn run_list(
     alloc: Global,
@@ -93,7 +95,8 @@ pub fn run_list(
     requires marked { AreWellMarked (unit_view unit) }
     requires unchanged { (unit_view unit).log ≡ [] }
     ensures first { IfOk result (λ t. slice_get (map unit_view t.units.items) 0 ≡ Some (unit_view unit)) }
-    ensures trail { IfOk result (λ t. IsTrail (λ p. named p) (λ p. steps p) passes.now names.now (map unit_view t.units.items)) }
+    ensures trail { IfOk result
+        (λ t. IsTrail (λ p. named p) (λ p. steps p) passes.now names.now (map unit_view t.units.items)) }
     ensures keeps { IfOk result (λ t. AllPairs Keeps (map unit_view t.units.items)) }
     ensures reason { IfErr result (λ e. IsReason (λ p. named p) passes.now names.now e) }
 {

@@ -26,9 +26,11 @@ fn is_called(pass: &Box<dyn UnitPass>, name: &PassName) -> bool
 
 /// The index of the first pass of a name, if one has it.
 fn find_pass(passes: &[Box<dyn UnitPass>], name: &PassName) -> Option<usize>
-    ensures found { MatchOption result (IsNoPass (λ p. named p) passes.now (letters name.now)) (λ _. IsHandedIn (λ p. named p) passes.now (letters name.now)) }
+    ensures found { MatchOption result (IsNoPass (λ p. named p) passes.now (letters name.now)) (λ _.
+        IsHandedIn (λ p. named p) passes.now (letters name.now)) }
     ensures within { IfSome result (λ i. i < length passes.now) }
-    ensures first { IfSome result (λ i. IsSomeAnd (slice_get passes.now i) (λ p. IsFirst (λ q. named q) (letters name.now) p passes.now)) }
+    ensures first { IfSome result (λ i.
+        IsSomeAnd (slice_get passes.now i) (λ p. IsFirst (λ q. named q) (letters name.now) p passes.now)) }
 {
     for (i, pass) in passes.iter().enumerate() {
         if is_called(pass, name) {
@@ -99,11 +101,14 @@ pub fn run_passes(
     requires { IsValid (unit_view unit) }
     ensures made { IfOk result (λ made. IfSome made (λ v. IsValid (unit_view v))) }
     ensures kept { IfOk result (λ made. IfSome made (λ v. KeepsShape (unit_view unit) (unit_view v))) }
-    ensures led { IfOk result (λ made. IfSome made (λ v. Lead (λ p. named p) (λ p. steps p) passes.now (map letters names.now) (unit_view unit) (unit_view v))) }
+    ensures led { IfOk result (λ made.
+        IfSome made (λ v.
+        Lead (λ p. named p) (λ p. steps p) passes.now (map letters names.now) (unit_view unit) (unit_view v))) }
     ensures lawful { AreWellMarked (unit_view unit) → IfOk result (λ made. IfSome made (λ v.
         Lead (λ p. named p) (λ p. IsLawfulStep (named p) (steps p)) passes.now (map letters names.now) (unit_view unit)
         (unit_view v))) }
-    ensures keeps { AreWellMarked (unit_view unit) → IfOk result (λ made. IfSome made (λ v. Keeps (unit_view unit) (unit_view v))) }
+    ensures keeps { AreWellMarked (unit_view unit)
+        → IfOk result (λ made. IfSome made (λ v. Keeps (unit_view unit) (unit_view v))) }
     ensures nothing { names.now ≡ [] → IfOk result (λ made. made ≡ Some unit) }
 {
     let mut last = unit;

@@ -41,8 +41,10 @@ fn least(alloc: Global, request: Request<'_>) -> Result<Option<Path>, AllocError
     Ok(None)
 }
 
-/// The least of the paths that lead from the start by way of a place to the stop: at least one step is taken behind that place, and no
-/// place strictly between the two ends assigns the variable. Of two paths the shorter is less, and of two of one length the one that
+/// The least of the paths that lead from the start by way of a place to the stop: at least one step is taken behind
+/// that place, and no
+/// place strictly between the two ends assigns the variable. Of two paths the shorter is less, and of two of one length
+/// the one that
 /// is less where they differ first. None exactly where there is no such path. `AllocError` where memory was refused.
 pub fn route(
     alloc: Global,
@@ -53,9 +55,12 @@ pub fn route(
     stop: Place,
 ) -> Result<Option<Path>, AllocError>
     requires { AreInOrder table.now.steps.items }
-    ensures found { IfOk result (λ answer. IfSome answer (λ path. IsLeastRoute (quest table.now var start via stop) (places path))) }
-    ensures value { IfOk result (λ answer. option_map (λ path. places path) answer ≡ route_of (quest table.now var start via stop)) }
-    ensures none { IfOk result (λ answer. IfNone answer ((path : List ℕ) → IsRoute (quest table.now var start via stop) path → ⊥)) }
+    ensures found { IfOk result
+        (λ answer. IfSome answer (λ path. IsLeastRoute (quest table.now var start via stop) (places path))) }
+    ensures value { IfOk result
+        (λ answer. option_map (λ path. places path) answer ≡ route_of (quest table.now var start via stop)) }
+    ensures none { IfOk result
+        (λ answer. IfNone answer ((path : List ℕ) → IsRoute (quest table.now var start via stop) path → ⊥)) }
 {
     least(
         alloc,

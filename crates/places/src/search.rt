@@ -125,7 +125,9 @@ pub fn first_from(steps: &[FlowStep], place: Place) -> usize
 /// Notes a visit, unless there was one like it before.
 pub fn come_to(closed: &mut [bool], visits: &mut Vec<Visit>, visit: Visit) -> Result<(), AllocError>
     requires { state_number visit.place.0 visit.passed < length closed.old }
-    ensures visits { OnOk result (visits.new.items ≡ (if slice_index_or closed.old (state_number visit.place.0 visit.passed) false then visits.old.items else visits.old.items ++ visit ∷ [])) }
+    ensures visits { OnOk result
+        (visits.new.items ≡ (if slice_index_or closed.old (state_number visit.place.0 visit.passed) false then
+        visits.old.items else visits.old.items ++ visit ∷ [])) }
     ensures closed { OnOk result (closed.new ≡ slice_set closed.old (state_number visit.place.0 visit.passed) true) }
 {
     let state = state_number(visit.place, visit.passed);
@@ -187,7 +189,8 @@ pub fn expand(
 /// The way to a visit, and the stop behind it.
 pub fn trace(alloc: Global, visits: &[Visit], head: usize, stop: Place) -> Result<Path, AllocError>
     requires { (way : List ℕ) × IsWayTo visits.now head way }
-    ensures way { IfOk result (λ path. (way : List ℕ) → IsWayTo visits.now head way → places path ≡ way ++ stop.0 ∷ []) }
+    ensures way { IfOk result (λ path. (way : List ℕ) → IsWayTo visits.now head way
+        → places path ≡ way ++ stop.0 ∷ []) }
     ensures short { IfOk result (λ path. length path.places.items < 18446744073709551616) }
 {
     let mut back = vec![in alloc; stop]?;

@@ -109,7 +109,8 @@ pub enum RegisterOperation {
 
 /// An instruction.
 ///
-/// Registers are numbers below 32. An immediate, an offset or a distance is a word: a signed number of 12, 13 or 21 bits with its sign copied upwards.
+/// Registers are numbers below 32. An immediate, an offset or a distance is a word: a signed number of 12, 13 or 21
+/// bits with its sign copied upwards.
 /// The amount of a shift by an immediate is below 32.
 #[derive(Clone, Copy, PartialEq, Eq)]
 pub enum Instruction {

@@ -27,7 +27,8 @@ pub struct BlockCode {
     pub pieces: Vec<PlacedPiece>,
     /// What scratch registers hold where its end leads to another block.
     pub held: Vec<Held>,
-    /// The constants that it brings into a register, once for each time. Where one is held there already, that takes no word.
+    /// The constants that it brings into a register, once for each time. Where one is held there already, that takes no
+    /// word.
     pub fetched: Vec<u32>,
 }
 
@@ -38,9 +39,14 @@ fn put_numbered(
     number: u32,
     instruction: &Instr,
 ) -> Result<(), AllocError>
-    ensures few { OnOk result (words_in code.new.pieces.items ≤ words_in code.old.pieces.items + most_words_of (instruction_view instruction.now)) }
-    ensures stops { OnOk result (shown code.new ≡ shown_behind storage.now.entry.0 (instruction_view instruction.now) (shown code.old)) }
-    ensures grown { OnOk result (code_state code.new ≡ with_numbered (storage_view storage.now) storage.now.entry.0 number (instruction_view instruction.now) (code_state code.old)) }
+    ensures few { OnOk result
+        (words_in code.new.pieces.items
+        ≤ words_in code.old.pieces.items + most_words_of (instruction_view instruction.now)) }
+    ensures stops { OnOk result
+        (shown code.new ≡ shown_behind storage.now.entry.0 (instruction_view instruction.now) (shown code.old)) }
+    ensures grown { OnOk result
+        (code_state code.new ≡ with_numbered (storage_view storage.now) storage.now.entry.0 number
+        (instruction_view instruction.now) (code_state code.old)) }
 {
     put_instruction(code, storage, instruction)?;
     if let Some(_target) = instruction.target() {
@@ -55,9 +61,14 @@ fn put_instructions(
     storage: &Storage<'_>,
     instructions: &[Instr],
 ) -> Result<(), AllocError>
-    ensures few { OnOk result (words_in code.new.pieces.items ≤ words_in code.old.pieces.items + total most_words_of (map instruction_view instructions.now)) }
-    ensures stops { OnOk result (shown code.new ≡ shown_after storage.now.entry.0 (map instruction_view instructions.now) (shown code.old)) }
-    ensures grown { OnOk result (code_state code.new ≡ with_instructions (storage_view storage.now) storage.now.entry.0 0 (map instruction_view instructions.now) (code_state code.old)) }
+    ensures few { OnOk result
+        (words_in code.new.pieces.items
+        ≤ words_in code.old.pieces.items + total most_words_of (map instruction_view instructions.now)) }
+    ensures stops { OnOk result
+        (shown code.new ≡ shown_after storage.now.entry.0 (map instruction_view instructions.now) (shown code.old)) }
+    ensures grown { OnOk result
+        (code_state code.new ≡ with_instructions (storage_view storage.now) storage.now.entry.0 0
+        (map instruction_view instructions.now) (code_state code.old)) }
 {
     let mut left = instructions;
     let mut number = 0u32;
@@ -69,7 +80,8 @@ fn put_instructions(
     Ok(())
 }
 
-/// The code of a block behind which this one stands next, where these constants are held as it begins; these are loaded at its end, as far as that takes no more than nine words.
+/// The code of a block behind which this one stands next, where these constants are held as it begins; these are loaded
+/// at its end, as far as that takes no more than nine words.
 pub fn code_of_block(
     alloc: Global,
     storage: &Storage<'_>,
@@ -78,10 +90,21 @@ pub fn code_of_block(
     known: &[Held],
     loads: &[Held],
 ) -> Result<BlockCode, AllocError>
-    ensures few { IfOk result (λ made. words_in made.pieces.items ≤ total most_words_of (map instruction_view block.now.instructions.items) + 9) }
-    ensures stops { IfOk result (λ made. stops_of made.pieces.items ≡ filter (λ p. not (p == storage.now.entry.0)) (markers_in (map instruction_view block.now.instructions.items))) }
-    ensures code { IfOk result (λ made. made.pieces.items ≡ (block_code (storage_view storage.now) storage.now.entry.0 storage.now.frame.now.saved.items storage.now.frame.now.size storage.now.end.0 next.0 known.now loads.now (block_view block.now)).pieces) }
-    ensures held { IfOk result (λ made. made.held.items ≡ (block_code (storage_view storage.now) storage.now.entry.0 storage.now.frame.now.saved.items storage.now.frame.now.size storage.now.end.0 next.0 known.now loads.now (block_view block.now)).held) }
+    ensures few { IfOk result (λ made.
+        words_in made.pieces.items ≤ total most_words_of (map instruction_view block.now.instructions.items) + 9) }
+    ensures stops { IfOk result (λ made.
+        stops_of made.pieces.items ≡ filter (λ p. not (p == storage.now.entry.0))
+        (markers_in (map instruction_view block.now.instructions.items))) }
+    ensures code { IfOk result (λ made.
+        made.pieces.items ≡
+        (block_code (storage_view storage.now) storage.now.entry.0 storage.now.frame.now.saved.items
+        storage.now.frame.now.size storage.now.end.0 next.0 known.now loads.now
+        (block_view block.now)).pieces) }
+    ensures held { IfOk result (λ made.
+        made.held.items ≡
+        (block_code (storage_view storage.now) storage.now.entry.0 storage.now.frame.now.saved.items
+        storage.now.frame.now.size storage.now.end.0 next.0 known.now loads.now
+        (block_view block.now)).held) }
 {
     let owner = match block.place {
         Some(place) => place.0,

@@ -74,7 +74,8 @@ fn holds(comparison: Comparison, left: u32, right: u32) -> bool
     }
 }
 
-/// What is compared, with 0 in place of 1 on the right or of -1 on the left where another comparison then says the same.
+/// What is compared, with 0 in place of 1 on the right or of -1 on the left where another comparison then says the
+/// same.
 fn with_zero(comparison: Comparison, left: Source, right: Source) -> (Comparison, Source, Source)
     ensures comparison { result.0 ≡ (with_zero comparison left right).comparison }
     ensures left { result.1 ≡ (with_zero comparison left right).left }
@@ -136,7 +137,8 @@ fn go(code: &mut Code, to: Label, next: Label) -> Result<(), AllocError>
     ensures few { OnOk result (words_in code.new.pieces.items ≤ words_in code.old.pieces.items + 1) }
     ensures stops { OnOk result (shown code.new ≡ shown code.old) }
     ensures begun { OnOk result (code.new.begins ≡ false) }
-    ensures grown { OnOk result (code_state code.new ≡ with_pieces (going code.old.begins to.0 next.0) (code_state code.old)) }
+    ensures grown { OnOk result
+        (code_state code.new ≡ with_pieces (going code.old.begins to.0 next.0) (code_state code.old)) }
 {
     if to.0 == next.0 {
         code.settle()
@@ -156,7 +158,8 @@ fn branch_to(
     ensures few { OnOk result (words_in code.new.pieces.items ≤ words_in code.old.pieces.items + 2) }
     ensures stops { OnOk result (shown code.new ≡ shown code.old) }
     ensures begun { OnOk result (code.new.begins ≡ false) }
-    ensures grown { OnOk result (code_state code.new ≡ with_piece (piece.Branch operation left right to) (code_state code.old)) }
+    ensures grown { OnOk result
+        (code_state code.new ≡ with_piece (piece.Branch operation left right to) (code_state code.old)) }
 {
     code.put_piece(Piece::Branch {
         operation,
@@ -177,7 +180,9 @@ fn go_by_test(
     ensures few { OnOk result (words_in code.new.pieces.items ≤ words_in code.old.pieces.items + 3) }
     ensures stops { OnOk result (shown code.new ≡ shown code.old) }
     ensures begun { OnOk result (code.new.begins ≡ false) }
-    ensures grown { OnOk result (code_state code.new ≡ with_pieces (going_by test.operation test.left test.right then.0 otherwise.0 next.0) (code_state code.old)) }
+    ensures grown { OnOk result
+        (code_state code.new ≡ with_pieces (going_by test.operation test.left test.right then.0 otherwise.0 next.0)
+        (code_state code.old)) }
 {
     if then.0 == next.0 {
         return branch_to(
@@ -200,12 +205,16 @@ fn fetch_test(
     left: Source,
     right: Source,
 ) -> Result<Test, AllocError>
-    ensures few { OnOk result (words_in code.new.pieces.items ≤ words_in code.old.pieces.items + (most_words_of_source left + most_words_of_source right)) }
+    ensures few { OnOk result
+        (words_in code.new.pieces.items
+        ≤ words_in code.old.pieces.items + (most_words_of_source left + most_words_of_source right)) }
     ensures stops { OnOk result (shown code.new ≡ shown code.old) }
     ensures right { IfOk result (λ t. t.right ≡ source_register (storage_view storage.now) code.old.held.items right 7) }
     ensures left { IfOk result (λ t. t.left ≡ source_register (storage_view storage.now) code.old.held.items left 6) }
     ensures operation { IfOk result (λ t. t.operation ≡ branch_operation comparison) }
-    ensures grown { OnOk result (code_state code.new ≡ with_code (fetched_source (storage_view storage.now) code.old.held.items left 6 ++ fetched_source (storage_view storage.now) code.old.held.items right 7) (code_state code.old)) }
+    ensures grown { OnOk result
+        (code_state code.new ≡ with_code (fetched_source (storage_view storage.now) code.old.held.items left 6
+        ++ fetched_source (storage_view storage.now) code.old.held.items right 7) (code_state code.old)) }
 {
     let left = code.fetch_source(storage, left, register::T1)?;
     let right = code.fetch_source(storage, right, register::T2)?;
@@ -227,7 +236,8 @@ fn jump(
     ensures few { OnOk result (words_in code.new.pieces.items ≤ words_in code.old.pieces.items + 9) }
     ensures stops { OnOk result (shown code.new ≡ shown code.old) }
     ensures begun { OnOk result (code.new.begins ≡ false) }
-    ensures grown { OnOk result (code_state code.new ≡ with_jump (storage_view storage.now) loads.now to.0 next.0 (code_state code.old)) }
+    ensures grown { OnOk result
+        (code_state code.new ≡ with_jump (storage_view storage.now) loads.now to.0 next.0 (code_state code.old)) }
 {
     load_held(code, storage.base, loads, MOST_WORDS - 1)?;
     go(code, to, next)
@@ -245,7 +255,9 @@ fn branch(
     ensures few { OnOk result (words_in code.new.pieces.items ≤ words_in code.old.pieces.items + 9) }
     ensures stops { OnOk result (shown code.new ≡ shown code.old) }
     ensures begun { OnOk result (code.new.begins ≡ false) }
-    ensures grown { OnOk result (code_state code.new ≡ with_branch (storage_view storage.now) loads.now (with_zero compared.0 compared.1 compared.2) targets.0.0 targets.1.0 next.0 (code_state code.old)) }
+    ensures grown { OnOk result
+        (code_state code.new ≡ with_branch (storage_view storage.now) loads.now
+        (with_zero compared.0 compared.1 compared.2) targets.0.0 targets.1.0 next.0 (code_state code.old)) }
 {
     let (comparison, left, right) = with_zero(compared.0, compared.1, compared.2);
     let room = MOST_WORDS - 3 - words_of_fetch(left) - words_of_fetch(right);
@@ -266,7 +278,9 @@ fn branch_or_jump(
     ensures few { OnOk result (words_in code.new.pieces.items ≤ words_in code.old.pieces.items + 9) }
     ensures stops { OnOk result (shown code.new ≡ shown code.old) }
     ensures begun { OnOk result (code.new.begins ≡ false) }
-    ensures grown { OnOk result (code_state code.new ≡ with_choice (storage_view storage.now) loads.now compared.0 compared.1 compared.2 targets.0.0 targets.1.0 next.0 (code_state code.old)) }
+    ensures grown { OnOk result
+        (code_state code.new ≡ with_choice (storage_view storage.now) loads.now compared.0 compared.1 compared.2
+        targets.0.0 targets.1.0 next.0 (code_state code.old)) }
 {
     if targets.0.0 == targets.1.0 {
         return jump(code, storage, targets.0, next, loads);
@@ -284,13 +298,16 @@ fn branch_or_jump(
     }
 }
 
-/// Leaves the function, with its result in `a0`: by its end, which is repeated here where that takes no more than so many words.
+/// Leaves the function, with its result in `a0`: by its end, which is repeated here where that takes no more than so
+/// many words.
 fn leave(code: &mut Code, storage: &Storage<'_>, next: Label, room: u32) -> Result<(), AllocError>
     requires { 1 ≤ room }
     ensures few { OnOk result (words_in code.new.pieces.items ≤ words_in code.old.pieces.items + room) }
     ensures stops { OnOk result (shown code.new ≡ shown code.old) }
     ensures begun { OnOk result (code.new.begins ≡ false) }
-    ensures grown { OnOk result (code_state code.new ≡ with_leave storage.now.frame.now.saved.items storage.now.frame.now.size storage.now.end.0 next.0 room (code_state code.old)) }
+    ensures grown { OnOk result
+        (code_state code.new ≡ with_leave storage.now.frame.now.saved.items storage.now.frame.now.size
+        storage.now.end.0 next.0 room (code_state code.old)) }
 {
     let moves = words_of_move(storage.frame.size);
     let saved = storage.frame.saved.len();
@@ -310,7 +327,9 @@ fn put_return_of(
     ensures few { OnOk result (words_in code.new.pieces.items ≤ words_in code.old.pieces.items + 9) }
     ensures stops { OnOk result (shown code.new ≡ shown code.old) }
     ensures begun { OnOk result (code.new.begins ≡ false) }
-    ensures grown { OnOk result (code_state code.new ≡ with_return (storage_view storage.now) storage.now.frame.now.saved.items storage.now.frame.now.size storage.now.end.0 next.0 (Some value) (code_state code.old)) }
+    ensures grown { OnOk result
+        (code_state code.new ≡ with_return (storage_view storage.now) storage.now.frame.now.saved.items
+        storage.now.frame.now.size storage.now.end.0 next.0 (Some value) (code_state code.old)) }
 {
     if let Source::Word(word) = value {
         let words = words_of_constant(word, storage.base);
@@ -331,7 +350,11 @@ fn put_return(
     ensures few { OnOk result (words_in code.new.pieces.items ≤ words_in code.old.pieces.items + 9) }
     ensures stops { OnOk result (shown code.new ≡ shown code.old) }
     ensures begun { OnOk result (code.new.begins ≡ false) }
-    ensures grown { OnOk result (code_state code.new ≡ with_return (storage_view storage.now) storage.now.frame.now.saved.items storage.now.frame.now.size storage.now.end.0 next.0 (option_map (source_of (storage_view storage.now)) (option_map operand_view value)) (code_state code.old)) }
+    ensures grown { OnOk result
+        (code_state code.new ≡ with_return (storage_view storage.now) storage.now.frame.now.saved.items
+        storage.now.frame.now.size storage.now.end.0 next.0
+        (option_map (source_of (storage_view storage.now)) (option_map operand_view value))
+        (code_state code.old)) }
 {
     match value {
         None => leave(code, storage, next, MOST_WORDS),
@@ -339,7 +362,8 @@ fn put_return(
     }
 }
 
-/// The end of a block, behind which this one stands next, in at most nine words. These constants are loaded, as far as that leaves room.
+/// The end of a block, behind which this one stands next, in at most nine words. These constants are loaded, as far as
+/// that leaves room.
 pub(crate) fn put_end(
     code: &mut Code,
     storage: &Storage<'_>,
@@ -350,7 +374,9 @@ pub(crate) fn put_end(
     ensures few { OnOk result (words_in code.new.pieces.items ≤ words_in code.old.pieces.items + 9) }
     ensures stops { OnOk result (shown code.new ≡ shown code.old) }
     ensures begun { OnOk result (code.new.begins ≡ false) }
-    ensures grown { OnOk result (code_state code.new ≡ with_end (storage_view storage.now) storage.now.frame.now.saved.items storage.now.frame.now.size storage.now.end.0 next.0 loads.now (end_view end) (code_state code.old)) }
+    ensures grown { OnOk result
+        (code_state code.new ≡ with_end (storage_view storage.now) storage.now.frame.now.saved.items
+        storage.now.frame.now.size storage.now.end.0 next.0 loads.now (end_view end) (code_state code.old)) }
 {
     match end {
         End::Jump(to) => jump(code, storage, to, next, loads),

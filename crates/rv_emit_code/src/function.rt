@@ -77,7 +77,10 @@ fn bind(
 ) -> Result<(), AllocError>
     ensures few { OnOk result (words_in code.new.pieces.items ≤ words_in code.old.pieces.items + 3) }
     ensures stops { OnOk result (shown code.new ≡ shown code.old) }
-    ensures grown { OnOk result (code_state code.new ≡ with_code (binding_code (storage_view storage.now) (graph_view graph.now) register (binding_view binding)) (code_state code.old)) }
+    ensures grown { OnOk result
+        (code_state code.new ≡ with_code
+        (binding_code (storage_view storage.now) (graph_view graph.now) register (binding_view binding))
+        (code_state code.old)) }
 {
     match binding {
         Binding::Scalar(name) => code.write(storage, storage.home(name), register),
@@ -89,9 +92,12 @@ fn bind(
 
 /// The parameters, in order.
 fn bind_all(code: &mut Code, storage: &Storage<'_>, graph: &Graph) -> Result<(), AllocError>
-    ensures few { OnOk result (words_in code.new.pieces.items ≤ words_in code.old.pieces.items + (3 * length graph.now.parameters.items)) }
+    ensures few { OnOk result
+        (words_in code.new.pieces.items ≤ words_in code.old.pieces.items + (3 * length graph.now.parameters.items)) }
     ensures stops { OnOk result (shown code.new ≡ shown code.old) }
-    ensures grown { OnOk result (code_state code.new ≡ with_bindings (storage_view storage.now) (graph_view graph.now) 0 (map binding_view graph.now.parameters.items) (code_state code.old)) }
+    ensures grown { OnOk result
+        (code_state code.new ≡ with_bindings (storage_view storage.now) (graph_view graph.now) 0
+        (map binding_view graph.now.parameters.items) (code_state code.old)) }
 {
     let mut number = 0u32;
     for binding in &graph.parameters {
@@ -109,9 +115,13 @@ fn put_beginning(
     graph: &Graph,
     is_main: bool,
 ) -> Result<(), AllocError>
-    ensures few { OnOk result (words_in code.new.pieces.items ≤ words_in code.old.pieces.items + (length storage.now.frame.now.saved.items + (10 + 3 * length graph.now.parameters.items))) }
+    ensures few { OnOk result
+        (words_in code.new.pieces.items ≤ words_in code.old.pieces.items
+        + (length storage.now.frame.now.saved.items + (10 + 3 * length graph.now.parameters.items))) }
     ensures stops { OnOk result (shown code.new ≡ shown code.old) }
-    ensures grown { OnOk result (code_state code.new ≡ with_beginning (storage_view storage.now) (graph_view graph.now) storage.now.frame.now.saved.items storage.now.frame.now.size is_main (code_state code.old)) }
+    ensures grown { OnOk result
+        (code_state code.new ≡ with_beginning (storage_view storage.now) (graph_view graph.now)
+        storage.now.frame.now.saved.items storage.now.frame.now.size is_main (code_state code.old)) }
 {
     put_guard(code)?;
     let down = 0u32.wrapping_sub(storage.frame.size);
@@ -145,9 +155,14 @@ pub fn begin_of_function(
     graph: &Graph,
     is_main: bool,
 ) -> Result<Vec<PlacedPiece>, AllocError>
-    ensures few { IfOk result (λ pieces. words_in pieces.items ≤ length storage.now.frame.now.saved.items + (10 + 3 * length graph.now.parameters.items)) }
+    ensures few { IfOk result (λ pieces.
+        words_in pieces.items ≤ length storage.now.frame.now.saved.items +
+        (10 + 3 * length graph.now.parameters.items)) }
     ensures stops { IfOk result (λ pieces. stops_of pieces.items ≡ []) }
-    ensures code { IfOk result (λ pieces. pieces.items ≡ (with_beginning (storage_view storage.now) (graph_view graph.now) storage.now.frame.now.saved.items storage.now.frame.now.size is_main (no_code storage.now.entry.0 [])).pieces) }
+    ensures code { IfOk result (λ pieces.
+        pieces.items ≡
+        (with_beginning (storage_view storage.now) (graph_view graph.now) storage.now.frame.now.saved.items
+        storage.now.frame.now.size is_main (no_code storage.now.entry.0 [])).pieces) }
 {
     let mut code = Code::new(alloc, storage.entry.0);
     put_beginning(&mut code, storage, graph, is_main)?;

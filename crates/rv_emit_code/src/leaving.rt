@@ -53,13 +53,17 @@ fn restore(code: &mut Code, saved: &[u8]) -> Result<(), AllocError>
     Ok(())
 }
 
-/// Leaves the function, whose frame takes so many words to leave: first `tp`, then, of no place, the registers that are brought back, the return address, `sp` and the jump.
+/// Leaves the function, whose frame takes so many words to leave: first `tp`, then, of no place, the registers that are
+/// brought back, the return address, `sp` and the jump.
 pub(crate) fn put_leaving(code: &mut Code, frame: &Frame, moves: u32) -> Result<(), AllocError>
     requires { (moves ≡ 1) ⊎ (moves ≡ 3) }
-    ensures few { OnOk result (words_in code.new.pieces.items ≤ words_in code.old.pieces.items + (length frame.now.saved.items + 3 + moves)) }
+    ensures few { OnOk result
+        (words_in code.new.pieces.items
+        ≤ words_in code.old.pieces.items + (length frame.now.saved.items + 3 + moves)) }
     ensures stops { OnOk result (shown code.new ≡ shown code.old) }
     ensures begun { OnOk result (code.new.begins ≡ false) }
-    ensures grown { OnOk result (code_state code.new ≡ with_leaving moves frame.now.saved.items frame.now.size (code_state code.old)) }
+    ensures grown { OnOk result
+        (code_state code.new ≡ with_leaving moves frame.now.saved.items frame.now.size (code_state code.old)) }
 {
     code.put_sum(register::TP, register::TP, 1)?;
     code.leave_place();
@@ -74,7 +78,10 @@ pub(crate) fn put_leaving(code: &mut Code, frame: &Frame, moves: u32) -> Result<
 pub fn end_of_function(alloc: Global, frame: &Frame) -> Result<Vec<PlacedPiece>, AllocError>
     ensures few { IfOk result (λ pieces. words_in pieces.items ≤ length frame.now.saved.items + 6) }
     ensures stops { IfOk result (λ pieces. stops_of pieces.items ≡ []) }
-    ensures code { IfOk result (λ pieces. pieces.items ≡ (with_leaving (words_of_moving frame.now.size) frame.now.saved.items frame.now.size (no_code 0 [])).pieces) }
+    ensures code { IfOk result (λ pieces.
+        pieces.items ≡
+        (with_leaving (words_of_moving frame.now.size) frame.now.saved.items frame.now.size
+        (no_code 0 [])).pieces) }
 {
     let mut code = Code::new(alloc, 0);
     put_leaving(&mut code, frame, words_of_move(frame.size))?;

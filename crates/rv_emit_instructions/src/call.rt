@@ -36,7 +36,9 @@ fn pass(
 ) -> Result<(), AllocError>
     ensures few { OnOk result (words_in code.new.pieces.items ≤ words_in code.old.pieces.items + 3) }
     ensures stops { OnOk result (shown code.new ≡ shown code.old) }
-    ensures grown { OnOk result (code_state code.new ≡ passed (storage_view storage.now) number (operand_view argument) (code_state code.old)) }
+    ensures grown { OnOk result
+        (code_state code.new
+        ≡ passed (storage_view storage.now) number (operand_view argument) (code_state code.old)) }
 {
     let register = argument_register(number);
     let source = storage.source(argument);
@@ -47,9 +49,12 @@ fn pass(
 
 /// Arguments are passed in their registers.
 fn pass_all(code: &mut Code, storage: &Storage<'_>, arguments: &[Operand]) -> Result<(), AllocError>
-    ensures few { OnOk result (words_in code.new.pieces.items ≤ words_in code.old.pieces.items + 3 * length arguments.now) }
+    ensures few { OnOk result
+        (words_in code.new.pieces.items ≤ words_in code.old.pieces.items + 3 * length arguments.now) }
     ensures stops { OnOk result (shown code.new ≡ shown code.old) }
-    ensures grown { OnOk result (code_state code.new ≡ passed_from (storage_view storage.now) 0 (map operand_view arguments.now) (code_state code.old)) }
+    ensures grown { OnOk result
+        (code_state code.new
+        ≡ passed_from (storage_view storage.now) 0 (map operand_view arguments.now) (code_state code.old)) }
 {
     let mut left = arguments;
     let mut number = 0u8;
@@ -97,9 +102,13 @@ pub fn put_call(
     callee: Callee,
     arguments: &[Operand],
 ) -> Result<(), AllocError>
-    ensures few { OnOk result (words_in code.new.pieces.items ≤ words_in code.old.pieces.items + (5 + 3 * length arguments.now)) }
+    ensures few { OnOk result
+        (words_in code.new.pieces.items ≤ words_in code.old.pieces.items + (5 + 3 * length arguments.now)) }
     ensures stops { OnOk result (shown code.new ≡ shown code.old) }
-    ensures grown { OnOk result (code_state code.new ≡ with_call (storage_view storage.now) (option_map (λ (n : declared_name.Name). n.0) target) callee (map operand_view arguments.now) (code_state code.old)) }
+    ensures grown { OnOk result
+        (code_state code.new ≡ with_call (storage_view storage.now)
+        (option_map (λ (n : declared_name.Name). n.0) target) callee (map operand_view arguments.now)
+        (code_state code.old)) }
 {
     pass_all(code, storage, arguments)?;
     call_callee(code, callee)?;

@@ -24,7 +24,8 @@ const MOST_SINGLE_WORDS: u32 = 4;
 fn put_word(code: &mut Code, value: u8, base: u8, offset: u32) -> Result<(), AllocError>
     ensures few { OnOk result (words_in code.new.pieces.items ≤ words_in code.old.pieces.items + 1) }
     ensures stops { OnOk result (shown code.new ≡ shown code.old) }
-    ensures grown { OnOk result (code_state code.new ≡ with_code (instruction.Store Sw value base offset ∷ []) (code_state code.old)) }
+    ensures grown { OnOk result
+        (code_state code.new ≡ with_code (instruction.Store Sw value base offset ∷ []) (code_state code.old)) }
 {
     code.put(Instruction::Store(StoreOperation::Sw, value, base, offset))
 }
@@ -42,7 +43,8 @@ fn put_limit(code: &mut Code, rd: u8, bytes: u32) -> Result<(), AllocError>
     code.put(Instruction::Register(RegisterOperation::Add, rd, rd, register::T1))
 }
 
-/// The end of a loop over words: `t1` goes on to the next, and the loop, of which so many bytes stand before the branch, begins again unless `t1` is at the limit.
+/// The end of a loop over words: `t1` goes on to the next, and the loop, of which so many bytes stand before the
+/// branch, begins again unless `t1` is at the limit.
 fn put_turn(code: &mut Code, limit: u8, back: u32) -> Result<(), AllocError>
     ensures few { OnOk result (words_in code.new.pieces.items ≤ words_in code.old.pieces.items + 2) }
     ensures stops { OnOk result (shown code.new ≡ shown code.old) }
@@ -79,7 +81,8 @@ pub fn put_zero(
 ) -> Result<(), AllocError>
     ensures few { OnOk result (words_in code.new.pieces.items ≤ words_in code.old.pieces.items + 9) }
     ensures stops { OnOk result (shown code.new ≡ shown code.old) }
-    ensures grown { OnOk result (code_state code.new ≡ with_code (zero_code (storage_view storage.now) object words) (code_state code.old)) }
+    ensures grown { OnOk result
+        (code_state code.new ≡ with_code (zero_code (storage_view storage.now) object words) (code_state code.old)) }
 {
     let offset = storage.object(object);
     if words == 0 || (words <= MOST_SINGLE_WORDS && offset < 2032) {
@@ -95,7 +98,10 @@ pub fn put_zero(
 fn put_copied_word(code: &mut Code) -> Result<(), AllocError>
     ensures few { OnOk result (words_in code.new.pieces.items ≤ words_in code.old.pieces.items + 3) }
     ensures stops { OnOk result (shown code.new ≡ shown code.old) }
-    ensures grown { OnOk result (code_state code.new ≡ with_code (instruction.Load Lw 5 7 0 ∷ instruction.Store Sw 5 6 0 ∷ instruction.Immediate Addi 7 7 4 ∷ []) (code_state code.old)) }
+    ensures grown { OnOk result
+        (code_state code.new ≡ with_code
+        (instruction.Load Lw 5 7 0 ∷ instruction.Store Sw 5 6 0 ∷ instruction.Immediate Addi 7 7 4 ∷ [])
+        (code_state code.old)) }
 {
     code.put(Instruction::Load(LoadOperation::Lw, register::T0, register::T2, 0))?;
     put_word(code, register::T0, register::T1, 0)?;
@@ -112,7 +118,9 @@ pub fn put_copy(
 ) -> Result<(), AllocError>
     ensures few { OnOk result (words_in code.new.pieces.items ≤ words_in code.old.pieces.items + 13) }
     ensures stops { OnOk result (shown code.new ≡ shown code.old) }
-    ensures grown { OnOk result (code_state code.new ≡ with_code (copy_code (storage_view storage.now) code.old.held.items object bytes words) (code_state code.old)) }
+    ensures grown { OnOk result
+        (code_state code.new ≡ with_code
+        (copy_code (storage_view storage.now) code.old.held.items object bytes words) (code_state code.old)) }
 {
     if words == 0 {
         return Ok(());

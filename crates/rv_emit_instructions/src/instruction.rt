@@ -25,9 +25,14 @@ pub fn put_instruction(
     storage: &Storage<'_>,
     instruction: &Instr,
 ) -> Result<(), AllocError>
-    ensures few { OnOk result (words_in code.new.pieces.items ≤ words_in code.old.pieces.items + most_words_of (instruction_view instruction.now)) }
-    ensures stops { OnOk result (shown code.new ≡ shown_behind storage.now.entry.0 (instruction_view instruction.now) (shown code.old)) }
-    ensures grown { OnOk result (code_state code.new ≡ with_instruction (storage_view storage.now) storage.now.entry.0 (instruction_view instruction.now) (code_state code.old)) }
+    ensures few { OnOk result
+        (words_in code.new.pieces.items
+        ≤ words_in code.old.pieces.items + most_words_of (instruction_view instruction.now)) }
+    ensures stops { OnOk result
+        (shown code.new ≡ shown_behind storage.now.entry.0 (instruction_view instruction.now) (shown code.old)) }
+    ensures grown { OnOk result
+        (code_state code.new ≡ with_instruction (storage_view storage.now) storage.now.entry.0
+        (instruction_view instruction.now) (code_state code.old)) }
 {
     match instruction {
         Instr::Marker(place) => code.begin(place.0, place.0 != storage.entry.0),

@@ -49,9 +49,13 @@ fn store_operation(element: Element) -> StoreOperation
 fn reach_static(code: &mut Code, storage: &Storage<'_>, address: u32) -> Result<Reached, AllocError>
     ensures few { OnOk result (words_in code.new.pieces.items ≤ words_in code.old.pieces.items + 2) }
     ensures stops { OnOk result (shown code.new ≡ shown code.old) }
-    ensures grown { OnOk result (code_state code.new ≡ with_code ((static_reach (storage_view storage.now) code.old.held.items address).code) (code_state code.old)) }
-    ensures base { IfOk result (λ r. r.base ≡ (static_reach (storage_view storage.now) code.old.held.items address).base) }
-    ensures offset { IfOk result (λ r. r.offset ≡ (static_reach (storage_view storage.now) code.old.held.items address).offset) }
+    ensures grown { OnOk result
+        (code_state code.new ≡ with_code
+        ((static_reach (storage_view storage.now) code.old.held.items address).code) (code_state code.old)) }
+    ensures base { IfOk result
+        (λ r. r.base ≡ (static_reach (storage_view storage.now) code.old.held.items address).base) }
+    ensures offset { IfOk result
+        (λ r. r.offset ≡ (static_reach (storage_view storage.now) code.old.held.items address).offset) }
 {
     let distance = address.wrapping_sub(storage.base);
     if is_small(distance) {
@@ -103,9 +107,17 @@ fn reach_pointer(
 ) -> Result<Reached, AllocError>
     ensures few { OnOk result (words_in code.new.pieces.items ≤ words_in code.old.pieces.items + 3) }
     ensures stops { OnOk result (shown code.new ≡ shown code.old) }
-    ensures grown { OnOk result (code_state code.new ≡ with_code ((pointer_reach (storage_view storage.now) code.old.held.items (source_of (storage_view storage.now) (operand_view pointer))).code) (code_state code.old)) }
-    ensures base { IfOk result (λ r. r.base ≡ (pointer_reach (storage_view storage.now) code.old.held.items (source_of (storage_view storage.now) (operand_view pointer))).base) }
-    ensures offset { IfOk result (λ r. r.offset ≡ (pointer_reach (storage_view storage.now) code.old.held.items (source_of (storage_view storage.now) (operand_view pointer))).offset) }
+    ensures grown { OnOk result
+        (code_state code.new ≡ with_code ((pointer_reach (storage_view storage.now) code.old.held.items
+        (source_of (storage_view storage.now) (operand_view pointer))).code) (code_state code.old)) }
+    ensures base { IfOk result (λ r.
+        r.base ≡
+        (pointer_reach (storage_view storage.now) code.old.held.items
+        (source_of (storage_view storage.now) (operand_view pointer))).base) }
+    ensures offset { IfOk result (λ r.
+        r.offset ≡
+        (pointer_reach (storage_view storage.now) code.old.held.items
+        (source_of (storage_view storage.now) (operand_view pointer))).offset) }
 {
     match storage.source(pointer) {
         Source::Word(address) => reach_static(code, storage, address),
@@ -120,9 +132,14 @@ fn reach_pointer(
 fn reach(code: &mut Code, storage: &Storage<'_>, location: Location) -> Result<Reached, AllocError>
     ensures few { OnOk result (words_in code.new.pieces.items ≤ words_in code.old.pieces.items + 3) }
     ensures stops { OnOk result (shown code.new ≡ shown code.old) }
-    ensures grown { OnOk result (code_state code.new ≡ with_code ((reach_of (storage_view storage.now) code.old.held.items (location_view location)).code) (code_state code.old)) }
-    ensures base { IfOk result (λ r. r.base ≡ (reach_of (storage_view storage.now) code.old.held.items (location_view location)).base) }
-    ensures offset { IfOk result (λ r. r.offset ≡ (reach_of (storage_view storage.now) code.old.held.items (location_view location)).offset) }
+    ensures grown { OnOk result
+        (code_state code.new ≡ with_code
+        ((reach_of (storage_view storage.now) code.old.held.items (location_view location)).code)
+        (code_state code.old)) }
+    ensures base { IfOk result (λ r.
+        r.base ≡ (reach_of (storage_view storage.now) code.old.held.items (location_view location)).base) }
+    ensures offset { IfOk result (λ r.
+        r.offset ≡ (reach_of (storage_view storage.now) code.old.held.items (location_view location)).offset) }
 {
     match location {
         Location::Automatic { object, offset } => {
@@ -143,7 +160,9 @@ pub fn put_load(
 ) -> Result<(), AllocError>
     ensures few { OnOk result (words_in code.new.pieces.items ≤ words_in code.old.pieces.items + 7) }
     ensures stops { OnOk result (shown code.new ≡ shown code.old) }
-    ensures grown { OnOk result (code_state code.new ≡ with_code (load_code (storage_view storage.now) code.old.held.items (home_at (storage_view storage.now) target.0) element (location_view from)) (code_state code.old)) }
+    ensures grown { OnOk result
+        (code_state code.new ≡ with_code (load_code (storage_view storage.now) code.old.held.items
+        (home_at (storage_view storage.now) target.0) element (location_view from)) (code_state code.old)) }
 {
     let target = storage.home(target);
     let reached = reach(code, storage, from)?;
@@ -162,7 +181,9 @@ pub fn put_store(
 ) -> Result<(), AllocError>
     ensures few { OnOk result (words_in code.new.pieces.items ≤ words_in code.old.pieces.items + 7) }
     ensures stops { OnOk result (shown code.new ≡ shown code.old) }
-    ensures grown { OnOk result (code_state code.new ≡ with_code (store_code (storage_view storage.now) code.old.held.items element (location_view to) (source_of (storage_view storage.now) (operand_view value))) (code_state code.old)) }
+    ensures grown { OnOk result
+        (code_state code.new ≡ with_code (store_code (storage_view storage.now) code.old.held.items element
+        (location_view to) (source_of (storage_view storage.now) (operand_view value))) (code_state code.old)) }
 {
     let value = code.fetch(storage, value, register::T1)?;
     let reached = reach(code, storage, to)?;
@@ -184,7 +205,10 @@ pub fn put_first(
 ) -> Result<(), AllocError>
     ensures few { OnOk result (words_in code.new.pieces.items ≤ words_in code.old.pieces.items + 3) }
     ensures stops { OnOk result (shown code.new ≡ shown code.old) }
-    ensures grown { OnOk result (code_state code.new ≡ with_code (storing element (frame_reach (object_at (storage_view storage.now) object)) value) (code_state code.old)) }
+    ensures grown { OnOk result
+        (code_state code.new ≡ with_code
+        (storing element (frame_reach (object_at (storage_view storage.now) object)) value)
+        (code_state code.old)) }
 {
     let reached = reach_frame(code, storage.object(object))?;
     code.put(Instruction::Store(
@@ -204,7 +228,10 @@ pub fn put_address_of(
 ) -> Result<(), AllocError>
     ensures few { OnOk result (words_in code.new.pieces.items ≤ words_in code.old.pieces.items + 6) }
     ensures stops { OnOk result (shown code.new ≡ shown code.old) }
-    ensures grown { OnOk result (code_state code.new ≡ with_code (object_address_code (storage_view storage.now) (home_at (storage_view storage.now) target.0) object) (code_state code.old)) }
+    ensures grown { OnOk result
+        (code_state code.new ≡ with_code
+        (object_address_code (storage_view storage.now) (home_at (storage_view storage.now) target.0) object)
+        (code_state code.old)) }
 {
     let target = storage.home(target);
     let rd = result_register(target);

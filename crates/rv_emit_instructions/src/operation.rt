@@ -26,7 +26,9 @@ fn write_constant(
 ) -> Result<(), AllocError>
     ensures few { OnOk result (words_in code.new.pieces.items ≤ words_in code.old.pieces.items + 5) }
     ensures stops { OnOk result (shown code.new ≡ shown code.old) }
-    ensures grown { OnOk result (code_state code.new ≡ with_code (constant_written (storage_view storage.now) code.old.held.items target word) (code_state code.old)) }
+    ensures grown { OnOk result
+        (code_state code.new ≡ with_code
+        (constant_written (storage_view storage.now) code.old.held.items target word) (code_state code.old)) }
 {
     match target {
         Home::Register(register) => code.set_constant(register, word, storage.base),
@@ -48,7 +50,10 @@ fn operate_registers(
 ) -> Result<(), AllocError>
     ensures few { OnOk result (words_in code.new.pieces.items ≤ words_in code.old.pieces.items + 10) }
     ensures stops { OnOk result (shown code.new ≡ shown code.old) }
-    ensures grown { OnOk result (code_state code.new ≡ with_code (on_registers (storage_view storage.now) code.old.held.items target operation left right) (code_state code.old)) }
+    ensures grown { OnOk result
+        (code_state code.new ≡ with_code
+        (on_registers (storage_view storage.now) code.old.held.items target operation left right)
+        (code_state code.old)) }
 {
     let left = code.fetch_source(storage, left, register::T1)?;
     let right = code.fetch_source(storage, right, register::T2)?;
@@ -68,7 +73,10 @@ fn operate_immediate(
 ) -> Result<(), AllocError>
     ensures few { OnOk result (words_in code.new.pieces.items ≤ words_in code.old.pieces.items + 7) }
     ensures stops { OnOk result (shown code.new ≡ shown code.old) }
-    ensures grown { OnOk result (code_state code.new ≡ with_code (on_immediate (storage_view storage.now) code.old.held.items target operation source immediate) (code_state code.old)) }
+    ensures grown { OnOk result
+        (code_state code.new ≡ with_code
+        (on_immediate (storage_view storage.now) code.old.held.items target operation source immediate)
+        (code_state code.old)) }
 {
     let source = code.fetch_source(storage, source, register::T1)?;
     let rd = result_register(target);
@@ -87,7 +95,10 @@ fn operate_by_word(
 ) -> Result<(), AllocError>
     ensures few { OnOk result (words_in code.new.pieces.items ≤ words_in code.old.pieces.items + 10) }
     ensures stops { OnOk result (shown code.new ≡ shown code.old) }
-    ensures grown { OnOk result (code_state code.new ≡ with_code (by_word (storage_view storage.now) code.old.held.items target operation left right) (code_state code.old)) }
+    ensures grown { OnOk result
+        (code_state code.new ≡ with_code
+        (by_word (storage_view storage.now) code.old.held.items target operation left right)
+        (code_state code.old)) }
 {
     match immediate_form(operation, right) {
         Some((immediate, word)) => {
@@ -115,7 +126,11 @@ pub fn put_operation(
 ) -> Result<(), AllocError>
     ensures few { OnOk result (words_in code.new.pieces.items ≤ words_in code.old.pieces.items + 10) }
     ensures stops { OnOk result (shown code.new ≡ shown code.old) }
-    ensures grown { OnOk result (code_state code.new ≡ with_code (operation_code (storage_view storage.now) code.old.held.items (home_at (storage_view storage.now) target.0) operation (source_of (storage_view storage.now) (operand_view left)) (source_of (storage_view storage.now) (operand_view right))) (code_state code.old)) }
+    ensures grown { OnOk result
+        (code_state code.new ≡ with_code (operation_code (storage_view storage.now) code.old.held.items
+        (home_at (storage_view storage.now) target.0) operation
+        (source_of (storage_view storage.now) (operand_view left))
+        (source_of (storage_view storage.now) (operand_view right))) (code_state code.old)) }
 {
     let target = storage.home(target);
     match (storage.source(left), storage.source(right)) {
@@ -152,7 +167,10 @@ fn shift_twice(
 ) -> Result<(), AllocError>
     ensures few { OnOk result (words_in code.new.pieces.items ≤ words_in code.old.pieces.items + 8) }
     ensures stops { OnOk result (shown code.new ≡ shown code.old) }
-    ensures grown { OnOk result (code_state code.new ≡ with_code (shifted_twice (storage_view storage.now) code.old.held.items target source by back) (code_state code.old)) }
+    ensures grown { OnOk result
+        (code_state code.new ≡ with_code
+        (shifted_twice (storage_view storage.now) code.old.held.items target source by back)
+        (code_state code.old)) }
 {
     let source = code.fetch_source(storage, source, register::T1)?;
     code.put_immediate(ImmediateOperation::Slli, register::T1, source, by)?;
@@ -171,7 +189,10 @@ pub fn put_truncation(
 ) -> Result<(), AllocError>
     ensures few { OnOk result (words_in code.new.pieces.items ≤ words_in code.old.pieces.items + 8) }
     ensures stops { OnOk result (shown code.new ≡ shown code.old) }
-    ensures grown { OnOk result (code_state code.new ≡ with_code (truncation_code (storage_view storage.now) code.old.held.items (home_at (storage_view storage.now) target.0) truncation (source_of (storage_view storage.now) (operand_view from))) (code_state code.old)) }
+    ensures grown { OnOk result
+        (code_state code.new ≡ with_code (truncation_code (storage_view storage.now) code.old.held.items
+        (home_at (storage_view storage.now) target.0) truncation
+        (source_of (storage_view storage.now) (operand_view from))) (code_state code.old)) }
 {
     let target = storage.home(target);
     let from = storage.source(from);
@@ -201,7 +222,9 @@ fn compare_registers(
 ) -> Result<(), AllocError>
     ensures few { OnOk result (words_in code.new.pieces.items ≤ words_in code.old.pieces.items + 11) }
     ensures stops { OnOk result (shown code.new ≡ shown code.old) }
-    ensures grown { OnOk result (code_state code.new ≡ with_code (compared (storage_view storage.now) code.old.held.items target left right) (code_state code.old)) }
+    ensures grown { OnOk result
+        (code_state code.new ≡ with_code (compared (storage_view storage.now) code.old.held.items target left right)
+        (code_state code.old)) }
 {
     let left = code.fetch_source(storage, left, register::T1)?;
     let right = code.fetch_source(storage, right, register::T2)?;
@@ -221,7 +244,10 @@ pub fn put_comparison(
 ) -> Result<(), AllocError>
     ensures few { OnOk result (words_in code.new.pieces.items ≤ words_in code.old.pieces.items + 11) }
     ensures stops { OnOk result (shown code.new ≡ shown code.old) }
-    ensures grown { OnOk result (code_state code.new ≡ with_code (comparison_code (storage_view storage.now) code.old.held.items (home_at (storage_view storage.now) target.0) (source_of (storage_view storage.now) (operand_view left)) (source_of (storage_view storage.now) (operand_view right))) (code_state code.old)) }
+    ensures grown { OnOk result
+        (code_state code.new ≡ with_code (comparison_code (storage_view storage.now) code.old.held.items
+        (home_at (storage_view storage.now) target.0) (source_of (storage_view storage.now) (operand_view left))
+        (source_of (storage_view storage.now) (operand_view right))) (code_state code.old)) }
 {
     let target = storage.home(target);
     match (storage.source(left), storage.source(right)) {
@@ -241,7 +267,10 @@ pub fn put_move(
 ) -> Result<(), AllocError>
     ensures few { OnOk result (words_in code.new.pieces.items ≤ words_in code.old.pieces.items + 6) }
     ensures stops { OnOk result (shown code.new ≡ shown code.old) }
-    ensures grown { OnOk result (code_state code.new ≡ with_code (move_code (storage_view storage.now) code.old.held.items (home_at (storage_view storage.now) target.0) (source_of (storage_view storage.now) (operand_view from))) (code_state code.old)) }
+    ensures grown { OnOk result
+        (code_state code.new ≡ with_code (move_code (storage_view storage.now) code.old.held.items
+        (home_at (storage_view storage.now) target.0)
+        (source_of (storage_view storage.now) (operand_view from))) (code_state code.old)) }
 {
     let target = storage.home(target);
     match (target, storage.source(from)) {

@@ -43,8 +43,11 @@ fn sequence_of(
     is_planned: bool,
 ) -> Result<Sequence, AllocError>
     requires saved { length storage.now.frame.now.saved.items ≤ 15 }
-    ensures few { is_planned ≡ false → IfOk result (λ made. words_in made.pieces.items ≤ most_words_of_graph (graph_view graph.now)) }
-    ensures sequence { IfOk result (λ made. HasEnd (ground_of storage.now) (graph_view graph.now) → IsSequenceOf (ground_of storage.now) (graph_view graph.now) is_main (sequence_view made)) }
+    ensures few { is_planned ≡ false
+        → IfOk result (λ made. words_in made.pieces.items ≤ most_words_of_graph (graph_view graph.now)) }
+    ensures sequence { IfOk result (λ made.
+        HasEnd (ground_of storage.now) (graph_view graph.now)
+        → IsSequenceOf (ground_of storage.now) (graph_view graph.now) is_main (sequence_view made)) }
 {
     if is_planned {
         sequence_by_plan(alloc, storage, graph, is_main)
@@ -62,8 +65,10 @@ fn lay_out(
     is_main: bool,
     is_planned: bool,
 ) -> Result<Laid, AllocError>
-    ensures few { is_planned ≡ false → IfOk result (λ one. words_in one.sequence.pieces.items ≤ most_words_of_graph (graph_view graph.now)) }
-    ensures laid { IfOk result (λ one. IsLaidOf (static_view statics.now) (graph_view graph.now) homes.now is_main (laid_view one)) }
+    ensures few { is_planned ≡ false
+        → IfOk result (λ one. words_in one.sequence.pieces.items ≤ most_words_of_graph (graph_view graph.now)) }
+    ensures laid { IfOk result
+        (λ one. IsLaidOf (static_view statics.now) (graph_view graph.now) homes.now is_main (laid_view one)) }
 {
     let frame = frame_of_function(alloc, graph, homes)?;
     let storage = Storage {
@@ -91,8 +96,11 @@ pub fn lay_out_all(
     is_planned: bool,
 ) -> Result<Vec<Laid>, AllocError>
     ensures each { IfOk result (λ all. length all.items ≡ length homed.now.unit.graphs.items) }
-    ensures few { is_planned ≡ false → IfOk result (λ all. laid_words all.items ≤ most_words_of_graphs (map graph_view homed.now.unit.graphs.items)) }
-    ensures laid { IfOk result (λ all. AreLaid (homed_view homed.now) (static_view statics.now) 0 (map graph_view homed.now.unit.graphs.items) (map laid_view all.items)) }
+    ensures few { is_planned ≡ false
+        → IfOk result (λ all. laid_words all.items ≤ most_words_of_graphs (map graph_view homed.now.unit.graphs.items)) }
+    ensures laid { IfOk result (λ all.
+        AreLaid (homed_view homed.now) (static_view statics.now) 0 (map graph_view homed.now.unit.graphs.items)
+        (map laid_view all.items)) }
 {
     let mut all = Vec::new(alloc);
     let mut function = 0u32;

@@ -171,7 +171,9 @@ fn push_branch(
     distance: u32,
 ) -> Result<(), AllocError>
     ensures few { OnOk result (length code.new.items ≤ length code.old.items + 2) }
-    ensures grown { OnOk result (code.new.items ≡ code.old.items ++ owned_words owner (branch_code is_far (λ d. instruction.Branch branch.0 branch.1 branch.2 d) (λ d. instruction.Branch (opposite branch.0) branch.1 branch.2 d) distance)) }
+    ensures grown { OnOk result (code.new.items ≡ code.old.items ++ owned_words owner (branch_code is_far (λ d.
+        instruction.Branch branch.0 branch.1 branch.2 d) (λ d. instruction.Branch (opposite branch.0) branch.1
+        branch.2 d) distance)) }
 {
     let (operation, left, right) = branch;
     if is_far {
@@ -205,7 +207,8 @@ struct Ground<'a> {
 impl<'a> Ground<'a> {
     /// The distance to a label from a number of words behind the beginning of the function.
     fn distance_to(&self, from: u32, label: Label) -> u32
-        ensures { result ≡ distance from (label_at self.now.sequence.now.labels.items self.now.layout.now.offsets.items label.0) }
+        ensures { result ≡ distance from
+            (label_at self.now.sequence.now.labels.items self.now.layout.now.offsets.items label.0) }
     {
         distance(
             from,
@@ -221,7 +224,11 @@ impl<'a> Ground<'a> {
         code: &mut Vec<OwnedWord>,
     ) -> Result<(), AllocError>
         ensures few { OnOk result (length code.new.items ≤ length code.old.items + words_of_piece placed.piece) }
-        ensures grown { OnOk result (code.new.items ≡ code.old.items ++ owned_words placed.owner (piece_code (lying (sequence_view self.now.sequence.now) (layout_view self.now.layout.now) self.now.first self.now.functions.now) (get_or self.now.layout.now.far.items index false) (slice_index self.now.layout.now.offsets.items index) placed.piece)) }
+        ensures grown { OnOk result
+            (code.new.items ≡ code.old.items ++ owned_words placed.owner (piece_code (lying
+            (sequence_view self.now.sequence.now) (layout_view self.now.layout.now) self.now.first
+            self.now.functions.now) (get_or self.now.layout.now.far.items index false) (slice_index
+            self.now.layout.now.offsets.items index) placed.piece)) }
     {
         let from = at(&self.layout.offsets, index);
         let owner = placed.owner;
@@ -260,7 +267,9 @@ impl Layout {
         code: &mut Vec<OwnedWord>,
     ) -> Result<(), AllocError>
         ensures few { OnOk result (length code.new.items ≤ length code.old.items + words_in sequence.now.pieces.items) }
-        ensures grown { OnOk result (code.new.items ≡ code.old.items ++ function_words (sequence_view sequence.now) (layout_view self.now) first functions.now) }
+        ensures grown { OnOk result
+            (code.new.items ≡ code.old.items
+            ++ function_words (sequence_view sequence.now) (layout_view self.now) first functions.now) }
     {
         let ground = Ground {
             sequence,

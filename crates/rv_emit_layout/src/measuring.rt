@@ -83,7 +83,10 @@ fn add_one(table: &mut Vec<u32>, index: u32)
 
 /// Counts the jump of a block where the block ends, if it was dropped.
 fn add_jump(sequence: &Sequence, block: usize, dropped: &mut Vec<u32>)
-    ensures { dropped.new.items ≡ cond (is_dropped (sequence_view sequence.now) block) (slice_set dropped.old.items (slice_index sequence.now.ends.items block) (counted (slice_index dropped.old.items (slice_index sequence.now.ends.items block) + 1))) dropped.old.items }
+    ensures { dropped.new.items ≡ cond (is_dropped (sequence_view sequence.now) block)
+        (slice_set dropped.old.items (slice_index sequence.now.ends.items block)
+        (counted (slice_index dropped.old.items (slice_index sequence.now.ends.items block) + 1)))
+        dropped.old.items }
 {
     if is_dropped(sequence, block) {
         add_one(dropped, number_at(&sequence.ends, block));
@@ -92,7 +95,9 @@ fn add_jump(sequence: &Sequence, block: usize, dropped: &mut Vec<u32>)
 
 /// How many blocks whose jump was dropped end at the index of each piece, and behind them at the end.
 fn dropped_jumps(alloc: Global, sequence: &Sequence) -> Result<Vec<u32>, AllocError>
-    ensures { IfOk result (λ dropped. (k : ℕ) → k ≤ length sequence.now.pieces.items → slice_index dropped.items k ≡ counted (dropped_at (sequence_view sequence.now) k)) }
+    ensures { IfOk result (λ dropped.
+        (k : ℕ) → k ≤ length sequence.now.pieces.items
+        → slice_index dropped.items k ≡ counted (dropped_at (sequence_view sequence.now) k)) }
 {
     let mut dropped = vec![in alloc; 0; sequence.pieces.len()]?;
     dropped.push(0)?;

@@ -49,7 +49,8 @@ pub fn told_all(
     all: &[Laid],
     firsts: &[u32],
 ) -> Result<Vec<EmittedFunction>, AllocError>
-    ensures { IfOk result (λ v. map function_view v.items ≡ told_of_all (map graph_view graphs.now) firsts.now 0 (map laid_view all.now)) }
+    ensures { IfOk result (λ v.
+        map function_view v.items ≡ told_of_all (map graph_view graphs.now) firsts.now 0 (map laid_view all.now)) }
 {
     let mut functions = Vec::new(alloc);
     let mut function = 0u32;

@@ -45,7 +45,9 @@ pub fn bindings_of(
     first: u32,
     parameters: usize,
 ) -> Result<Vec<u32>, AllocError>
-    ensures { IfOk result (λ bindings. bindings.items ≡ with_writers (layout_view layout.now) first (λ i. nat_lt i sequence.now.begin) 0 sequence.now.pieces.items (replicate parameters 0)) }
+    ensures { IfOk result (λ bindings.
+        bindings.items ≡ with_writers (layout_view layout.now) first (λ i. nat_lt i sequence.now.begin) 0
+        sequence.now.pieces.items (replicate parameters 0)) }
 {
     let mut bindings = vec![in alloc; 0; parameters]?;
     let mut index = 0u32;
@@ -67,7 +69,11 @@ pub fn writers_of(
     layout: &Layout,
     first: u32,
 ) -> Result<Vec<u32>, AllocError>
-    ensures { IfOk result (λ writers. writers.items ≡ with_writers (layout_view layout.now) first (λ i. nat_le sequence.now.begin i) 0 sequence.now.pieces.items (replicate (slice_index sequence.now.numbers.items (min (length sequence.now.ends.items) 4294967295)) 0)) }
+    ensures { IfOk result (λ writers.
+        writers.items ≡ with_writers (layout_view layout.now) first (λ i. nat_le sequence.now.begin i) 0
+        sequence.now.pieces.items
+        (replicate (slice_index sequence.now.numbers.items (min (length sequence.now.ends.items) 4294967295))
+        0)) }
 {
     let blocks = count(sequence.ends.len());
     let mut writers = vec![in alloc; 0; at(&sequence.numbers, blocks) as usize]?;
@@ -108,7 +114,10 @@ fn push_stop_at(
     index: u32,
     stops: &mut Vec<PlacedStop>,
 ) -> Result<(), AllocError>
-    ensures { OnOk result (stops.new.items ≡ stops.old.items ++ option_map_or (stop_at (piece_address (layout_view layout.now) first index)) (slice_get sequence.now.pieces.items index) []) }
+    ensures { OnOk result
+        (stops.new.items ≡ stops.old.items ++ option_map_or
+        (stop_at (piece_address (layout_view layout.now) first index))
+        (slice_get sequence.now.pieces.items index) []) }
 {
     match sequence.pieces.get(index as usize) {
         Some(piece) => push_stop(*piece, address_at(layout, first, index), stops),
@@ -124,7 +133,9 @@ fn push_stops_of(
     block: u32,
     stops: &mut Vec<PlacedStop>,
 ) -> Result<(), AllocError>
-    ensures { OnOk result (stops.new.items ≡ stops.old.items ++ stops_of_block (sequence_view sequence.now) (layout_view layout.now) first block) }
+    ensures { OnOk result
+        (stops.new.items
+        ≡ stops.old.items ++ stops_of_block (sequence_view sequence.now) (layout_view layout.now) first block) }
 {
     for index in at(&sequence.labels, block)..at(&sequence.ends, block) {
         push_stop_at(sequence, layout, first, index, stops)?;
@@ -139,7 +150,9 @@ pub fn push_stops(
     first: u32,
     stops: &mut Vec<PlacedStop>,
 ) -> Result<(), AllocError>
-    ensures { OnOk result (stops.new.items ≡ stops.old.items ++ stops_of_blocks (sequence_view sequence.now) (layout_view layout.now) first 0 (min (length sequence.now.ends.items) 4294967295)) }
+    ensures { OnOk result
+        (stops.new.items ≡ stops.old.items ++ stops_of_blocks (sequence_view sequence.now) (layout_view layout.now)
+        first 0 (min (length sequence.now.ends.items) 4294967295)) }
 {
     for block in 0..count(sequence.ends.len()) {
         push_stops_of(sequence, layout, first, block, stops)?;

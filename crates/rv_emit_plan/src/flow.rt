@@ -123,7 +123,8 @@ impl Flow {
     /// Adds the edges of a block.
     fn add(&mut self, from: u32, block: &Block) -> Result<(), AllocError>
         ensures blocks { OnOk result (self.new.blocks ≡ self.old.blocks) }
-        ensures ways { OnOk result (self.new.ways.items ≡ self.old.ways.items ++ ways_of (block_view block.now).end ∷ []) }
+        ensures ways { OnOk result
+            (self.new.ways.items ≡ self.old.ways.items ++ ways_of (block_view block.now).end ∷ []) }
     {
         let ways = Ways::of(block.end);
         self.ways.push(ways)?;

@@ -174,7 +174,8 @@ fn returns(graph: &Graph, block: u32) -> bool {
     }
 }
 
-/// The first block of the last chain that a path reaches and that ends in a return; 0 if there is none but the first chain.
+/// The first block of the last chain that a path reaches and that ends in a return; 0 if there is none but the first
+/// chain.
 fn last_chain(graph: &Graph, search: &Search, chains: &Chains) -> u32 {
     let mut last = 0u32;
     for block in 0..count(graph.blocks.len()) {
@@ -202,7 +203,8 @@ fn chains_of(
     Ok(chains)
 }
 
-/// The order of the blocks: block 0 first, a return last where that can be. Whatever the chains are, each block is there once.
+/// The order of the blocks: block 0 first, a return last where that can be. Whatever the chains are, each block is
+/// there once.
 pub fn order_of(
     alloc: Global,
     graph: &Graph,

@@ -98,7 +98,8 @@ fn held_of_all(
     regions: &Regions,
     holdings: &[Holding],
 ) -> Result<Vec<Vec<Held>>, AllocError>
-    ensures constants { IfOk result (λ all. AreChosen holdings.now → AllByRecursion (λ held. AreConstants held.items) all.items) }
+    ensures constants { IfOk result
+        (λ all. AreChosen holdings.now → AllByRecursion (λ held. AreConstants held.items) all.items) }
     ensures start { IfOk result (λ all. option_map_or (λ held. held.items) (slice_get all.items 0) [] ≡ []) }
 {
     let spans = spans_of(alloc, blocks, holdings)?;
@@ -110,8 +111,10 @@ fn held_of_all(
     Ok(all)
 }
 
-/// A plan by which the blocks stand as it is likely that they follow one another, and loops without calls hold the words that they fetch most often.
-/// Which loops are found and which words are chosen is no matter: each block stands once, block 0 first, and holds what a block may hold.
+/// A plan by which the blocks stand as it is likely that they follow one another, and loops without calls hold the
+/// words that they fetch most often.
+/// Which loops are found and which words are chosen is no matter: each block stands once, block 0 first, and holds what
+/// a block may hold.
 pub fn plan_of(alloc: Global, storage: &Storage<'_>, graph: &Graph) -> Result<Plan, AllocError>
     ensures order { IfOk result (λ plan. IsOrder (min (length graph.now.blocks.items) 4294967295) plan.order.items) }
     ensures held { IfOk result (λ plan. HoldsWell plan) }

@@ -19,8 +19,12 @@ fn push_blocks(
     blocks: &[Block],
     sequence: &mut Sequence,
 ) -> Result<(), AllocError>
-    ensures few { OnOk result (words_in sequence.new.pieces.items ≤ words_in sequence.old.pieces.items + most_words_of_blocks (map block_view blocks.now)) }
-    ensures grown { OnOk result (sequence_view sequence.new ≡ with_standing (ground_of storage.now) (plainly 0 (map block_view blocks.now)) (sequence_view sequence.old)) }
+    ensures few { OnOk result
+        (words_in sequence.new.pieces.items
+        ≤ words_in sequence.old.pieces.items + most_words_of_blocks (map block_view blocks.now)) }
+    ensures grown { OnOk result
+        (sequence_view sequence.new ≡ with_standing (ground_of storage.now) (plainly 0 (map block_view blocks.now))
+        (sequence_view sequence.old)) }
 {
     let mut left = blocks;
     let mut number = 0u32;
@@ -41,8 +45,12 @@ pub fn plain_sequence_of(
     graph: &Graph,
     is_main: bool,
 ) -> Result<Sequence, AllocError>
-    ensures few { IfOk result (λ made. words_in made.pieces.items ≤ most_words_of_blocks (map block_view graph.now.blocks.items) + (2 * length storage.now.frame.now.saved.items + (16 + 3 * length graph.now.parameters.items))) }
-    ensures sequence { IfOk result (λ made. HasEnd (ground_of storage.now) (graph_view graph.now) → IsSequenceOf (ground_of storage.now) (graph_view graph.now) is_main (sequence_view made)) }
+    ensures few { IfOk result (λ made.
+        words_in made.pieces.items ≤ most_words_of_blocks (map block_view graph.now.blocks.items) +
+        (2 * length storage.now.frame.now.saved.items + (16 + 3 * length graph.now.parameters.items))) }
+    ensures sequence { IfOk result (λ made.
+        HasEnd (ground_of storage.now) (graph_view graph.now)
+        → IsSequenceOf (ground_of storage.now) (graph_view graph.now) is_main (sequence_view made)) }
 {
     let mut sequence = Sequence::new(alloc, storage, graph, is_main)?;
     push_blocks(alloc, storage, &graph.blocks, &mut sequence)?;

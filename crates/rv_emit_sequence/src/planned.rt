@@ -67,7 +67,8 @@ fn next_of(behind: &[u32], end: Label) -> Label
 }
 
 impl Sequence {
-    /// Appends the code of a block by a plan, behind which this one stands next. Where the plan does not hold, answers false.
+    /// Appends the code of a block by a plan, behind which this one stands next. Where the plan does not hold, answers
+    /// false.
     fn push_planned(
         &mut self,
         alloc: Global,
@@ -77,7 +78,10 @@ impl Sequence {
         number: u32,
         next: Label,
     ) -> Result<bool, AllocError>
-        ensures { IfOk result (λ is. is ≡ true → HoldsWell plan.now → IsPut (ground_of storage.now) (graph_view graph.now).blocks (held_at plan.now) number next.0 (sequence_view self.old) (sequence_view self.new)) }
+        ensures { IfOk result (λ is.
+            is ≡ true → HoldsWell plan.now
+            → IsPut (ground_of storage.now) (graph_view graph.now).blocks (held_at plan.now) number next.0
+            (sequence_view self.old) (sequence_view self.new)) }
     {
         let Some(block) = graph.blocks.get(number as usize) else {
             return Ok(false);
@@ -101,7 +105,10 @@ fn push_all_planned(
     plan: &Plan,
     sequence: &mut Sequence,
 ) -> Result<bool, AllocError>
-    ensures { IfOk result (λ is. is ≡ true → HoldsWell plan.now → ArePut (ground_of storage.now) (graph_view graph.now).blocks (held_at plan.now) plan.now.order.items (sequence_view sequence.old) (sequence_view sequence.new)) }
+    ensures { IfOk result (λ is.
+        is ≡ true → HoldsWell plan.now
+        → ArePut (ground_of storage.now) (graph_view graph.now).blocks (held_at plan.now) plan.now.order.items
+        (sequence_view sequence.old) (sequence_view sequence.new)) }
 {
     let mut left: &[u32] = &plan.order;
     while let [number, rest @ ..] = left {
@@ -114,7 +121,8 @@ fn push_all_planned(
     Ok(true)
 }
 
-/// The code of a function by a plan, if the plan holds: along each edge what the block there holds is held, or loaded at the end.
+/// The code of a function by a plan, if the plan holds: along each edge what the block there holds is held, or loaded
+/// at the end.
 fn planned_sequence_of(
     alloc: Global,
     storage: &Storage<'_>,
@@ -122,7 +130,11 @@ fn planned_sequence_of(
     plan: &Plan,
     is_main: bool,
 ) -> Result<Option<Sequence>, AllocError>
-    ensures sequence { IfOk result (λ found. IfSome found (λ made. IsOrder (min (length graph.now.blocks.items) 4294967295) plan.now.order.items → HoldsWell plan.now → HasEnd (ground_of storage.now) (graph_view graph.now) → IsSequenceOf (ground_of storage.now) (graph_view graph.now) is_main (sequence_view made))) }
+    ensures sequence { IfOk result (λ found.
+        IfSome found (λ made.
+        IsOrder (min (length graph.now.blocks.items) 4294967295) plan.now.order.items → HoldsWell plan.now
+        → HasEnd (ground_of storage.now) (graph_view graph.now)
+        → IsSequenceOf (ground_of storage.now) (graph_view graph.now) is_main (sequence_view made))) }
 {
     let mut sequence = Sequence::new(alloc, storage, graph, is_main)?;
     if !push_all_planned(alloc, storage, graph, plan, &mut sequence)? {
@@ -139,7 +151,9 @@ pub fn sequence_by_plan(
     graph: &Graph,
     is_main: bool,
 ) -> Result<Sequence, AllocError>
-    ensures { IfOk result (λ made. HasEnd (ground_of storage.now) (graph_view graph.now) → IsSequenceOf (ground_of storage.now) (graph_view graph.now) is_main (sequence_view made)) }
+    ensures { IfOk result (λ made.
+        HasEnd (ground_of storage.now) (graph_view graph.now)
+        → IsSequenceOf (ground_of storage.now) (graph_view graph.now) is_main (sequence_view made)) }
 {
     let plan = plan_of(alloc, storage, graph)?;
     match planned_sequence_of(alloc, storage, graph, &plan, is_main)? {

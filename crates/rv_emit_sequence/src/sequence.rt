@@ -84,8 +84,11 @@ impl Sequence {
         graph: &Graph,
         is_main: bool,
     ) -> Result<Sequence, AllocError>
-        ensures few { IfOk result (λ made. words_in made.pieces.items ≤ length storage.now.frame.now.saved.items + (10 + 3 * length graph.now.parameters.items)) }
-        ensures grown { IfOk result (λ made. sequence_view made ≡ begun (ground_of storage.now) (graph_view graph.now) is_main) }
+        ensures few { IfOk result (λ made.
+            words_in made.pieces.items ≤ length storage.now.frame.now.saved.items +
+            (10 + 3 * length graph.now.parameters.items)) }
+        ensures grown { IfOk result
+            (λ made. sequence_view made ≡ begun (ground_of storage.now) (graph_view graph.now) is_main) }
     {
         let pieces = begin_of_function(alloc, storage, graph, is_main)?;
         let begin = count(pieces.len());
@@ -100,8 +103,10 @@ impl Sequence {
 
     /// Appends the code of a block.
     pub(crate) fn push_block(&mut self, number: u32, code: &BlockCode) -> Result<(), AllocError>
-        ensures few { OnOk result (words_in self.new.pieces.items ≡ words_in self.old.pieces.items + words_in code.now.pieces.items) }
-        ensures grown { OnOk result (sequence_view self.new ≡ with_block number code.now.pieces.items (sequence_view self.old)) }
+        ensures few { OnOk result
+            (words_in self.new.pieces.items ≡ words_in self.old.pieces.items + words_in code.now.pieces.items) }
+        ensures grown { OnOk result
+            (sequence_view self.new ≡ with_block number code.now.pieces.items (sequence_view self.old)) }
     {
         let first = count(self.pieces.len());
         put(&mut self.labels, number, first);
@@ -118,7 +123,9 @@ impl Sequence {
         alloc: Global,
         storage: &Storage<'_>,
     ) -> Result<(), AllocError>
-        ensures few { OnOk result (words_in self.new.pieces.items ≤ words_in self.old.pieces.items + (length storage.now.frame.now.saved.items + 6)) }
+        ensures few { OnOk result
+            (words_in self.new.pieces.items
+            ≤ words_in self.old.pieces.items + (length storage.now.frame.now.saved.items + 6)) }
         ensures grown { OnOk result (sequence_view self.new ≡ ended (ground_of storage.now) (sequence_view self.old)) }
     {
         let end = count(self.pieces.len());

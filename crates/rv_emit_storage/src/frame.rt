@@ -11,7 +11,8 @@ use graph_core::{Binding, Block, Graph, Instr, MemoryObject, Name};
 use graph_homes::Home;
 use std::alloc::{AllocError, Global};
 
-/// The frame of a function: the return address, then the registers that it keeps for its caller, its slots, and its memory objects. Offsets are in bytes from its beginning.
+/// The frame of a function: the return address, then the registers that it keeps for its caller, its slots, and its
+/// memory objects. Offsets are in bytes from its beginning.
 #[derive(Drop)]
 pub struct Frame {
     /// The registers that it keeps for its caller, from offset 4 on.
@@ -97,7 +98,8 @@ fn block_writes(register: u8, homes: &[Home], instructions: &[Instr]) -> bool
 
 /// Whether blocks write a register.
 fn blocks_write(register: u8, homes: &[Home], blocks: &[Block]) -> bool
-    ensures { result ≡ list_any (λ b. list_any (writes_register (home_in homes.now) register) b.instructions) (map block_view blocks.now) }
+    ensures { result ≡ list_any (λ b.
+        list_any (writes_register (home_in homes.now) register) b.instructions) (map block_view blocks.now) }
 {
     let mut left = blocks;
     while let [first, rest @ ..] = left {
@@ -190,7 +192,8 @@ fn behind(offset: u32, object: &MemoryObject) -> u32
 
 /// Where memory objects lie from an offset on.
 fn placed_objects(alloc: Global, objects: &[MemoryObject], start: u32) -> Result<Placed, AllocError>
-    ensures offsets { IfOk result (λ p. start + total taken_by_object objects.now < 4294967295 → p.offsets.items ≡ object_offsets start objects.now) }
+    ensures offsets { IfOk result (λ p.
+        start + total taken_by_object objects.now < 4294967295 → p.offsets.items ≡ object_offsets start objects.now) }
     ensures end { IfOk result (λ p. p.end ≡ min (start + total taken_by_object objects.now) (2 ^ 32 - 1)) }
 {
     let mut offsets = Vec::new(alloc);
@@ -212,8 +215,13 @@ pub fn frame_of_function(alloc: Global, graph: &Graph, homes: &[Home]) -> Result
     ensures saved { IfOk result (λ f. f.saved.items ≡ saved_in homes.now (graph_view graph.now)) }
     ensures few { IfOk result (λ f. length f.saved.items ≤ 15) }
     ensures slots { IfOk result (λ f. f.slots ≡ slots_start (length f.saved.items)) }
-    ensures objects { IfOk result (λ f. FitsFrame homes.now (graph_view graph.now) → f.objects.items ≡ object_offsets (objects_start (length f.saved.items) (slot_count homes.now)) graph.now.objects.items) }
-    ensures size { IfOk result (λ f. FitsFrame homes.now (graph_view graph.now) → f.size ≡ frame_size (length f.saved.items) (slot_count homes.now) graph.now.objects.items) }
+    ensures objects { IfOk result (λ f.
+        FitsFrame homes.now (graph_view graph.now)
+        → f.objects.items ≡ object_offsets (objects_start (length f.saved.items) (slot_count homes.now))
+        graph.now.objects.items) }
+    ensures size { IfOk result (λ f.
+        FitsFrame homes.now (graph_view graph.now)
+        → f.size ≡ frame_size (length f.saved.items) (slot_count homes.now) graph.now.objects.items) }
 {
     let saved = saved_of(alloc, graph, homes)?;
     let slots = 4 + 4 * saved.len() as u32;

@@ -38,8 +38,11 @@ fn behind(address: u32, bytes: u64) -> u32
 
 /// Where static objects lie from an address on.
 fn placed_objects(alloc: Global, objects: &[StaticObject], start: u32) -> Result<Placed, AllocError>
-    ensures offsets { IfOk result (λ p. start + total taken_by (map static_bytes (map static_view objects.now)) < 4294967295 → p.offsets.items ≡ addresses_from start (map static_bytes (map static_view objects.now))) }
-    ensures end { IfOk result (λ p. p.end ≡ min (start + total taken_by (map static_bytes (map static_view objects.now))) (2 ^ 32 - 1)) }
+    ensures offsets { IfOk result (λ p.
+        start + total taken_by (map static_bytes (map static_view objects.now)) < 4294967295
+        → p.offsets.items ≡ addresses_from start (map static_bytes (map static_view objects.now))) }
+    ensures end { IfOk result (λ p.
+        p.end ≡ min (start + total taken_by (map static_bytes (map static_view objects.now))) (2 ^ 32 - 1)) }
 {
     let mut offsets = Vec::new(alloc);
     let mut left = objects;
@@ -64,8 +67,11 @@ fn length_of(bytes: &Bytes) -> u64
 
 /// Where bytes that initialise automatic arrays lie from an address on.
 fn placed_arrays(alloc: Global, all: &[Bytes], start: u32) -> Result<Placed, AllocError>
-    ensures offsets { IfOk result (λ p. start + total taken_by (map (λ b. length b) (map bytes_view all.now)) < 4294967295 → p.offsets.items ≡ addresses_from start (map (λ b. length b) (map bytes_view all.now))) }
-    ensures end { IfOk result (λ p. p.end ≡ min (start + total taken_by (map (λ b. length b) (map bytes_view all.now))) (2 ^ 32 - 1)) }
+    ensures offsets { IfOk result (λ p.
+        start + total taken_by (map (λ b. length b) (map bytes_view all.now)) < 4294967295
+        → p.offsets.items ≡ addresses_from start (map (λ b. length b) (map bytes_view all.now))) }
+    ensures end { IfOk result (λ p.
+        p.end ≡ min (start + total taken_by (map (λ b. length b) (map bytes_view all.now))) (2 ^ 32 - 1)) }
 {
     let mut offsets = Vec::new(alloc);
     let mut left = all;
@@ -99,10 +105,15 @@ fn base_of(map: Map) -> u32
 
 /// The addresses of what a unit has in static memory.
 pub fn static_addresses(alloc: Global, unit: &Unit) -> Result<Statics, AllocError>
-    ensures addresses { IfOk result (λ s. FitsStatics (unit_view unit.now) → s.objects.items ++ s.array_bytes.items ≡ static_addresses (unit_view unit.now)) }
-    ensures objects { IfOk result (λ s. FitsStatics (unit_view unit.now) → HaveAddresses (unit_view unit.now) s.objects.items) }
+    ensures addresses { IfOk result (λ s.
+        FitsStatics (unit_view unit.now)
+        → s.objects.items ++ s.array_bytes.items ≡ static_addresses (unit_view unit.now)) }
+    ensures objects { IfOk result
+        (λ s. FitsStatics (unit_view unit.now) → HaveAddresses (unit_view unit.now) s.objects.items) }
     ensures base { IfOk result (λ s. s.base ≡ bytes_start (map_of_unit (unit_view unit.now)) + 2048) }
-    ensures arrays { IfOk result (λ s. FitsStatics (unit_view unit.now) → s.array_bytes.items ≡ drop (length (unit_view unit.now).statics) (static_addresses (unit_view unit.now))) }
+    ensures arrays { IfOk result (λ s.
+        FitsStatics (unit_view unit.now)
+        → s.array_bytes.items ≡ drop (length (unit_view unit.now).statics) (static_addresses (unit_view unit.now))) }
 {
     let map = map_of_unit(unit);
     let objects = placed_objects(alloc, &unit.statics, map.bytes_start())?;
@@ -223,7 +234,9 @@ fn push_objects(
     objects: &[StaticObject],
     statics: &Statics,
 ) -> Result<(), AllocError>
-    ensures { OnOk result (made.new.items ≡ made.old.items ++ flat_map (filled_object statics.now.objects.items) (map static_view objects.now)) }
+    ensures { OnOk result
+        (made.new.items
+        ≡ made.old.items ++ flat_map (filled_object statics.now.objects.items) (map static_view objects.now)) }
 {
     let mut left = objects;
     while let [first, rest @ ..] = left {
@@ -236,7 +249,9 @@ fn push_objects(
 
 /// Appends bytes that initialise an automatic array.
 fn push_array(made: &mut Vec<u8>, bytes: &Bytes) -> Result<(), AllocError>
-    ensures { OnOk result (made.new.items ≡ made.old.items ++ padded (min (taken_by (length (bytes_view bytes.now))) (2 ^ 64 - 1)) (bytes_view bytes.now)) }
+    ensures { OnOk result
+        (made.new.items ≡ made.old.items
+        ++ padded (min (taken_by (length (bytes_view bytes.now))) (2 ^ 64 - 1)) (bytes_view bytes.now)) }
 {
     push_padded(made, &bytes.bytes, taken_by(length_of(bytes)))
 }
@@ -244,7 +259,8 @@ fn push_array(made: &mut Vec<u8>, bytes: &Bytes) -> Result<(), AllocError>
 /// Appends the bytes that initialise automatic arrays.
 fn push_arrays(made: &mut Vec<u8>, all: &[Bytes]) -> Result<(), AllocError>
     ensures bytes { OnOk result (AllByRecursion (λ x. x < 256) made.new.items) }
-    ensures made { OnOk result (made.new.items ≡ made.old.items ++ flat_map (λ b. padded (min (taken_by (length b)) (2 ^ 64 - 1)) b) (map bytes_view all.now)) }
+    ensures made { OnOk result (made.new.items ≡ made.old.items ++ flat_map (λ b.
+        padded (min (taken_by (length b)) (2 ^ 64 - 1)) b) (map bytes_view all.now)) }
 {
     let mut left = all;
     while let [first, rest @ ..] = left {
@@ -256,9 +272,12 @@ fn push_arrays(made: &mut Vec<u8>, all: &[Bytes]) -> Result<(), AllocError>
 
 /// The bytes that stand in static memory as a run begins.
 pub fn initial_bytes(alloc: Global, unit: &Unit, statics: &Statics) -> Result<Vec<u8>, AllocError>
-    ensures length { IfOk result (λ b. FitsStatics (unit_view unit.now) → length b.items ≡ total taken_by (static_sizes (unit_view unit.now))) }
+    ensures length { IfOk result (λ b.
+        FitsStatics (unit_view unit.now) → length b.items ≡ total taken_by (static_sizes (unit_view unit.now))) }
     ensures bytes { IfOk result (λ b. AllByRecursion (λ x. x < 256) b.items) }
-    ensures exact { IfOk result (λ b. FitsStatics (unit_view unit.now) → HaveAddresses (unit_view unit.now) statics.now.objects.items → NameObjects (unit_view unit.now) → b.items ≡ initial_bytes (unit_view unit.now)) }
+    ensures exact { IfOk result (λ b.
+        FitsStatics (unit_view unit.now) → HaveAddresses (unit_view unit.now) statics.now.objects.items
+        → NameObjects (unit_view unit.now) → b.items ≡ initial_bytes (unit_view unit.now)) }
 {
     let mut initial = Vec::new(alloc);
     push_objects(alloc, &mut initial, &unit.statics, statics)?;

@@ -17,7 +17,8 @@ pub struct EmittedFunction {
     pub objects: Vec<u32>,
     /// For each parameter, the address of the word that writes its home or its object, as a call binds it.
     pub bindings: Vec<u32>,
-    /// For each instruction, block by block, the address of the word that writes its target's home; 0 for one without a target.
+    /// For each instruction, block by block, the address of the word that writes its target's home; 0 for one without a
+    /// target.
     pub writers: Vec<u32>,
 }
 

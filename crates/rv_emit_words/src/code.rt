@@ -46,7 +46,8 @@ impl Code {
     pub fn knowing(alloc: Global, owner: u32, known: &[Held]) -> Result<Code, AllocError>
         ensures few { IfOk result (λ code. words_in code.pieces.items ≡ 0) }
         ensures stops { IfOk result (λ code. shown code ≡ []) }
-        ensures grown { IfOk result (λ code. code_state code ≡ record { pieces = []; held = known.now; owner = owner; begins = false }) }
+        ensures grown { IfOk result (λ code.
+            code_state code ≡ record { pieces = []; held = known.now; owner = owner; begins = false }) }
     {
         Ok(Code {
             pieces: Vec::new(alloc),
@@ -59,7 +60,8 @@ impl Code {
 
     /// Appends a piece of the place in force.
     pub fn put_piece(&mut self, piece: Piece) -> Result<(), AllocError>
-        ensures few { OnOk result (words_in self.new.pieces.items ≤ words_in self.old.pieces.items + words_of_piece piece) }
+        ensures few { OnOk result
+            (words_in self.new.pieces.items ≤ words_in self.old.pieces.items + words_of_piece piece) }
         ensures stops { OnOk result (shown self.new ≡ shown self.old) }
         ensures grown { OnOk result (code_state self.new ≡ with_piece piece (code_state self.old)) }
         ensures begun { OnOk result (self.new.begins ≡ false) }
@@ -95,7 +97,8 @@ impl Code {
     ) -> Result<(), AllocError>
         ensures few { OnOk result (words_in self.new.pieces.items ≤ words_in self.old.pieces.items + 1) }
         ensures stops { OnOk result (shown self.new ≡ shown self.old) }
-        ensures grown { OnOk result (code_state self.new ≡ with_code (Immediate operation rd source immediate ∷ []) (code_state self.old)) }
+        ensures grown { OnOk result
+            (code_state self.new ≡ with_code (Immediate operation rd source immediate ∷ []) (code_state self.old)) }
         ensures begun { OnOk result (self.new.begins ≡ false) }
     {
         self.put(Instruction::Immediate(operation, rd, source, immediate))
@@ -105,7 +108,8 @@ impl Code {
     pub fn put_sum(&mut self, rd: u8, source: u8, immediate: u32) -> Result<(), AllocError>
         ensures few { OnOk result (words_in self.new.pieces.items ≤ words_in self.old.pieces.items + 1) }
         ensures stops { OnOk result (shown self.new ≡ shown self.old) }
-        ensures grown { OnOk result (code_state self.new ≡ with_code (Immediate Addi rd source immediate ∷ []) (code_state self.old)) }
+        ensures grown { OnOk result
+            (code_state self.new ≡ with_code (Immediate Addi rd source immediate ∷ []) (code_state self.old)) }
         ensures begun { OnOk result (self.new.begins ≡ false) }
     {
         self.put_immediate(ImmediateOperation::Addi, rd, source, immediate)
@@ -129,7 +133,8 @@ impl Code {
     pub fn begin(&mut self, place: u32, is_stop: bool) -> Result<(), AllocError>
         ensures few { OnOk result (words_in self.new.pieces.items ≤ words_in self.old.pieces.items + 1) }
         ensures stops { OnOk result (shown self.new ≡ shown self.old ++ stop_if is_stop place) }
-        ensures grown { OnOk result (code_state self.new ≡ record (settled (code_state self.old)) { owner = place; begins = is_stop }) }
+        ensures grown { OnOk result
+            (code_state self.new ≡ record (settled (code_state self.old)) { owner = place; begins = is_stop }) }
     {
         self.settle()?;
         self.owner = place;
@@ -151,7 +156,8 @@ impl Code {
     pub fn mark_writer(&mut self, number: u32)
         ensures few { words_in self.new.pieces.items ≡ words_in self.old.pieces.items }
         ensures stops { shown self.new ≡ shown self.old }
-        ensures grown { code_state self.new ≡ record (code_state self.old) { pieces = marked number self.old.pieces.items } }
+        ensures grown { code_state self.new
+            ≡ record (code_state self.old) { pieces = marked number self.old.pieces.items } }
         ensures begun { self.new.begins ≡ self.old.begins }
     {
         if let Some(last) = self.pieces.last_mut() {

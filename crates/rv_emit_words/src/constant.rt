@@ -57,7 +57,8 @@ impl Code {
     fn load_by_one(&mut self, register: u8, word: u32, base: u32) -> Result<(), AllocError>
         ensures few { OnOk result (words_in self.new.pieces.items ≤ words_in self.old.pieces.items + 1) }
         ensures stops { OnOk result (shown self.new ≡ shown self.old) }
-        ensures grown { OnOk result (code_state self.new ≡ with_code (one_word_constant register word base ∷ []) (code_state self.old)) }
+        ensures grown { OnOk result
+            (code_state self.new ≡ with_code (one_word_constant register word base ∷ []) (code_state self.old)) }
     {
         if is_small(word) {
             return self.put_sum(register, register::ZERO, word);
@@ -73,7 +74,8 @@ impl Code {
         requires { 1 ≤ words }
         ensures few { OnOk result (words_in self.new.pieces.items ≤ words_in self.old.pieces.items + words) }
         ensures stops { OnOk result (shown self.new ≡ shown self.old) }
-        ensures grown { OnOk result (code_state self.new ≡ with_code (constant_by words register word base) (code_state self.old)) }
+        ensures grown { OnOk result
+            (code_state self.new ≡ with_code (constant_by words register word base) (code_state self.old)) }
     {
         if words == 1 {
             return self.load_by_one(register, word, base);
@@ -86,7 +88,8 @@ impl Code {
     pub fn load_constant(&mut self, register: u8, word: u32, base: u32) -> Result<(), AllocError>
         ensures few { OnOk result (words_in self.new.pieces.items ≤ words_in self.old.pieces.items + 2) }
         ensures stops { OnOk result (shown self.new ≡ shown self.old) }
-        ensures grown { OnOk result (code_state self.new ≡ with_code (constant_code register word base) (code_state self.old)) }
+        ensures grown { OnOk result
+            (code_state self.new ≡ with_code (constant_code register word base) (code_state self.old)) }
     {
         let words = words_of_constant(word, base);
         self.load_by(register, word, base, words)
@@ -110,7 +113,9 @@ impl Code {
     pub fn fetch_constant(&mut self, word: u32, base: u32, scratch: u8) -> Result<u8, AllocError>
         ensures few { OnOk result (words_in self.new.pieces.items ≤ words_in self.old.pieces.items + 2) }
         ensures stops { OnOk result (shown self.new ≡ shown self.old) }
-        ensures grown { OnOk result (code_state self.new ≡ with_code (fetched_constant word base scratch self.old.held.items) (code_state self.old)) }
+        ensures grown { OnOk result
+            (code_state self.new
+            ≡ with_code (fetched_constant word base scratch self.old.held.items) (code_state self.old)) }
         ensures found { IfOk result (λ r. r ≡ constant_register word base scratch self.old.held.items) }
     {
         if word == 0 {
@@ -138,7 +143,9 @@ impl Code {
         requires { 1 ≤ words }
         ensures few { OnOk result (words_in self.new.pieces.items ≤ words_in self.old.pieces.items + words) }
         ensures stops { OnOk result (shown self.new ≡ shown self.old) }
-        ensures grown { OnOk result (code_state self.new ≡ with_code (set_constant_by words register word base self.old.held.items) (code_state self.old)) }
+        ensures grown { OnOk result
+            (code_state self.new
+            ≡ with_code (set_constant_by words register word base self.old.held.items) (code_state self.old)) }
     {
         if !is_small(word) {
             if let Some(holder) = self.holder(word) {
@@ -152,7 +159,9 @@ impl Code {
     pub fn set_constant(&mut self, register: u8, word: u32, base: u32) -> Result<(), AllocError>
         ensures few { OnOk result (words_in self.new.pieces.items ≤ words_in self.old.pieces.items + 2) }
         ensures stops { OnOk result (shown self.new ≡ shown self.old) }
-        ensures grown { OnOk result (code_state self.new ≡ with_code (set_constant_code register word base self.old.held.items) (code_state self.old)) }
+        ensures grown { OnOk result
+            (code_state self.new
+            ≡ with_code (set_constant_code register word base self.old.held.items) (code_state self.old)) }
     {
         let words = words_of_constant(word, base);
         self.set_by(register, word, base, words)
@@ -162,7 +171,8 @@ impl Code {
     pub fn forget(&mut self, register: u8)
         ensures few { words_in self.new.pieces.items ≡ words_in self.old.pieces.items }
         ensures stops { shown self.new ≡ shown self.old }
-        ensures grown { code_state self.new ≡ record (code_state self.old) { held = forgotten register self.old.held.items } }
+        ensures grown { code_state self.new
+            ≡ record (code_state self.old) { held = forgotten register self.old.held.items } }
     {
         self.held.retain(|held| held.register != register);
     }

@@ -26,7 +26,10 @@ impl Code {
     fn put_far_base(&mut self, offset: u32) -> Result<(), AllocError>
         ensures few { OnOk result (words_in self.new.pieces.items ≤ words_in self.old.pieces.items + 2) }
         ensures stops { OnOk result (shown self.new ≡ shown self.old) }
-        ensures grown { OnOk result (code_state self.new ≡ with_code (instruction.Lui 5 (high_part offset) ∷ instruction.Register register_operation.Add 5 5 2 ∷ []) (code_state self.old)) }
+        ensures grown { OnOk result
+            (code_state self.new ≡ with_code
+            (instruction.Lui 5 (high_part offset) ∷ instruction.Register register_operation.Add 5 5 2 ∷ [])
+            (code_state self.old)) }
     {
         self.put(Instruction::Lui(register::T0, high_part(offset)))?;
         self.put(Instruction::Register(
@@ -54,7 +57,8 @@ impl Code {
     pub fn store_slot(&mut self, value: u8, offset: u32) -> Result<(), AllocError>
         ensures few { OnOk result (words_in self.new.pieces.items ≤ words_in self.old.pieces.items + 3) }
         ensures stops { OnOk result (shown self.new ≡ shown self.old) }
-        ensures grown { OnOk result (code_state self.new ≡ with_code (store_slot_code value offset) (code_state self.old)) }
+        ensures grown { OnOk result
+            (code_state self.new ≡ with_code (store_slot_code value offset) (code_state self.old)) }
     {
         if offset < 2048 {
             return self.put(Instruction::Store(StoreOperation::Sw, value, register::SP, offset));
@@ -70,9 +74,12 @@ impl Code {
         home: Home,
         scratch: u8,
     ) -> Result<u8, AllocError>
-        ensures few { OnOk result (words_in self.new.pieces.items ≤ words_in self.old.pieces.items + most_words_of_home home) }
+        ensures few { OnOk result
+            (words_in self.new.pieces.items ≤ words_in self.old.pieces.items + most_words_of_home home) }
         ensures stops { OnOk result (shown self.new ≡ shown self.old) }
-        ensures grown { OnOk result (code_state self.new ≡ with_code (fetched_home (storage_view storage.now) home scratch) (code_state self.old)) }
+        ensures grown { OnOk result
+            (code_state self.new
+            ≡ with_code (fetched_home (storage_view storage.now) home scratch) (code_state self.old)) }
         ensures found { IfOk result (λ r. r ≡ home_register home scratch) }
     {
         match home {
@@ -91,11 +98,16 @@ impl Code {
         source: Source,
         scratch: u8,
     ) -> Result<u8, AllocError>
-        ensures few { OnOk result (words_in self.new.pieces.items ≤ words_in self.old.pieces.items + most_words_of_source source) }
+        ensures few { OnOk result
+            (words_in self.new.pieces.items ≤ words_in self.old.pieces.items + most_words_of_source source) }
         ensures stops { OnOk result (shown self.new ≡ shown self.old) }
-        ensures grown { OnOk result (code_state self.new ≡ with_code (fetched_source (storage_view storage.now) self.old.held.items source scratch) (code_state self.old)) }
+        ensures grown { OnOk result
+            (code_state self.new ≡ with_code
+            (fetched_source (storage_view storage.now) self.old.held.items source scratch)
+            (code_state self.old)) }
         ensures kept { OnOk result (self.new.held.items ≡ self.old.held.items) }
-        ensures found { IfOk result (λ r. r ≡ source_register (storage_view storage.now) self.old.held.items source scratch) }
+        ensures found { IfOk result
+            (λ r. r ≡ source_register (storage_view storage.now) self.old.held.items source scratch) }
     {
         match source {
             Source::Home(home) => self.fetch_home(storage, home, scratch),
@@ -112,18 +124,25 @@ impl Code {
     ) -> Result<u8, AllocError>
         ensures few { OnOk result (words_in self.new.pieces.items ≤ words_in self.old.pieces.items + 3) }
         ensures stops { OnOk result (shown self.new ≡ shown self.old) }
-        ensures grown { OnOk result (code_state self.new ≡ with_code (fetched_source (storage_view storage.now) self.old.held.items (source_of (storage_view storage.now) (operand_view operand)) scratch) (code_state self.old)) }
+        ensures grown { OnOk result
+            (code_state self.new ≡ with_code (fetched_source (storage_view storage.now) self.old.held.items
+            (source_of (storage_view storage.now) (operand_view operand)) scratch) (code_state self.old)) }
         ensures kept { OnOk result (self.new.held.items ≡ self.old.held.items) }
-        ensures found { IfOk result (λ r. r ≡ source_register (storage_view storage.now) self.old.held.items (source_of (storage_view storage.now) (operand_view operand)) scratch) }
+        ensures found { IfOk result (λ r.
+            r ≡ source_register (storage_view storage.now) self.old.held.items
+            (source_of (storage_view storage.now) (operand_view operand)) scratch) }
     {
         self.fetch_source(storage, storage.source(operand), scratch)
     }
 
     /// Brings what is read into a register. Where it is there already, this takes no word.
     pub fn bring(&mut self, storage: &Storage<'_>, rd: u8, source: Source) -> Result<(), AllocError>
-        ensures few { OnOk result (words_in self.new.pieces.items ≤ words_in self.old.pieces.items + most_words_to_bring source) }
+        ensures few { OnOk result
+            (words_in self.new.pieces.items ≤ words_in self.old.pieces.items + most_words_to_bring source) }
         ensures stops { OnOk result (shown self.new ≡ shown self.old) }
-        ensures grown { OnOk result (code_state self.new ≡ with_code (bringing (storage_view storage.now) self.old.held.items rd source) (code_state self.old)) }
+        ensures grown { OnOk result
+            (code_state self.new ≡ with_code (bringing (storage_view storage.now) self.old.held.items rd source)
+            (code_state self.old)) }
     {
         match source {
             Source::Word(word) => self.set_constant(rd, word, storage.base),
@@ -138,7 +157,8 @@ impl Code {
         }
     }
 
-    /// Stores the result of an instruction, which is in a register, where the target's home is a slot; the last word is then that store.
+    /// Stores the result of an instruction, which is in a register, where the target's home is a slot; the last word is
+    /// then that store.
     pub fn finish(
         &mut self,
         storage: &Storage<'_>,
@@ -147,7 +167,9 @@ impl Code {
     ) -> Result<(), AllocError>
         ensures few { OnOk result (words_in self.new.pieces.items ≤ words_in self.old.pieces.items + 3) }
         ensures stops { OnOk result (shown self.new ≡ shown self.old) }
-        ensures grown { OnOk result (code_state self.new ≡ with_code (finishing (storage_view storage.now) target register) (code_state self.old)) }
+        ensures grown { OnOk result
+            (code_state self.new
+            ≡ with_code (finishing (storage_view storage.now) target register) (code_state self.old)) }
     {
         match target {
             Home::Register(_) => Ok(()),
@@ -164,7 +186,9 @@ impl Code {
     ) -> Result<(), AllocError>
         ensures few { OnOk result (words_in self.new.pieces.items ≤ words_in self.old.pieces.items + 3) }
         ensures stops { OnOk result (shown self.new ≡ shown self.old) }
-        ensures grown { OnOk result (code_state self.new ≡ with_code (home_written (storage_view storage.now) target register) (code_state self.old)) }
+        ensures grown { OnOk result
+            (code_state self.new
+            ≡ with_code (home_written (storage_view storage.now) target register) (code_state self.old)) }
     {
         match target {
             Home::Register(home) => self.put_sum(home, register, 0),
@@ -176,7 +200,8 @@ impl Code {
     pub fn put_address(&mut self, rd: u8, scratch: u8, offset: u32) -> Result<(), AllocError>
         ensures few { OnOk result (words_in self.new.pieces.items ≤ words_in self.old.pieces.items + 3) }
         ensures stops { OnOk result (shown self.new ≡ shown self.old) }
-        ensures grown { OnOk result (code_state self.new ≡ with_code (address_code rd scratch offset) (code_state self.old)) }
+        ensures grown { OnOk result
+            (code_state self.new ≡ with_code (address_code rd scratch offset) (code_state self.old)) }
     {
         if offset < 2048 {
             return self.put_sum(rd, register::SP, offset);

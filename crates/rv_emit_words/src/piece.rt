@@ -10,7 +10,8 @@ pub struct Held {
     pub word: u32,
 }
 
-/// A piece of code: a word, or a jump, a branch or a call whose distance the layout gives. In a function with n blocks label n is the function's end.
+/// A piece of code: a word, or a jump, a branch or a call whose distance the layout gives. In a function with n blocks
+/// label n is the function's end.
 #[derive(Clone, Copy, PartialEq, Eq)]
 pub enum Piece {
     /// One word.
@@ -36,6 +37,7 @@ pub struct PlacedPiece {
     pub owner: u32,
     /// Its owner begins here, and is a stop.
     pub is_stop: bool,
-    /// The instruction of its block, counted from 0, whose target's home it writes; at the beginning of a function the parameter that it binds.
+    /// The instruction of its block, counted from 0, whose target's home it writes; at the beginning of a function the
+    /// parameter that it binds.
     pub writes: Option<u32>,
 }

@@ -27,7 +27,8 @@ pub const T2: u8 = 7;
 /// Scratch: holds a constant.
 pub const S0: u8 = 8;
 
-/// The first argument, or the result. The other arguments pass in the seven registers behind it, which else hold constants.
+/// The first argument, or the result. The other arguments pass in the seven registers behind it, which else hold
+/// constants.
 pub const A0: u8 = 10;
 
 /// The last argument, or which call of the environment an `ecall` is.

@@ -6,12 +6,6 @@ ghost use Rattle.rv_machine.specs.Table.{load_size, store_size, signed_byte, sig
 
 use rv_code::{LoadOperation, StoreOperation};
 
-/// How many bytes the region of bytes has.
-pub const BYTES_SIZE: usize = 0x00100000;
-
-/// How many bytes the stack has.
-pub const STACK_SIZE: usize = 0x01000000;
-
 /// The words whose upper 24 bits, or upper 16 bits, are 1 and the others 0.
 const UPPER_24_BITS: u32 = 0xffffff00;
 

@@ -10,12 +10,11 @@ ghost use Rattle.rv_machine.specs.Reading.{byte_at, stack_rest};
 ghost use Rattle.memory_map.specs.Maps.{bytes_size, bytes_start, code_start, most_words, stack_size};
 
 use crate::access::{
-    BYTES_SIZE, STACK_SIZE, byte_of_code, load_from, load_from_code, size_of_load, size_of_store,
-    store_in, word_at,
+    byte_of_code, load_from, load_from_code, size_of_load, size_of_store, store_in, word_at,
 };
 use crate::arithmetic::{is_taken, operate, operate_immediate};
 use crate::event::Event;
-use memory_map::{CODE_START, Map};
+use memory_map::{BYTES_SIZE, CODE_START, Map, STACK_SIZE};
 use rv_code::{Instruction, LoadOperation, StoreOperation, decode};
 use std::alloc::{AllocError, Global};
 use std::marker::Model;
@@ -43,11 +42,22 @@ pub struct Machine {
 impl Model for Machine {
     ghost Value = { State };
 
-    ghost view = { λ m. record { map = m.regions; code = m.code.items; pc = m.pc; registers = m.registers; bytes = m.bytes.items; stack = m.stack.items; input = drop m.input_read m.input.items } };
+    ghost view = { λ m. record {
+      map = m.regions;
+      code = m.code.items;
+      pc = m.pc;
+      registers = m.registers;
+      bytes = m.bytes.items;
+      stack = m.stack.items;
+      input = drop m.input_read m.input.items;
+    } };
 
     // Beside each word of the code stands its instruction, the code has no more words than the map lets it have, and the
     // regions have their sizes.
-    ghost invariant = { λ m. (m.instructions.items ≡ map decoded m.code.items) × All (λ row. IfSome row IsInForm) m.instructions.items × (length m.code.items ≤ most_words m.regions) × (length m.bytes.items ≡ bytes_size) × (length m.stack.items ≡ stack_size) };
+    ghost invariant = { λ m. (m.instructions.items ≡ map decoded m.code.items)
+        × All (λ row. IfSome row IsInForm) m.instructions.items
+        × (length m.code.items ≤ most_words m.regions) × (length m.bytes.items ≡ bytes_size)
+        × (length m.stack.items ≡ stack_size) };
 }
 
 // So many bytes, each of them 0.
@@ -123,14 +133,15 @@ impl Machine {
             instructions: program.instructions,
             pc: CODE_START,
             registers: [0; 32],
-            bytes: initial_bytes(alloc, bytes, BYTES_SIZE)?,
-            stack: zero_bytes(alloc, STACK_SIZE)?,
+            bytes: initial_bytes(alloc, bytes, BYTES_SIZE as usize)?,
+            stack: zero_bytes(alloc, STACK_SIZE as usize)?,
             input: input.to_vec(alloc)?,
             input_read: 0,
         })
     }
 
-    /// Carries out one instruction, and tells what came of it. After an ending it tells the same again, and nothing changes.
+    /// Carries out one instruction, and tells what came of it. After an ending it tells the same again, and nothing
+    /// changes.
     #[tactic(auto, using(crate::proofs::Effects::effect_none, crate::proofs::Effects::effect_some))]
     pub fn step(&mut self) -> Event
         ensures { record { event = result; after = self.new } ≡ effect self.old }
@@ -306,7 +317,8 @@ impl Machine {
     // Writes a register with what a load gets at an address and goes on, if it may read there.
     fn load_into(&mut self, rd: u8, operation: LoadOperation, address: u32) -> Event
         requires { IsRegister rd }
-        ensures { record { event = result; after = self.new } ≡ on_load self.old rd (loaded self.old operation address) }
+        ensures { record { event = result; after = self.new }
+            ≡ on_load self.old rd (loaded self.old operation address) }
     {
         match self.load_at(operation, address) {
             None => Event::Fault(self.pc),
@@ -340,7 +352,8 @@ impl Machine {
     // Stores a value at an address and goes on, if it may write there.
     #[tactic(auto, unfolding(crate::specs::Table::stored, crate::specs::Table::location_of))]
     fn store_at(&mut self, operation: StoreOperation, address: u32, value: u32) -> Event
-        ensures { record { event = result; after = self.new } ≡ on_store self.old (stored self.old operation address value) }
+        ensures { record { event = result; after = self.new }
+            ≡ on_store self.old (stored self.old operation address value) }
     {
         if address % size_of_store(operation) != 0 || address < self.regions.bytes_start() {
             return Event::Fault(self.pc);

@@ -3,7 +3,8 @@
 ghost use Rattle.std.specs.Prelude.{◌≡◌, ◌==◌, ◌∷◌, ◌<◌, length, position};
 ghost use Rattle.std.specs.Str.Lines.{lines, strip_carriage_return};
 
-/// The first line of a text without its end, and what stands behind it. A line ends with a line feed, before which a carriage return is
+/// The first line of a text without its end, and what stands behind it. A line ends with a line feed, before which a
+/// carriage return is
 /// dropped; the last line may lack its end.
 #[tactic(auto, using(crate::proofs::FirstLine::line_with_end, crate::proofs::FirstLine::line_without_end))]
 pub fn first_line(text: &[u8]) -> (&[u8], &[u8])

@@ -25,8 +25,10 @@ const LINE_DIGITS: usize = 9;
 
 /// The commands of a script, line by line; a line without words asks for nothing.
 ///
-/// Another text is refused for the first line that breaks a rule, with the first code of S04, S01, S02 and S03 that it earns: it has
-/// over 200 bytes, it is no command or has words too many, the line of a `break` is no number of 1 to 9 digits that begins with 1 to
+/// Another text is refused for the first line that breaks a rule, with the first code of S04, S01, S02 and S03 that it
+/// earns: it has
+/// over 200 bytes, it is no command or has words too many, the line of a `break` is no number of 1 to 9 digits that
+/// begins with 1 to
 /// 9, or a name is missing or no identifier. `NoMemory` comes where memory for the commands was refused.
 #[tactic(auto, using(crate::proofs::ScriptLaws::accepted, crate::proofs::ScriptLaws::refused))]
 pub fn read(alloc: Global, text: &[u8]) -> Result<Vec<Command>, ScriptErr>

@@ -37,7 +37,8 @@ pub fn change_lines(
     program: &Program,
     changes: &[Change],
 ) -> Result<Vec<Vec<u8>>, AllocError>
-    ensures { IfOk result (λ lines. map (λ line. line.items) lines.items ≡ lines_of (program_view program.now) 1 (map logged changes.now)) }
+    ensures { IfOk result (λ lines.
+        map (λ line. line.items) lines.items ≡ lines_of (program_view program.now) 1 (map logged changes.now)) }
 {
     let mut lines = Vec::new(alloc);
     let mut number = 1u32;

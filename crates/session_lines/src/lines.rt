@@ -20,7 +20,8 @@ pub struct PairCounts {
     pub nonresident: u64,
 }
 
-/// `seed SEED size SIZE`: the program is the one that is generated from these. `AllocError` where memory for the text was refused, as for each of these lines.
+/// `seed SEED size SIZE`: the program is the one that is generated from these. `AllocError` where memory for the text
+/// was refused, as for each of these lines.
 #[tactic(auto, unfolding(crate::specs::Lines::seed_line))]
 pub fn seed_line(alloc: Global, seed: u32, size: u32) -> Result<Vec<u8>, AllocError>
     ensures { IfOk result (λ text. text.items ≡ seed_line seed size) }
@@ -39,7 +40,8 @@ pub fn stops_line(alloc: Global, count: u64) -> Result<Vec<u8>, AllocError>
 /// `pairs COUNT home COUNT recovered COUNT noncurrent COUNT nonresident COUNT`: of how many pairs what was told.
 #[tactic(auto, unfolding(crate::specs::Lines::pairs_line))]
 pub fn pairs_line(alloc: Global, counts: PairCounts) -> Result<Vec<u8>, AllocError>
-    ensures { IfOk result (λ text. text.items ≡ pairs_line counts.pairs counts.home counts.recovered counts.noncurrent counts.nonresident) }
+    ensures { IfOk result (λ text.
+        text.items ≡ pairs_line counts.pairs counts.home counts.recovered counts.noncurrent counts.nonresident) }
 {
     let PairCounts {
         pairs,

@@ -27,7 +27,8 @@ fn automatic_letters(automatics: &[AutomaticVariable], number: usize) -> &[u8]
     }
 }
 
-/// The letters of the name of a variable of a program. None are there for a string literal, nor where the program has no variable of this number.
+/// The letters of the name of a variable of a program. None are there for a string literal, nor where the program has
+/// no variable of this number.
 fn letters(program: &Program, variable: usize) -> &[u8]
     ensures { result.now ≡ variable_name (program_view program.entry.now) variable }
 {
@@ -43,7 +44,8 @@ fn letters(program: &Program, variable: usize) -> &[u8]
     automatic_letters(&program.automatics, behind - literals)
 }
 
-/// The name of a variable of a program; an empty one for a string literal, and where the program has no variable of this number. `AllocError` where memory for it was refused.
+/// The name of a variable of a program; an empty one for a string literal, and where the program has no variable of
+/// this number. `AllocError` where memory for it was refused.
 pub fn name_of(alloc: Global, program: &Program, variable: u32) -> Result<Vec<u8>, AllocError>
     ensures { IfOk result (λ name. name.items ≡ variable_name (program_view program.now) variable) }
 {

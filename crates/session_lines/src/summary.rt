@@ -115,7 +115,8 @@ fn count_step(
     Ok(halt)
 }
 
-/// Steps the run of an engine to its end, from where it stands, and counts each step. `AllocError` where memory for its output or for what
+/// Steps the run of an engine to its end, from where it stands, and counts each step. `AllocError` where memory for its
+/// output or for what
 /// is shown was refused.
 fn count_steps(alloc: Global, engine: &mut Engine<'_>) -> Result<Summary, AllocError>
     ensures summary { IfOk result (IsSummaryOf engine.old.run) }
@@ -130,7 +131,8 @@ fn count_steps(alloc: Global, engine: &mut Engine<'_>) -> Result<Summary, AllocE
     }
 }
 
-/// Steps the run of an image on an input, of at most so many instructions, from stop to stop to its end. `AllocError` where memory for the run or for what
+/// Steps the run of an image on an input, of at most so many instructions, from stop to stop to its end. `AllocError`
+/// where memory for the run or for what
 /// is shown was refused.
 pub fn summarize(
     alloc: Global,

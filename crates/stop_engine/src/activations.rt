@@ -65,7 +65,8 @@ fn activations_at(
     Ok(frames)
 }
 
-/// The activations that are live at a stop, the innermost, which stands at this place, first. `AllocError` where memory for them was
+/// The activations that are live at a stop, the innermost, which stands at this place, first. `AllocError` where memory
+/// for them was
 /// refused.
 pub fn activations(
     alloc: Global,
@@ -86,7 +87,8 @@ pub fn activations(
 /// The lines of activations, from number 0 on. `AllocError` where memory for them was refused.
 pub fn activation_lines(alloc: Global, frames: &[Frame]) -> Result<Vec<Vec<u8>>, AllocError>
     requires { length frames.now < 4294967296 }
-    ensures { IfOk result (λ lines. map (λ line. line.items) lines.items ≡ activation_lines 0 (map activation_of frames.now)) }
+    ensures { IfOk result
+        (λ lines. map (λ line. line.items) lines.items ≡ activation_lines 0 (map activation_of frames.now)) }
 {
     let mut lines = Vec::new(alloc);
     for (number, frame) in frames.iter().enumerate() {

@@ -30,8 +30,10 @@ fn is_stop_on(table: &StopTable, line: u32, place: image_form::Place) -> bool
 /// The index of the first place that is on no earlier line.
 fn first_on(image: &View<'_>, line: u32) -> usize
     requires { EachToNext (λ p q. p.line ≤ q.line) (viewed image.now).places }
-    ensures before { (k : ℕ) (d : SourcePlace) → k < result → k < length (viewed image.now).places → (slice_index_or (viewed image.now).places k d).line < line }
-    ensures behind { (k : ℕ) (d : SourcePlace) → result ≤ k → k < length (viewed image.now).places → line ≤ (slice_index_or (viewed image.now).places k d).line }
+    ensures before { (k : ℕ) (d : SourcePlace) → k < result → k < length (viewed image.now).places
+        → (slice_index_or (viewed image.now).places k d).line < line }
+    ensures behind { (k : ℕ) (d : SourcePlace) → result ≤ k → k < length (viewed image.now).places
+        → line ≤ (slice_index_or (viewed image.now).places k d).line }
 {
     let mut low = 0;
     let mut high = image.place_count();
@@ -82,8 +84,10 @@ fn function_called(image: &View<'_>, functions: &FunctionNames, name: &[u8]) -> 
 /// The index of the first pair that leads from no earlier place.
 fn first_from(image: &View<'_>, place: u32) -> usize
     requires { EachToNext (λ a b. IsPairBefore a.from a.to b.from b.to) (viewed image.now).flow }
-    ensures before { (k : ℕ) (d : FlowPair) → k < result → k < length (viewed image.now).flow → (slice_index_or (viewed image.now).flow k d).from < place }
-    ensures behind { (k : ℕ) (d : FlowPair) → result ≤ k → k < length (viewed image.now).flow → place ≤ (slice_index_or (viewed image.now).flow k d).from }
+    ensures before { (k : ℕ) (d : FlowPair) → k < result → k < length (viewed image.now).flow
+        → (slice_index_or (viewed image.now).flow k d).from < place }
+    ensures behind { (k : ℕ) (d : FlowPair) → result ≤ k → k < length (viewed image.now).flow
+        → place ≤ (slice_index_or (viewed image.now).flow k d).from }
 {
     let mut low = 0;
     let mut high = image.flow_count();
@@ -134,7 +138,8 @@ fn first_places(
 ) -> Result<Vec<Place>, AllocError>
     requires image { IsImage (viewed image.now) }
     requires functions { AreFunctionNamesOf (viewed image.now) functions.now }
-    ensures { IfOk result (λ places. map (λ p. p.0) places.items ≡ one_or_none (first_place (viewed image.now) name.now)) }
+    ensures { IfOk result
+        (λ places. map (λ p. p.0) places.items ≡ one_or_none (first_place (viewed image.now) name.now)) }
 {
     match first_place(image, functions, name) {
         Some(place) => Ok(vec![in alloc; Place(place)]?),

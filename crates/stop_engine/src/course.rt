@@ -44,8 +44,10 @@ fn carry_out(
 ) -> Option<Halt>
     requires { vec_len output.old < vec_capacity output.old }
     ensures passes { (events : List MachineEvent) (n : ℕ)
-        → PassesBy table.now (aim_of aim.now) events output.old.items (run (stop_addresses table.now) (suc n) machine.old)
-        → PassesBy table.now (aim_of aim.now) events output.new.items (from_here result machine.new (run (stop_addresses table.now) n machine.new)) }
+        → PassesBy table.now (aim_of aim.now) events output.old.items
+        (run (stop_addresses table.now) (suc n) machine.old)
+        → PassesBy table.now (aim_of aim.now) events output.new.items
+        (from_here result machine.new (run (stop_addresses table.now) n machine.new)) }
     ensures halted { IfSome result (λ halt. halt_at table.now (halted_at halt machine.new) ≡ Some halt) }
     ensures aimed { IfSome result (λ halt. IsAimed table.now (aim_of aim.now) halt machine.new) }
     ensures room { vec_capacity output.new ≡ vec_capacity output.old }
@@ -77,7 +79,8 @@ fn make_room(output: &mut Vec<u8>) -> Result<(), AllocError>
     Ok(())
 }
 
-/// Runs to the next stop of the aim or to the ending, with at most so many instructions. `AllocError` where the room for output is full
+/// Runs to the next stop of the aim or to the ending, with at most so many instructions. `AllocError` where the room
+/// for output is full
 /// and more of it was refused: the run then stands between two instructions, and may go on.
 pub fn run_on(
     table: &StopTable,
@@ -88,13 +91,17 @@ pub fn run_on(
 ) -> Result<Halt, AllocError>
     requires { ROOM ≤ vec_capacity output.old }
     ensures passes { IfOk result (λ halt. (events : List MachineEvent)
-        → PassesBy table.now (aim_of aim.now) events output.old.items (run (stop_addresses table.now) left.old machine.old)
-        → PassesBy table.now (aim_of aim.now) events output.new.items (from_halt halt machine.new (run (stop_addresses table.now) left.new machine.new))) }
+        → PassesBy table.now (aim_of aim.now) events output.old.items
+        (run (stop_addresses table.now) left.old machine.old)
+        → PassesBy table.now (aim_of aim.now) events output.new.items
+        (from_halt halt machine.new (run (stop_addresses table.now) left.new machine.new))) }
     ensures halted { IfOk result (λ halt. halt_at table.now (halted_at halt machine.new) ≡ Some halt) }
     ensures aimed { IfOk result (λ halt. IsAimed table.now (aim_of aim.now) halt machine.new) }
     ensures kept { OnErr result ((events : List MachineEvent)
-        → PassesBy table.now (aim_of aim.now) events output.old.items (run (stop_addresses table.now) left.old machine.old)
-        → PassesBy table.now (aim_of aim.now) events output.new.items (run (stop_addresses table.now) left.new machine.new)) }
+        → PassesBy table.now (aim_of aim.now) events output.old.items
+        (run (stop_addresses table.now) left.old machine.old)
+        → PassesBy table.now (aim_of aim.now) events output.new.items
+        (run (stop_addresses table.now) left.new machine.new)) }
     ensures full { OnErr result (ROOM ≤ length output.new.items) }
     ensures executed { Executes left.old machine.old left.new machine.new }
 {

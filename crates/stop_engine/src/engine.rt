@@ -55,11 +55,13 @@ impl<'a> Model for Engine<'a> {
 
     ghost view = { λ e. record { run = e.run; marks = e.marks.places; has_quit = e.has_quit } };
 
-    ghost invariant = { λ e. AreTablesOf e.run.form e.tables × AreFunctionNamesOf e.run.form e.functions × (e.marks.bound ≡ length e.run.form.places + 1) };
+    ghost invariant = { λ e. AreTablesOf e.run.form e.tables × AreFunctionNamesOf e.run.form e.functions
+        × (e.marks.bound ≡ length e.run.form.places + 1) };
 }
 
 impl<'a> Engine<'a> {
-    /// The engine of an image, before the first instruction of a run on this input, of at most `limit` instructions. `AllocError` where
+    /// The engine of an image, before the first instruction of a run on this input, of at most `limit` instructions.
+    /// `AllocError` where
     /// memory for the machine or for a table of the image was refused.
     pub fn new(
         alloc: Global,
@@ -82,8 +84,10 @@ impl<'a> Engine<'a> {
         })
     }
 
-    /// Runs to the next of these stops or to the ending, and says where it halted. At least one instruction is executed before a stop;
-    /// behind an ending nothing runs any more, and the ending is answered again. `AllocError` where memory for 65,536 more bytes of
+    /// Runs to the next of these stops or to the ending, and says where it halted. At least one instruction is executed
+    /// before a stop;
+    /// behind an ending nothing runs any more, and the ending is answered again. `AllocError` where memory for 65,536
+    /// more bytes of
     /// output was refused: no event is lost, and a later call goes on.
     pub fn run_to(&mut self, stops: &Stops) -> Result<Halt, AllocError>
         ensures ran { OnOk result (HasRun (aim_of stops.now) self.old.run self.new.run) }
@@ -103,7 +107,8 @@ impl<'a> Engine<'a> {
         self.run.taken()
     }
 
-    /// What is shown of a name where the engine stands: at no stop nothing. `AllocError` where memory for the texts was refused.
+    /// What is shown of a name where the engine stands: at no stop nothing. `AllocError` where memory for the texts was
+    /// refused.
     pub fn show(&self, alloc: Global, name: &str) -> Result<Shown, AllocError>
         ensures { IfOk result (λ shown. sight_of shown ≡ sight self.now.run.form self.now.run.position name.now) }
     {
@@ -120,10 +125,12 @@ impl<'a> Engine<'a> {
         )?)
     }
 
-    /// The variables that are visible where the engine stands, each by its own row, in the order of their positions: at no stop none.
+    /// The variables that are visible where the engine stands, each by its own row, in the order of their positions: at
+    /// no stop none.
     /// `AllocError` where memory for them was refused.
     pub fn locals(&self, alloc: Global) -> Result<Vec<Local>, AllocError>
-        ensures { IfOk result (λ locals. map visible_of locals.items ≡ locals_at self.now.run.form self.now.run.position) }
+        ensures { IfOk result
+            (λ locals. map visible_of locals.items ≡ locals_at self.now.run.form self.now.run.position) }
     {
         let Some(stop) = self.run.stop() else {
             return Ok(Vec::new(alloc));
@@ -131,10 +138,12 @@ impl<'a> Engine<'a> {
         Ok(visible_at(alloc, &stop.image, stop.machine, &self.tables, stop.place)?)
     }
 
-    /// The activations that are live where the engine stands, the innermost first: none exactly at no stop. `AllocError` where memory
+    /// The activations that are live where the engine stands, the innermost first: none exactly at no stop.
+    /// `AllocError` where memory
     /// for them was refused.
     pub fn frames(&self, alloc: Global) -> Result<Vec<Frame>, AllocError>
-        ensures frames { IfOk result (λ frames. map activation_of frames.items ≡ frames_at self.now.run.form self.now.run.position) }
+        ensures frames { IfOk result
+            (λ frames. map activation_of frames.items ≡ frames_at self.now.run.form self.now.run.position) }
         ensures none { IfOk result (λ frames. frames.items ≡ [] ↔ IsAtNoStop self.now.run.position) }
     {
         let Some(stop) = self.run.stop() else {
@@ -143,10 +152,12 @@ impl<'a> Engine<'a> {
         Ok(activations(alloc, &stop.image, stop.machine, &self.tables, stop.place)?)
     }
 
-    /// The lines that a command of a script prints, as texts without their ends. `AllocError` where memory for the output or for a line
+    /// The lines that a command of a script prints, as texts without their ends. `AllocError` where memory for the
+    /// output or for a line
     /// was refused.
     pub fn answer(&mut self, alloc: Global, command: &Command) -> Result<Vec<Vec<u8>>, AllocError>
-        ensures answered { IfOk result (λ lines. Answers self.old self.new (order_of command.now) (map (λ line. line.items) lines.items)) }
+        ensures answered { IfOk result (λ lines.
+            Answers self.old self.new (order_of command.now) (map (λ line. line.items) lines.items)) }
         ensures wanting { OnErr result (LeavesOff self.old self.new) }
         ensures executed { HasExecuted self.old.run self.new.run }
     {
@@ -183,7 +194,9 @@ impl<'a> Engine<'a> {
     /// Marks what `break` names, and says which places these are.
     fn set_marks(&mut self, alloc: Global, target: &Target) -> Result<Vec<Vec<u8>>, AllocError>
         ensures marked { OnOk result (HasMarked (mark target.now) self.old self.new) }
-        ensures lines { IfOk result (λ lines. map (λ line. line.items) lines.items ≡ marked_line (mark target.now) (break_places self.old.run.form (mark target.now)) ∷ []) }
+        ensures lines { IfOk result (λ lines.
+            map (λ line. line.items) lines.items ≡ marked_line (mark target.now)
+            (break_places self.old.run.form (mark target.now)) ∷ []) }
         ensures kept { OnErr result (self.new ≡ self.old) }
         ensures run { self.new.run ≡ self.old.run }
     {
@@ -237,7 +250,8 @@ fn no_stop(alloc: Global) -> Result<Vec<Vec<u8>>, AllocError>
     Ok(vec![in alloc; line]?)
 }
 
-/// Runs to the next of these stops or to the ending. The lines are the output on the way, and where the run then stands.
+/// Runs to the next of these stops or to the ending. The lines are the output on the way, and where the run then
+/// stands.
 fn run_lines(
     alloc: Global,
     run: &mut Run,
@@ -248,7 +262,8 @@ fn run_lines(
     ensures ran { OnOk result (HasRun (aim_of stops.now) run.old run.new) }
     ensures lines { IfOk result (λ lines. map (λ line. line.items) lines.items
         ≡ run_lines run.old.form run.old.limit (ran run.old.form (aim_of stops.now) run.old.position run.old.events)) }
-    ensures wanting { OnErr result (Wants (aim_of stops.now) run.old run.new ⊎ HasRun (aim_of stops.now) run.old run.new) }
+    ensures wanting { OnErr result
+        (Wants (aim_of stops.now) run.old run.new ⊎ HasRun (aim_of stops.now) run.old run.new) }
     ensures executed { HasExecuted run.old run.new }
 {
     let halt = run.run_to(stops)?;

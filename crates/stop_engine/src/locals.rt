@@ -43,7 +43,8 @@ fn visible_of_row(
     })
 }
 
-/// The variables that are visible at a place, each by its own row, in the order of the rows. `AllocError` where memory for them was
+/// The variables that are visible at a place, each by its own row, in the order of the rows. `AllocError` where memory
+/// for them was
 /// refused.
 pub fn visible_at(
     alloc: Global,
@@ -68,7 +69,8 @@ pub fn visible_at(
 
 /// The lines of variables, or the one line where there is none. `AllocError` where memory for them was refused.
 pub fn locals_lines(alloc: Global, locals: &[Local]) -> Result<Vec<Vec<u8>>, AllocError>
-    ensures { IfOk result (λ lines. map (λ line. line.items) lines.items ≡ or_no_locals (map visible_line (map visible_of locals.now))) }
+    ensures { IfOk result (λ lines.
+        map (λ line. line.items) lines.items ≡ or_no_locals (map visible_line (map visible_of locals.now))) }
 {
     let mut lines = Vec::new(alloc);
     for local in locals {

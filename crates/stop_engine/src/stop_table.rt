@@ -72,7 +72,8 @@ impl<'a> StopTable<'a> {
 fn enter_places(image: &View<'_>, table: &mut [u32])
     requires image { IsImage (viewed image.now) }
     requires entries { length table.old ≡ length (viewed image.now).code }
-    ensures { (w : ℕ) → slice_index table.new w ≡ unwrap_or (place_at (viewed image.now) (word_address w)) (slice_index table.old w) }
+    ensures { (w : ℕ)
+        → slice_index table.new w ≡ unwrap_or (place_at (viewed image.now) (word_address w)) (slice_index table.old w) }
 {
     for i in 0..image.place_count() {
         let place = image.place_at(i);
@@ -84,7 +85,9 @@ fn enter_places(image: &View<'_>, table: &mut [u32])
 fn strike_entries(image: &View<'_>, table: &mut [u32])
     requires image { IsImage (viewed image.now) }
     requires entries { length table.old ≡ length (viewed image.now).code }
-    ensures { (w : ℕ) → slice_index table.new w ≡ (if is_entry_address (viewed image.now) (word_address w) then 0 else slice_index table.old w) }
+    ensures { (w : ℕ)
+        → slice_index table.new w ≡
+        (if is_entry_address (viewed image.now) (word_address w) then 0 else slice_index table.old w) }
 {
     for i in 0..image.function_count() {
         let function = image.function_at(i);

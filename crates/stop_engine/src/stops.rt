@@ -55,7 +55,8 @@ impl Marks {
     pub fn mark_all(&mut self, places: &[Place])
         requires { All (λ p. p.0 < self.old.bound) places.now }
         ensures bound { self.new.bound ≡ self.old.bound }
-        ensures marked { (p : ℕ) → is_among self.new.places p ≡ is_among (self.old.places ++ map (λ q. q.0) places.now) p }
+        ensures marked { (p : ℕ) → is_among self.new.places p
+            ≡ is_among (self.old.places ++ map (λ q. q.0) places.now) p }
     {
         for place in places {
             self.mark(place.0);

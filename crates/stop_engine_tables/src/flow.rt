@@ -42,7 +42,8 @@ fn flow_assignments(alloc: Global, image: &View<'_>) -> Result<Vec<Assignment>, 
     Ok(assignments)
 }
 
-/// Where execution may go, and what is assigned, by the tables of an image. `AllocError` where memory for it was refused.
+/// Where execution may go, and what is assigned, by the tables of an image. `AllocError` where memory for it was
+/// refused.
 pub fn flow_table(alloc: Global, image: &View<'_>) -> Result<FlowTable, AllocError>
     requires { IsImage (viewed image.now) }
     ensures flow { IfOk result (IsFlowOf (viewed image.now)) }

@@ -78,7 +78,8 @@ pub fn greatest_depth() -> u32
     1024
 }
 
-/// The places of the activations that are live, from the innermost, which stands at this place, on. `AllocError` where memory for them
+/// The places of the activations that are live, from the innermost, which stands at this place, on. `AllocError` where
+/// memory for them
 /// was refused.
 pub fn frame_places(
     alloc: Global,

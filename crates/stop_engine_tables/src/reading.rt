@@ -49,7 +49,8 @@ pub fn word_in(bytes: &[u8], index: usize) -> u32
     low + high
 }
 
-/// The word in a slot of the innermost activation, at an offset in its frame; 0 where it does not lie wholly in the stack.
+/// The word in a slot of the innermost activation, at an offset in its frame; 0 where it does not lie wholly in the
+/// stack.
 #[tactic(auto, using(crate::proofs::Slots::word_in_rest), unfolding(rv_machine::specs::Reading::stack_rest))]
 pub fn slot_word(machine: &Machine, offset: u32) -> u32
     ensures { result ≡ slot_word machine.now offset }

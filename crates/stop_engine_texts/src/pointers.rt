@@ -205,7 +205,8 @@ fn function_of(image: &View<'_>, place: u32) -> u32
     image.place_at(place as usize - 1).function
 }
 
-/// The first object of an activation with this place, or of one that called it, in which, or directly behind which, an address lies.
+/// The first object of an activation with this place, or of one that called it, in which, or directly behind which, an
+/// address lies.
 fn stack_target(
     image: &View<'_>,
     machine: &Machine,
@@ -217,7 +218,8 @@ fn stack_target(
     requires lists { AreListsOf (viewed image.now) lists.now }
     requires place { IsPlaceNumber (viewed image.now) place }
     ensures found { result
-        ≡ stack_target greatest_depth (viewed image.now) machine.now address place (reg machine.now 2) (depth machine.now) }
+        ≡ stack_target greatest_depth (viewed image.now) machine.now address place (reg machine.now 2)
+        (depth machine.now) }
     ensures number { IfSome result (IsTargetOf (length (viewed image.now).variables)) }
 {
     let mut left = greatest_depth();

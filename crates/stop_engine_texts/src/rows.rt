@@ -67,7 +67,8 @@ pub struct Evidence {
 
 /// What is said of the variable of a row.
 fn evidence_of(row: VisibleRow, change: u32, start: u32, writer: Option<u32>) -> Evidence
-    ensures { result ≡ (record { variable = row.variable; place = row.place; change = change; start = start; writer = writer }) }
+    ensures { result ≡
+        (record { variable = row.variable; place = row.place; change = change; start = start; writer = writer }) }
 {
     Evidence {
         variable: row.variable,

@@ -11,7 +11,8 @@ use line_form::{
 use places::Path;
 use std::alloc::{AllocError, Global};
 
-/// What is shown of a name where a session stands. Values and changes are texts; a change's has its number, its pass, its kind and its place.
+/// What is shown of a name where a session stands. Values and changes are texts; a change's has its number, its pass,
+/// its kind and its place.
 #[derive(Drop)]
 pub enum Shown {
     /// It stands at no stop.
@@ -22,9 +23,11 @@ pub enum Shown {
     Value(Vec<u8>),
     /// The value, computed anew, and the change that took it away.
     Recovered { value: Vec<u8>, change: Vec<u8> },
-    /// The variable's home has not the variable's value: the change that made it so, and the path that shows it, if there is one.
+    /// The variable's home has not the variable's value: the change that made it so, and the path that shows it, if
+    /// there is one.
     Noncurrent { change: Vec<u8>, path: Option<Path> },
-    /// The variable's home has another's value: the change that made it so, and the path that shows it, if there is one.
+    /// The variable's home has another's value: the change that made it so, and the path that shows it, if there is
+    /// one.
     Nonresident { change: Vec<u8>, path: Option<Path> },
 }
 

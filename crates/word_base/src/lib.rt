@@ -1,4 +1,5 @@
-//! Arithmetic on words of 32 bits, exactly as RV32IM has it, and the definitions of C's integer types, operations and owners of objects.
+//! Arithmetic on words of 32 bits, exactly as RV32IM has it, and the definitions of C's integer types, operations and
+//! owners of objects.
 #![tactic(auto)]
 
 mod arithmetic;

@@ -57,7 +57,8 @@ fn push_statements(text: &mut Vec<u8>, seed: u32, count: u32) -> Result<(), Allo
     Ok(())
 }
 
-/// The program that is generated from a seed and a size: a loop that is gone through twice, with so many statements, each of which assigns to one of four variables
+/// The program that is generated from a seed and a size: a loop that is gone through twice, with so many statements,
+/// each of which assigns to one of four variables
 /// another one, or a sum, a product or an exclusive or of two. `AllocError` where memory for the text was refused.
 #[tactic(auto, unfolding(crate::specs::Generated::text))]
 pub fn source(alloc: Global, seed: u32, size: u32) -> Result<Vec<u8>, AllocError>

@@ -14,4 +14,4 @@ loop-case-preserved c = record {
 }
 
 pub returns-clause-in_order : goal.returns-clause-in_order
-returns-clause-in_order c = λ _. in_order _ c.sort_unstable.ensures.sorted
+returns-clause-in_order c = in_order _ c.sort_unstable.ensures.sorted
