@@ -22,7 +22,7 @@ snoc_cases [] y z (suc k) at = absurd (none-some z at)
 snoc_cases (x ∷ xs) y z zero at = inl at
 snoc_cases (x ∷ xs) y z (suc k) at = elim (snoc_cases xs y z k at) [ | inl f ↦ inl f | inr f ↦ inr (ap suc f.0, f.1) ]
 
-abbrev tail : {A : Type 0} → List A → List A
+abbrev pub tail : {A : Type 0} → List A → List A
 tail [] = []
 tail (x ∷ xs) = xs
 

@@ -17,3 +17,5 @@ pub mod Ordering
 pub mod Turns
 pub mod AlongBlocks
 mod Standing
+pub mod Counting
+pub mod Pointed

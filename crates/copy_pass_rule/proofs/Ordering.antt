@@ -1,10 +1,10 @@
 -- Blocks are put into order, each behind one that leads to it.
-use Rattle.std.proofs.Common.{◌≡◌, ◌≢◌, ℕ, zero, suc, ◌+◌, ◌<◌, ◌≤◌, ◌⊎◌, inl, inr, Bool, true, false, true≢false, Option, Some, None, List, [], ◌∷◌, ◌++◌, length, replicate, refl, sym, ap, ◌∙◌, subst, arith, length-append}
+use Rattle.std.proofs.Common.{◌≡◌, ◌≢◌, ℕ, zero, suc, ◌+◌, ◌-◌, ◌<◌, ◌≤◌, ◌⊎◌, inl, inr, Bool, true, false, true≢false, Option, Some, None, List, [], ◌∷◌, ◌++◌, length, replicate, refl, sym, ap, ◌∙◌, subst, arith, length-append}
 use Rattle.std.specs.Prelude.{slice_get, slice_set}
-use Rattle.std.proofs.lemmas.Bool.{cases_eq}
+use Rattle.std.proofs.lemmas.Bool.{cases_lt}
 use Rattle.std.proofs.lemmas.List.{length-set}
 use Rattle.std.proofs.lemmas.Option.{slice_get_within, same_Some, none-some}
-use Rattle.base_laws.proofs.Lists.{get_set, set_elsewhere, set_here, snoc_new, snoc_old}
+use Rattle.base_laws.proofs.Lists.{get_set, set_elsewhere, set_here, snoc_new, snoc_old, there_is}
 use Rattle.graph_core.specs.Graphs.{Block}
 use Rattle.graph_core.specs.Uses.{targets_of}
 use Rattle.graph_core.specs.Paths.{Among, front, behind}
@@ -158,6 +158,36 @@ module _ (blocks : List Block) where
   -- Where the first so many blocks lead stands too.
   abbrev pub IsClosedTo : (turn : ℕ) → List ℕ → List Bool → Type 0
   IsClosedTo turn order has = (k n l : ℕ) (b : Block) → k < turn → slice_get order k ≡ Some n → slice_get blocks n ≡ Some b → Among l (targets_of b.end) → l < length blocks → slice_get has l ≡ Some true
+
+  -- The blocks to which the next one leads are put.
+  pub record IsOneMore (turn : ℕ) (order new : List ℕ) (has new_has : List Bool) : Type 0 where
+    pub are : AreOrdered new new_has
+    pub closed : IsClosedTo (turn + 1) new new_has
+    pub fewer : left_out new_has + (length new - (turn + 1)) < left_out has + (length order - turn)
+
+  pub one_more : {order new : List ℕ} {has new_has : List Bool} (turn number : ℕ) (b : Block) → AreOrdered order has → IsClosedTo turn order has → turn < length order → slice_get order turn ≡ Some number → slice_get blocks number ≡ Some b
+      → AreAdded (targets_of b.end) order has new new_has → IsOneMore turn order new has new_has
+  one_more {order} {new} {has} {new_has} turn number b are closed lt stands is added =
+      let grown = add_all added are turn number b stands is (λ l among. among) in
+      let many = as_many_all added in
+      let inside = slice_get_within new turn number (grown.stands turn number stands) in
+      record { are = grown.are; closed = λ k n l d less at there among within. elim (cases_lt k turn) [
+        | inl old ↦ earlier grown k n l d old at there among within
+        | inr last ↦ now grown k n l d (omega (arith, less, last)) at there among within
+      ]; fewer = omega (arith, many, inside, lt) }
+    where
+      earlier : AreMore (targets_of b.end) order new has new_has → (k n l : ℕ) (d : Block) → k < turn → slice_get new k ≡ Some n → slice_get blocks n ≡ Some d → Among l (targets_of d.end) → l < length blocks → slice_get new_has l ≡ Some true
+      earlier grown k n l d old at there among within =
+          let stood = there_is order k (omega (arith, old, lt)) in
+          let same : stood.0 ≡ n = same_Some stood.0 n (sym (grown.stands k stood.0 stood.1) ∙ at) in
+          grown.tells l (closed k n l d old (stood.1 ∙ ap Some same) there among within)
+
+      now : AreMore (targets_of b.end) order new has new_has → (k n l : ℕ) (d : Block) → k ≡ turn → slice_get new k ≡ Some n → slice_get blocks n ≡ Some d → Among l (targets_of d.end) → l < length blocks → slice_get new_has l ≡ Some true
+      now grown k n l d q at there among within =
+          let same : number ≡ n = same_Some number n (sym (grown.stands turn number stands) ∙ ap (slice_get new) (sym q) ∙ at) in
+          let one : b ≡ d = same_Some b d (sym is ∙ ap (slice_get blocks) same ∙ there) in
+          let many = are.count in
+          grown.all l (subst (λ (e : Block). Among l (targets_of e.end)) (sym one) among) (omega (arith, within, many))
 
   pub in_order : (order : List ℕ) (has : List Bool) (turn : ℕ) → AreOrdered order has → IsClosedTo turn order has → length order ≤ turn → IsInOrder blocks order
   in_order order has turn are closed done = record {

@@ -19,9 +19,13 @@ use Rattle.copy_pass_rule.proofs.Found.{AreFoundTo, And, found_none, found_one}
 cases_below : (j k : ℕ) → j ≤ k → (j < k) ⊎ (j ≡ k)
 cases_below j k le = elim (cases_eq j k) [ | inl q ↦ inr q | inr q ↦ inl (omega (arith, le, q)) ]
 
--- A point is done: in one of the first so many blocks of the order, or in the next one with at least so many instructions behind it.
+-- A point is past: in one of the first so many blocks of the order.
+abbrev pub IsPast : (order : List ℕ) (turn : ℕ) → (n left : ℕ) → Type 0
+IsPast order turn n left = (j : ℕ) × (j < turn) × (slice_get order j ≡ Some n)
+
+-- A point is done: it is past, or in the next block with at least so many instructions behind it.
 abbrev pub IsDone : (order : List ℕ) (turn from : ℕ) → (n left : ℕ) → Type 0
-IsDone order turn from n left = ((j : ℕ) × (j < turn) × (slice_get order j ≡ Some n)) ⊎ ((slice_get order turn ≡ Some n) × (from ≤ left))
+IsDone order turn from n left = IsPast order turn n left ⊎ ((slice_get order turn ≡ Some n) × (from ≤ left))
 
 module _ (g : Graph) (order : List ℕ) (is : IsInOrder g.blocks order) where
   -- the same points in other words
@@ -33,36 +37,20 @@ module _ (g : Graph) (order : List ℕ) (is : IsInOrder g.blocks order) where
     known = λ bits so n b before rest i at parts done. are.known bits so n b before rest i at parts (back n b before rest i at parts done);
   }
 
-  -- nothing is done before the first block is entered
-  pub none_done : (b : Block) → slice_get g.blocks 0 ≡ Some b → AreFoundTo g (IsDone order 0 (length b.instructions)) []
-  none_done b at = record {
+  -- nothing is past before the first block
+  pub none_past : AreFoundTo g (IsPast order 0) []
+  none_past = record {
     numerable = record { apart = λ j k c d one two e l. absurd (none-some c one); within = λ k c there. absurd (none-some c there); of_scalars = λ k c there. absurd (none-some c there) };
     own = λ k c there. absurd (none-some c there);
-    known = λ bits so n d before rest i there parts done. elim done [
-      | inl f ↦ absurd (let lt = f.1 in omega (arith, lt))
-      | inr f ↦ absurd (outside 0 b n d before rest i at is.first there parts f.0 f.1)
-    ];
+    known = λ bits so n d before rest i there parts past. absurd (let lt = past.1 in omega (arith, lt));
   }
-    where
-      outside : (k : ℕ) (b : Block) (n : ℕ) (d : Block) (before rest : List Instruction) (i : Instruction) → slice_get g.blocks k ≡ Some b → slice_get order 0 ≡ Some k → slice_get g.blocks n ≡ Some d → d.instructions ≡ before ++ i ∷ rest → slice_get order 0 ≡ Some n
-          → length b.instructions ≤ length rest → ⊥
-      outside k b n d before rest i at_k stood there parts stands le =
-          let same : k ≡ n = same_Some k n (sym stood ∙ stands) in
-          let one : b ≡ d = same_Some b d (sym at_k ∙ ap (slice_get g.blocks) same ∙ there) in
-          let long : length b.instructions ≡ length (before ++ i ∷ rest) = ap (λ (e : Block). length e.instructions) one ∙ ap length parts in
-          let sum : length (before ++ i ∷ rest) ≡ length before + length (i ∷ rest) = length-append before (i ∷ rest) in
-          omega (arith, long, sum, le)
 
-  -- the next block is entered, when all of one is done
-  pub next_block : (turn : ℕ) (found : List CopyAt) (n : ℕ) (b : Block) → slice_get order (turn + 1) ≡ Some n → slice_get g.blocks n ≡ Some b → AreFoundTo g (IsDone order turn 0) found → AreFoundTo g (IsDone order (turn + 1) (length b.instructions)) found
-  next_block turn found n b stands at are = done_as (IsDone order turn 0) (IsDone order (turn + 1) (length b.instructions)) found
-      (λ m left done. elim done [ | inl f ↦ inl (f.0, (let lt = f.1 in omega (arith, lt)), f.2) | inr f ↦ inl (turn, omega arith, f.0) ]) back are
+  -- the next block is entered
+  pub entered : (turn : ℕ) (found : List CopyAt) (n : ℕ) (b : Block) → slice_get order turn ≡ Some n → slice_get g.blocks n ≡ Some b → AreFoundTo g (IsPast order turn) found → AreFoundTo g (IsDone order turn (length b.instructions)) found
+  entered turn found n b stands at are = done_as (IsPast order turn) (IsDone order turn (length b.instructions)) found (λ m left past. inl past) back are
     where
-      back : (m : ℕ) (d : Block) (before rest : List Instruction) (i : Instruction) → slice_get g.blocks m ≡ Some d → d.instructions ≡ before ++ i ∷ rest → IsDone order (turn + 1) (length b.instructions) m (length rest) → IsDone order turn 0 m (length rest)
-      back m d before rest i there parts (inl f) = before_or_here f.0 f.1 f.2
-        where
-          before_or_here : (j : ℕ) → j < turn + 1 → slice_get order j ≡ Some m → IsDone order turn 0 m (length rest)
-          before_or_here j lt e = elim (cases_below j turn (omega (arith, lt))) [ | inl less ↦ inl (j, less, e) | inr q ↦ inr (subst (λ k. slice_get order k ≡ Some m) q e, omega arith) ]
+      back : (m : ℕ) (d : Block) (before rest : List Instruction) (i : Instruction) → slice_get g.blocks m ≡ Some d → d.instructions ≡ before ++ i ∷ rest → IsDone order turn (length b.instructions) m (length rest) → IsPast order turn m (length rest)
+      back m d before rest i there parts (inl f) = f
       back m d before rest i there parts (inr f) =
           let same : n ≡ m = same_Some n m (sym stands ∙ f.0) in
           let one : b ≡ d = same_Some b d (sym at ∙ ap (slice_get g.blocks) same ∙ there) in
@@ -70,6 +58,14 @@ module _ (g : Graph) (order : List ℕ) (is : IsInOrder g.blocks order) where
           let sum : length (before ++ i ∷ rest) ≡ length before + length (i ∷ rest) = length-append before (i ∷ rest) in
           let le = f.1 in
           absurd (omega (arith, long, sum, le))
+
+  -- all of a block is done: it is past
+  pub passed_by : (turn : ℕ) (found : List CopyAt) → AreFoundTo g (IsDone order turn 0) found → AreFoundTo g (IsPast order (turn + 1)) found
+  passed_by turn found are = done_as (IsDone order turn 0) (IsPast order (turn + 1)) found
+      (λ m left done. elim done [ | inl f ↦ (f.0, (let lt = f.1 in omega (arith, lt)), f.2) | inr f ↦ (turn, omega arith, f.0) ]) back are
+    where
+      back : (m : ℕ) (d : Block) (before rest : List Instruction) (i : Instruction) → slice_get g.blocks m ≡ Some d → d.instructions ≡ before ++ i ∷ rest → IsPast order (turn + 1) m (length rest) → IsDone order turn 0 m (length rest)
+      back m d before rest i there parts f = elim (cases_below f.0 turn (let lt = f.1 in omega (arith, lt))) [ | inl less ↦ inl (f.0, less, f.2) | inr q ↦ inr (subst (λ k. slice_get order k ≡ Some m) q f.2, omega arith) ]
 
   module _ (turn : ℕ) (found : List CopyAt) (n : ℕ) (b : Block) (before rest : List Instruction) (i : Instruction) (stands : slice_get order turn ≡ Some n) (at : slice_get g.blocks n ≡ Some b) (parts : b.instructions ≡ before ++ i ∷ rest)
       (so_far : AreFoundTo g (IsDone order turn (length (i ∷ rest))) found) (bits : Bits) (told : AreFound (lines_of g.blocks) found bits) (missing : ℕ → Bool) (are : AreMissingAt found bits n b (i ∷ rest) missing) where
@@ -123,17 +119,25 @@ module _ (g : Graph) (order : List ℕ) (is : IsInOrder g.blocks order) where
             let sum : length (front ++ j ∷ later) ≡ length front + length (j ∷ later) = length-append front (j ∷ later) in
             ap (missing_where c k (length (j ∷ later)) (map target_of d.instructions)) bit ∙ stays_where c k (length (j ∷ later)) f.3 (map target_of d.instructions) (omega (arith, targets, long, sum))
 
-  -- all blocks are done
-  pub all_done : (found : List CopyAt) (turn : ℕ) → length order ≤ turn + 1 → AreFoundTo g (IsDone order turn 0) found → AreCopiesOf g found
-  all_done found turn done are = record {
+  -- all blocks are past
+  pub all_past : (found : List CopyAt) (turn : ℕ) → length order ≤ turn → AreFoundTo g (IsPast order turn) found → AreCopiesOf g found
+  all_past found turn done are = record {
     numerable = are.numerable;
     known = λ bits so n b before rest i at way parts. are.known bits so n b before rest i at parts (reached bits so n b at way (length rest));
   }
     where
-      reached : (bits : Bits) → AreFound (lines_of g.blocks) found bits → (n : ℕ) (b : Block) → slice_get g.blocks n ≡ Some b → bits n 0 ≡ true → (left : ℕ) → IsDone order turn 0 n left
+      reached : (bits : Bits) → AreFound (lines_of g.blocks) found bits → (n : ℕ) (b : Block) → slice_get g.blocks n ≡ Some b → bits n 0 ≡ true → (left : ℕ) → IsPast order turn n left
       reached bits so n b at way left =
           let lt : n < length g.blocks = slice_get_within g.blocks n b at in
           let lines : length (lines_of g.blocks) ≡ length g.blocks = length-map g.blocks _ in
           let k = led_in_order g.blocks order is (so.is_led n (omega (arith, lt, lines)) way) lt in
           let inside = slice_get_within order k.0 n k.1 in
-          elim (cases_below k.0 turn (omega (arith, inside, done))) [ | inl less ↦ inl (k.0, less, k.1) | inr q ↦ inr (subst (λ j. slice_get order j ≡ Some n) q k.1, omega arith) ]
+          (k.0, omega (arith, inside, done), k.1)
+
+  -- no copy that is found stands in a block that is not past
+  pub not_past : (turn : ℕ) (found : List CopyAt) (n : ℕ) → slice_get order turn ≡ Some n → AreFoundTo g (IsPast order turn) found → (k : ℕ) (c : CopyAt) → slice_get found k ≡ Some c → c.block ≢ n
+  not_past turn found n stands are k c at q =
+      let past = are.own k c at in
+      let same : past.0 ≡ turn = is.once past.0 turn n (past.2 ∙ ap Some q) stands in
+      let lt = past.1 in
+      omega (arith, lt, same)

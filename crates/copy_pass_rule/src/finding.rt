@@ -19,7 +19,7 @@ use graph_core::{Block, Graph, Instr};
 use graph_paths::Marks;
 use std::alloc::{AllocError, Global};
 
-/// Goes in a row over the instructions of a block until so many are left.
+/// Goes in a row over the instructions of a block until the next one has so many behind it.
 fn walk_to(
     copies: &Copies<'_>,
     marks: &mut Marks,
@@ -31,13 +31,13 @@ fn walk_to(
     requires row { row < marks.old.count }
     requires width { marks.old.width ≡ length copies.now.all.now + 1 }
     requires narrow { length copies.now.all.now + 1 < 2 ^ 32 }
-    ensures walked { (k : ℕ) (c : declared-copy.CopyAt) → slice_get copies.now.all.now k ≡ Some c → bits_of marks.new row (suc k) ≡ missing_where c number left (line_of (block_view block.now)).writes (bits_of marks.old row (suc k)) }
+    ensures walked { (k : ℕ) (c : declared-copy.CopyAt) → slice_get copies.now.all.now k ≡ Some c → bits_of marks.new row (suc k) ≡ missing_where c number (suc left) (line_of (block_view block.now)).writes (bits_of marks.old row (suc k)) }
     ensures same_count { marks.new.count ≡ marks.old.count }
     ensures same_width { marks.new.width ≡ marks.old.width }
 {
     let mut ahead: &[Instr] = &block.instructions;
     while let [instruction, rest @ ..] = ahead {
-        if ahead.len() == left {
+        if rest.len() == left {
             return;
         }
         let target = instruction.target();
@@ -46,7 +46,7 @@ fn walk_to(
     }
 }
 
-/// The copy that an instruction of a block makes, as it is read by the copies that were found.
+/// The copy that an instruction of a block makes, as it is read by the copies that were found before.
 fn copy_at(
     alloc: Global,
     graph: &Graph,
@@ -69,7 +69,7 @@ fn copy_at(
     let mut walk = Marks::new(alloc, 1, found.len() as u32 + 1)?;
     walk.copy_from(0, &starts, number);
     let block = &graph.blocks[number as usize];
-    walk_to(&copies, &mut walk, 0, number, block, left + 1);
+    walk_to(&copies, &mut walk, 0, number, block, left);
     let reader = Reader {
         copies: &copies,
         row: 0,

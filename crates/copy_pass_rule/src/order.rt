@@ -1,6 +1,6 @@
 //! The blocks to which ways lead, in order.
 
-ghost use Rattle.std.specs.Prelude.{◌≡◌, ◌<◌, ◌^◌, IfOk, OnOk, length, map};
+ghost use Rattle.std.specs.Prelude.{◌≡◌, ◌<◌, ◌^◌, [], IfOk, OnOk, false, length, map, replicate};
 ghost use Rattle.graph_core.specs.Graphs.{block_view, end_view};
 ghost use Rattle.graph_core.specs.Uses.{targets_of};
 ghost use Rattle.copy_pass_rule.specs.Order.{AreAdded, IsAdded, IsInOrder};
@@ -38,6 +38,24 @@ fn add_targets(order: &mut Vec<u32>, has: &mut [bool], end: &End) -> Result<(), 
     Ok(())
 }
 
+/// Puts the first block into an empty order, and behind it all to which ways lead, each behind one that leads to it.
+fn put_all(order: &mut Vec<u32>, has: &mut [bool], blocks: &[Block]) -> Result<(), AllocError>
+    requires some { 0 < length blocks.now }
+    requires few { length blocks.now < 2 ^ 32 }
+    requires empty { order.old.items ≡ [] }
+    requires none { has.old ≡ replicate (length blocks.now) false }
+    ensures { OnOk result (IsInOrder (map block_view blocks.now) order.new.items) }
+{
+    add(order, has, 0)?;
+    let mut turn = 0usize;
+    while turn < order.len() {
+        let number = order[turn];
+        add_targets(order, has, &blocks[number as usize].end)?;
+        turn += 1;
+    }
+    Ok(())
+}
+
 /// The blocks to which some way leads from the first one, each but that one behind one that leads to it.
 pub fn blocks_in_order(alloc: Global, blocks: &[Block]) -> Result<Vec<u32>, AllocError>
     requires some { 0 < length blocks.now }
@@ -46,12 +64,6 @@ pub fn blocks_in_order(alloc: Global, blocks: &[Block]) -> Result<Vec<u32>, Allo
 {
     let mut has = vec![in alloc; false; blocks.len()]?;
     let mut order = Vec::new(alloc);
-    add(&mut order, &mut has, 0)?;
-    let mut turn = 0usize;
-    while turn < order.len() {
-        let number = order[turn];
-        add_targets(&mut order, &mut has, &blocks[number as usize].end)?;
-        turn += 1;
-    }
+    put_all(&mut order, &mut has, blocks)?;
     Ok(order)
 }

@@ -2,9 +2,6 @@ use Rattle.std.proofs.Common.{◌≡◌, ◌<◌, List, ◌∷◌, ◌++◌, [],
 use Rattle.std.specs.Prelude.{slice_get, slice_set}
 use Rattle.std.proofs.lemmas.Option.{slice_get-get_or}
 use Rattle.copy_pass_rule.specs.Order.{IsAdded, put, stood}
-use Rattle.copy_pass_rule.proofs.Turns.{all_done, next_block, none_done}
-use Rattle.copy_pass_rule.proofs.AlongBlocks.{along}
-use Rattle.copy_pass_rule.proofs.Ordering.{in_order}
 use Rattle.copy_pass_rule.proofs.order.add.Goals.{else-label-has-via-then-label-has+else-not-has-label, else-label-has-via-else-label-has}
 use Rattle.copy_pass_rule.proofs.order.add.Goals as goal
 
