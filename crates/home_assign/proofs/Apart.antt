@@ -25,19 +25,19 @@ abbrev pub home_or : Option Home → Home
 home_or o = option_map_or (λ home. home) o (Slot 0)
 
 -- the slots of the earlier homes
-slots_fewer : (homes : List Home) (y m : ℕ) → slice_get homes y ≡ Some (Slot m) → slots_in (take y homes) < slots_in homes
+pub slots_fewer : (homes : List Home) (y m : ℕ) → slice_get homes y ≡ Some (Slot m) → slots_in (take y homes) < slots_in homes
 slots_fewer [] y m is = absurd (omega (arith, slice_get_within [] y (Slot m) is))
 slots_fewer (k ∷ homes) zero m is = (let e : k ≡ Slot m = same_Some k (Slot m) is in rw e (omega arith))
 slots_fewer (k ∷ homes) (suc y) m is = (let h = slots_fewer homes y m is in omega (arith, h))
 
-taken_at : (homes : List Home) (x y : ℕ) → y < x → slice_get (take x homes) y ≡ slice_get homes y
+pub taken_at : (homes : List Home) (x y : ℕ) → y < x → slice_get (take x homes) y ≡ slice_get homes y
 taken_at [] zero y lt = absurd (omega (arith, lt))
 taken_at [] (suc x) y lt = refl
 taken_at (k ∷ homes) zero y lt = absurd (omega (arith, lt))
 taken_at (k ∷ homes) (suc x) zero lt = refl
 taken_at (k ∷ homes) (suc x) (suc y) lt = taken_at homes x y (omega (arith, lt))
 
-taken_taken : (homes : List Home) (x y : ℕ) → y < x → take y (take x homes) ≡ take y homes
+pub taken_taken : (homes : List Home) (x y : ℕ) → y < x → take y (take x homes) ≡ take y homes
 taken_taken homes zero y lt = absurd (omega (arith, lt))
 taken_taken [] (suc x) zero lt = refl
 taken_taken [] (suc x) (suc y) lt = refl

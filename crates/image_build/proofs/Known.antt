@@ -8,7 +8,7 @@ use Rattle.c_tree.specs.TypedStatements.{TypedStartTree, TypedStatementTree, Blo
 use Rattle.c_tree.specs.Programs.{TypedFunctionTree, ProgramTree}
 use Rattle.c_places.specs.Places.{Place, stop, brought, brought_by_start, parameters_of, entry_of, close_of, places_of_declarators, places_of_start, places_of_head, places_of_step, places_of, places_of_all, places_of_function, places_of_functions, places_of_program}
 use Rattle.graph_core.specs.Paths.{Among, front, behind}
-use Rattle.image_build.proofs.Passing.{some_same}
+use Rattle.graph_core_weights.proofs.Passing.{some_same}
 
 -- ---- Places with what is known there
 

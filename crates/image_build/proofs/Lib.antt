@@ -1,4 +1,3 @@
-mod Passing
 mod Slots
 mod Known
 mod Scopes

@@ -25,7 +25,7 @@ use Rattle.c_flow.specs.declared.assigned.Assigned.{Assigned}
 use Rattle.c_flow.specs.Flow.{flow_of_program, numbered, steps_of_program}
 use Rattle.c_flow.specs.Assigns.{assigns_object, assigned_by_program, assignments_of_program, numbered_assigned, numbered_for, variable_number}
 use Rattle.graph_core.specs.Paths.{Among, front, behind}
-use Rattle.image_build.proofs.Passing.{some_same}
+use Rattle.graph_core_weights.proofs.Passing.{some_same}
 use Rattle.image_build.proofs.Known.{known_of_function, known_of_functions, known_of_program, wider_at, wider_back, wider_program}
 use Rattle.image_build.proofs.Scopes.{IsPlaced, ArePlaced, IsSound, AreSound, functions_sound}
 use Rattle.base_laws.proofs.Lists.{any_at, member_at as at_of}

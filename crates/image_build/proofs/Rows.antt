@@ -28,7 +28,7 @@ use Rattle.currency.specs.Sound.{AreApart, AreHidden, AreHome, AreLeast, AreOnly
 use Rattle.currency.specs.Visible.{Sight, next, sight, sights_at, sights_from}
 use Rattle.currency.specs.Written.{AreWritten, IsWritten}
 use Rattle.image_build.specs.Shown.{AreShown}
-use Rattle.image_build.proofs.Passing.{all_there, some_same}
+use Rattle.graph_core_weights.proofs.Passing.{all_there, some_same}
 use Rattle.image_build.proofs.Program.{HaveFlowOf, IsKnown, comes_known, none_known, visible_known}
 use Rattle.image_build.proofs.Scopes.{among_cases}
 use Rattle.image_build.proofs.Slots.{holds_in_scope}

@@ -15,7 +15,7 @@ use Rattle.graph_core.specs.Paths.{Among, front, behind, Passed, History, Path, 
 use Rattle.graph_core.specs.Validity.{IsBinding, IsGraph}
 use Rattle.graph_core.specs.WellMarked.{IsVariable, IsWellMarked, WasTaken}
 use Rattle.graph_core_weights.proofs.Standing.{IsMarked}
-use Rattle.image_build.proofs.Passing.{Before, Kind, IsPlain, marks, noting, plain, Stands, kind_of, path_before, passed_valid, some_same, stands, target_low}
+use Rattle.graph_core_weights.proofs.Passing.{Before, Kind, IsPlain, marks, noting, plain, Stands, kind_of, path_before, passed_valid, some_same, stands, target_low}
 use Rattle.base_laws.proofs.Booleans.{neither as or_none}
 use Rattle.base_laws.proofs.Numbers.{no as no_truth}
 

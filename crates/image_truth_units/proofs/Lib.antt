@@ -63,7 +63,6 @@ pub mod Due
 pub mod Allowed
 pub mod Walking
 pub mod Graphs
-pub mod Placing
 pub mod Assigning
 pub mod Notes
 pub mod ScalarVariables

@@ -20,7 +20,7 @@ use Rattle.image_truth_units.proofs.Waiting.{wants, wants_end}
 use Rattle.image_truth_units.proofs.Allowed.{Allowed}
 use Rattle.image_truth_units.proofs.Assigning.{HasAssignments, May, may_statements, may_entry}
 use Rattle.image_truth_units.proofs.Graphs.{code, behind_written, end_written, call_noted, in_place_allowed}
-use Rattle.image_truth_units.proofs.Placing.{marker_is, path_in_place, path_writes}
+use Rattle.graph_core_weights.proofs.Placing.{marker_is, path_in_place, path_writes}
 use Rattle.base_laws.proofs.Booleans.{or_cases, or_right}
 use Rattle.base_laws.proofs.Numbers.{are_equal as same_name, at_most, is_most, same_is}
 use Rattle.base_laws.proofs.Options.{none_is, some_same}

@@ -14,7 +14,7 @@ use Rattle.image_truth_units.specs.Notes.{KeepsNotes, KeepNotes}
 use Rattle.image_truth_units.proofs.Assigning.{HasAssignments, of_scalar}
 use Rattle.image_truth_units.proofs.Noted.{HasOnly, nothing_owed}
 use Rattle.image_truth_units.proofs.Notes.{of_function, of_variable, within, counted, written_where, noted_where, right, behind_write, calls, local, local_at_end}
-use Rattle.image_truth_units.proofs.Placing.{got_one}
+use Rattle.graph_core_weights.proofs.Placing.{got_one}
 use Rattle.image_truth_units.proofs.ScalarVariables.{all_different}
 
 -- The unit of a well-formed program, which is valid and has the program's assignments and no others, keeps notes.

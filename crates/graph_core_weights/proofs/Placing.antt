@@ -140,16 +140,20 @@ module _ (u : UnitForm) (g : Graph) (valid : AllByRecursion (IsBlock u g) g.bloc
   pub stands_at : (h : History) (n : ℕ) (rest : List Instruction) (e : End) → Path g h n rest e → StandsAt g h n rest e
   stands_at h n rest e (path b is way) = way_stands is way
 
+  -- before an instruction that is no marker the place in force is that of its block
+  pub place_before : (h : History) (n : ℕ) (p : ℕ) (i : Instruction) (rest : List Instruction) (e : End) (s : StandsAt g h n (i ∷ rest) e) → is_marker i ≡ false → place_of h ≡ Some p → place_behind s.before s.block.place ≡ Some p
+  place_before h n p i rest e s off at =
+      (let same : place_of h ≡ place_behind s.before s.block.place = sym (kept_by i (place_of h) off) ∙ by_both i rest (place_of h) (place_behind s.before s.block.place) s.place ∙ kept_by i (place_behind s.before s.block.place) off in
+      sym same ∙ at)
+
   -- an instruction that a path comes to, and that is no marker, stands in the place in force
   in_place : (h : History) (n : ℕ) (p : ℕ) (i : Instruction) (rest : List Instruction) (e : End) → StandsAt g h n (i ∷ rest) e → is_marker i ≡ false → place_of h ≡ Some p → InPlace g p i
-  in_place h n p i rest e s off at =
-      let same : place_of h ≡ place_behind s.before s.block.place = sym (kept_by i (place_of h) off) ∙ by_both i rest (place_of h) (place_behind s.before s.block.place) s.place ∙ kept_by i (place_behind s.before s.block.place) off in
-      record {
-        number = n;
-        block = s.block;
-        is = s.is;
-        stands = subst (λ (l : List Instruction). StandsIn p i s.block.place l) (sym s.whole) (stands_behind p i rest s.before s.block.place (sym same ∙ at));
-      }
+  in_place h n p i rest e s off at = record {
+    number = n;
+    block = s.block;
+    is = s.is;
+    stands = subst (λ (l : List Instruction). StandsIn p i s.block.place l) (sym s.whole) (stands_behind p i rest s.before s.block.place (place_before h n p i rest e s off at));
+  }
 
   pub path_in_place : (h : History) (n : ℕ) (p : ℕ) (i : Instruction) (rest : List Instruction) (e : End) → Path g h n (i ∷ rest) e → is_marker i ≡ false → place_of h ≡ Some p → InPlace g p i
   path_in_place h n p i rest e way off at = in_place h n p i rest e (stands_at h n (i ∷ rest) e way) off at
