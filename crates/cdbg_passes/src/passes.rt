@@ -52,8 +52,7 @@ impl UnitPass for CopyPropagation {
     }
 
     fn apply(&self, alloc: Global, unit: &Unit) -> Result<Option<Unit>, AllocError> {
-        let made = propagate_copies(alloc, unit)?;
-        Ok(Some(made))
+        propagate_copies(alloc, unit)
     }
 }
 

@@ -16,5 +16,6 @@ pub mod Found
 pub mod Ordering
 pub mod Turns
 pub mod AlongBlocks
+mod Standing
 pub mod Counting
 pub mod Pointed

@@ -1,6 +1,6 @@
 //! Copies by their numbers.
 
-ghost use Rattle.std.specs.Prelude.{◌≡◌, ◌↔◌, ℕ, ◌+◌, ◌<◌, ◌^◌, Some, None, IfOk, OnOk, IfSome, MatchOption, length, slice_get, true, false};
+ghost use Rattle.std.specs.Prelude.{◌≡◌, ◌≢◌, ◌↔◌, ℕ, ◌+◌, ◌<◌, ◌^◌, Some, None, IfOk, OnOk, IfSome, MatchOption, length, slice_get, slice_index_or, true, false};
 ghost use Rattle.copy_pass_rule.specs.declared.copies.CopyAt as declared-copy;
 ghost use Rattle.copy_pass_rule.specs.Flow.{stands_at};
 ghost use Rattle.copy_pass_rule.specs.Found.{AreApart, AreNumerable, AreWithin};
@@ -56,23 +56,28 @@ fn are_of_scalars(all: &[CopyAt], scalars: u32) -> bool
     true
 }
 
+/// Puts a number at an index of a row, which grows by zeros as far as that.
+fn put_in(row: &mut Vec<u32>, index: usize, number: u32) -> Result<(), AllocError>
+    ensures there { OnOk result (slice_index_or row.new.items index 0 ≡ number) }
+    ensures others { OnOk result ((other : ℕ) → other ≢ index
+        → slice_index_or row.new.items other 0 ≡ slice_index_or row.old.items other 0) }
+{
+    while row.len() <= index {
+        row.push(0)?;
+    }
+    row[index] = number;
+    Ok(())
+}
+
 /// Puts the number of a copy where it stands.
-fn put_number(
-    numbers: &mut [Vec<u32>],
-    copy: CopyAt,
-    number: u32,
-) -> Result<(), AllocError>
+fn put_number(numbers: &mut [Vec<u32>], copy: CopyAt, number: u32) -> Result<(), AllocError>
     requires block { copy.block < length numbers.old }
     ensures count { OnOk result (length numbers.new ≡ length numbers.old) }
     ensures there { OnOk result (number_at numbers.new copy.block copy.left ≡ number) }
-    ensures others { OnOk result ((block left : ℕ) → (block ≡ copy.block → left ≡ copy.left → ⊥) → number_at numbers.new block left ≡ number_at numbers.old block left) }
+    ensures others { OnOk result ((block left : ℕ) → (block ≡ copy.block → left ≡ copy.left → ⊥)
+        → number_at numbers.new block left ≡ number_at numbers.old block left) }
 {
-    let row = &mut numbers[copy.block as usize];
-    while row.len() <= copy.left {
-        row.push(0)?;
-    }
-    row[copy.left] = number;
-    Ok(())
+    put_in(&mut numbers[copy.block as usize], copy.left, number)
 }
 
 /// So many blocks without numbers.
@@ -80,7 +85,7 @@ fn no_numbers(alloc: Global, blocks: usize) -> Result<Vec<Vec<u32>>, AllocError>
     ensures { IfOk result (λ numbers. length numbers.items ≡ blocks) }
 {
     let mut numbers = Vec::new(alloc);
-    for _ in 0..blocks {
+    while numbers.len() < blocks {
         numbers.push(Vec::new(alloc))?;
     }
     Ok(numbers)

@@ -21,7 +21,8 @@ fn propagated_by(
 ) -> Result<Option<Graph>, AllocError>
     requires countable { IsCountable (graph_view graph.now) }
     requires few_copies { length copies.now < 2 ^ 31 }
-    ensures { IfOk result (λ o. MatchOption o (AreCopiesOf (graph_view graph.now) copies.now → ⊥) (λ made. IsPropagated (graph_view graph.now) (graph_view made))) }
+    ensures { IfOk result (λ o. MatchOption o (AreCopiesOf (graph_view graph.now) copies.now → ⊥)
+        (λ made. IsPropagated (graph_view graph.now) (graph_view made))) }
 {
     let scalars = graph.scalars.len() as u32;
     let Some(copies) = Copies::new(alloc, copies, graph.blocks.len(), scalars)? else {
@@ -42,7 +43,8 @@ fn propagated_by(
     }))
 }
 
-/// What copy propagation makes of a graph: by these copies, if they are those of the graph, else by those that are found.
+/// What copy propagation makes of a graph: by these copies, if they are those of the graph, else by those that are
+/// found.
 pub fn propagated(alloc: Global, graph: &Graph, copies: &[CopyAt]) -> Result<Graph, AllocError>
     requires countable { IsCountable (graph_view graph.now) }
     ensures { IfOk result (λ made. IsPropagated (graph_view graph.now) (graph_view made)) }
