@@ -58,7 +58,7 @@ fn copy_at(
     requires countable { IsCountable (graph_view graph.now) }
     requires numerable { AreNumerable found.now (length (graph_view graph.now).blocks) (length (graph_view graph.now).scalars) }
     requires few { length found.now < 2 ^ 31 }
-    requires stands { IsPoint (graph_view graph.now) number (instruction_view instruction.now) left }
+    requires stands { IsPoint (graph_view graph.now) number left (instruction_view instruction.now) }
     ensures { IfOk result (λ o. MatchOption o (MakesNone (graph_view graph.now) number left (instruction_view instruction.now) found.now) (Makes (graph_view graph.now) number left (instruction_view instruction.now) found.now)) }
 {
     let scalars = graph.scalars.len() as u32;
