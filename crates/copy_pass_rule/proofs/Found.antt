@@ -20,7 +20,7 @@ pub snoc_cases : {A : Type 0} (xs : List A) (y z : A) (k : ℕ) → slice_get (x
 snoc_cases [] y z zero at = inr (refl, same_Some y z at)
 snoc_cases [] y z (suc k) at = absurd (none-some z at)
 snoc_cases (x ∷ xs) y z zero at = inl at
-snoc_cases (x ∷ xs) y z (suc k) at = elim (snoc_cases xs y z k at) [ | inl f ↦ inl f | inr f ↦ inr (ap suc f.0, f.1) ]
+snoc_cases (x ∷ xs) y z (suc k) at = elim (snoc_cases xs y z k at) [ inl f ↦ inl f | inr f ↦ inr (ap suc f.0, f.1) ]
 
 abbrev pub tail : {A : Type 0} → List A → List A
 tail [] = []
@@ -126,7 +126,7 @@ module _ (g : Graph) where
     -- a copy is made there, that is missing at all points that are done
     pub found_one : (c : CopyAt) → c.block ≡ n → c.left ≡ length rest → made ≡ Move c.target (Name c.source) → AreOfOneType g.scalars c.target c.source
         → ((others : Bits) → AreFound (lines_of g.blocks) (found ++ c ∷ []) others → (k : ℕ) (d : Block) (front later : List Instruction) (j : Instruction) → slice_get g.blocks k ≡ Some d → d.instructions ≡ front ++ j ∷ later
-          → And Done n (length rest) k (length later) → missing_where c k (length (j ∷ later)) (map target_of d.instructions) (others k (suc (length found))) ≡ true)
+        → And Done n (length rest) k (length later) → missing_where c k (length (j ∷ later)) (map target_of d.instructions) (others k (suc (length found))) ≡ true)
         → AreFoundTo (And Done n (length rest)) (found ++ c ∷ [])
     found_one c block left makes typed later_missing = record {
       numerable = record {

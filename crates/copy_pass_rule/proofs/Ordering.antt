@@ -60,7 +60,7 @@ module _ (blocks : List Block) where
   begun n (put at) many lt = record {
     count = length-set (replicate n false) 0 true ∙ as_long n ∙ many;
     first = refl;
-    told = λ k e. elim (get_set (replicate n false) 0 k true true e) [ | inl f ↦ (0, ap Some (sym f.0)) | inr f ↦ absurd (only_false n k f.1) ];
+    told = λ k e. elim (get_set (replicate n false) 0 k true true e) [ inl f ↦ (0, ap Some (sym f.0)) | inr f ↦ absurd (only_false n k f.1) ];
     here = λ k l e. (let one = only_zero k l e in subst (λ m. slice_get (slice_set (replicate n false) 0 true) m ≡ Some true) one.1 (set_here (replicate n false) 0 false true at));
     once = λ j k l one two. (only_zero j l one).0 ∙ sym (only_zero k l two).0;
     led = λ k l e more. (let q = (only_zero k l e).0 in absurd (omega (arith, q, more)));
@@ -101,14 +101,14 @@ module _ (blocks : List Block) where
     led = λ k n e lt. elim (snoc_cases order label n k e) [
       | inl old ↦ led_still order label k n (are.led k n old lt)
       | inr last ↦ record {
-          turn = turn;
-          number = number;
-          block = b;
-          earlier = (let within = slice_get_within order turn number stands in let q = last.0 in omega (arith, within, q));
-          stands = snoc_old order (label ∷ []) turn number stands;
-          is = is;
-          leads = subst (λ m. Among m (targets_of b.end)) last.1 among;
-        }
+        turn = turn;
+        number = number;
+        block = b;
+        earlier = (let within = slice_get_within order turn number stands in let q = last.0 in omega (arith, within, q));
+        stands = snoc_old order (label ∷ []) turn number stands;
+        is = is;
+        leads = subst (λ m. Among m (targets_of b.end)) last.1 among;
+      }
     ];
   }
     where
@@ -171,10 +171,14 @@ module _ (blocks : List Block) where
       let grown = add_all added are turn number b stands is (λ l among. among) in
       let many = as_many_all added in
       let inside = slice_get_within new turn number (grown.stands turn number stands) in
-      record { are = grown.are; closed = λ k n l d less at there among within. elim (cases_lt k turn) [
-        | inl old ↦ earlier grown k n l d old at there among within
-        | inr last ↦ now grown k n l d (omega (arith, less, last)) at there among within
-      ]; fewer = omega (arith, many, inside, lt) }
+      record {
+        are = grown.are;
+        closed = λ k n l d less at there among within. elim (cases_lt k turn) [
+          | inl old ↦ earlier grown k n l d old at there among within
+          | inr last ↦ now grown k n l d (omega (arith, less, last)) at there among within
+        ];
+        fewer = omega (arith, many, inside, lt);
+      }
     where
       earlier : AreMore (targets_of b.end) order new has new_has → (k n l : ℕ) (d : Block) → k < turn → slice_get new k ≡ Some n → slice_get blocks n ≡ Some d → Among l (targets_of d.end) → l < length blocks → slice_get new_has l ≡ Some true
       earlier grown k n l d old at there among within =

@@ -31,7 +31,7 @@ module _ {A : Type 0} (view : A → Instruction) where
       let apart : length (writes (y ∷ left)) ≢ suc there = λ q. other (let many = as_many left in omega (arith, q, counts)) in
       ap (λ z. missing_where c n (suc there) (writes z) after) rest
       ∙ ap (missing_where c n (suc there) later)
-        (made ∙ ap (λ z. missing_behind c n z t before) counts ∙ ap (λ z. missing_behind c n (length later) z before) is ∙ ap (λ z. missing_behind c n (length later) (target_of (view z)) before) e)
+      (made ∙ ap (λ z. missing_behind c n z t before) counts ∙ ap (λ z. missing_behind c n (length later) z before) is ∙ ap (λ z. missing_behind c n (length later) (target_of (view z)) before) e)
       ∙ sym (ap (λ z. if z then before else missing_where c n (suc there) later (missing_behind c n (length later) (target_of (view y)) before)) (ne_eqb (length (writes (y ∷ left))) (suc there) apart)) ∙ so_far
 
   -- it has come to the point

@@ -40,13 +40,13 @@ module _ (copies : List CopyAt) (n : ℕ) (all : List Instruction) (start : ℕ 
         (let writes : List (Option ℕ) = map target_of left in
         let many : length writes ≡ length left = length-map left target_of in
         let split : map target_of all ≡ map target_of s.before ++ target_of i ∷ writes =
-            ap (map target_of) s.parts ∙ map-append target_of s.before (i ∷ left) in
+        ap (map target_of) s.parts ∙ map-append target_of s.before (i ∷ left) in
         let here : List (Option ℕ) → Bool = λ ts. missing_where c n (length (target_of i ∷ writes)) ts (start k) in
         let step : missing_where c n (length writes) (map target_of all) (start k)
-            ≡ missing_behind c n (length writes) (target_of i) (here (map target_of all)) =
-            ap (λ ts. missing_where c n (length writes) ts (start k)) split
-            ∙ where_step c n (map target_of s.before) (target_of i) writes (start k)
-            ∙ ap (λ ts. missing_behind c n (length writes) (target_of i) (here ts)) (sym split) in
+        ≡ missing_behind c n (length writes) (target_of i) (here (map target_of all)) =
+        ap (λ ts. missing_where c n (length writes) ts (start k)) split
+        ∙ where_step c n (map target_of s.before) (target_of i) writes (start k)
+        ∙ ap (λ ts. missing_behind c n (length writes) (target_of i) (here ts)) (sym split) in
         steps k c is ∙ ap (missing_behind c n (length left) (target_of i)) (s.at k c is)
         ∙ ap (λ m. missing_behind c n m (target_of i) (missing_where c n (suc m) (map target_of all) (start k))) (sym many) ∙ sym step
         ∙ ap (λ m. missing_where c n m (map target_of all) (start k)) many);

@@ -17,7 +17,7 @@ use Rattle.copy_pass_rule.proofs.LaterCopies.{missed_told, stays_where, missing_
 use Rattle.copy_pass_rule.proofs.Found.{AreFoundTo, And, found_none, found_one}
 
 cases_below : (j k : ℕ) → j ≤ k → (j < k) ⊎ (j ≡ k)
-cases_below j k le = elim (cases_eq j k) [ | inl q ↦ inr q | inr q ↦ inl (omega (arith, le, q)) ]
+cases_below j k le = elim (cases_eq j k) [ inl q ↦ inr q | inr q ↦ inl (omega (arith, le, q)) ]
 
 -- A point is past: in one of the first so many blocks of the order.
 abbrev pub IsPast : (order : List ℕ) (turn : ℕ) → (n left : ℕ) → Type 0
@@ -62,10 +62,10 @@ module _ (g : Graph) (order : List ℕ) (is : IsInOrder g.blocks order) where
   -- all of a block is done: it is past
   pub passed_by : (turn : ℕ) (found : List CopyAt) → AreFoundTo g (IsDone order turn 0) found → AreFoundTo g (IsPast order (turn + 1)) found
   passed_by turn found are = done_as (IsDone order turn 0) (IsPast order (turn + 1)) found
-      (λ m left done. elim done [ | inl f ↦ (f.0, (let lt = f.1 in omega (arith, lt)), f.2) | inr f ↦ (turn, omega arith, f.0) ]) back are
+      (λ m left done. elim done [ inl f ↦ (f.0, (let lt = f.1 in omega (arith, lt)), f.2) | inr f ↦ (turn, omega arith, f.0) ]) back are
     where
       back : (m : ℕ) (d : Block) (before rest : List Instruction) (i : Instruction) → slice_get g.blocks m ≡ Some d → d.instructions ≡ before ++ i ∷ rest → IsPast order (turn + 1) m (length rest) → IsDone order turn 0 m (length rest)
-      back m d before rest i there parts f = elim (cases_below f.0 turn (let lt = f.1 in omega (arith, lt))) [ | inl less ↦ inl (f.0, less, f.2) | inr q ↦ inr (subst (λ k. slice_get order k ≡ Some m) q f.2, omega arith) ]
+      back m d before rest i there parts f = elim (cases_below f.0 turn (let lt = f.1 in omega (arith, lt))) [ inl less ↦ inl (f.0, less, f.2) | inr q ↦ inr (subst (λ k. slice_get order k ≡ Some m) q f.2, omega arith) ]
 
   module _ (turn : ℕ) (found : List CopyAt) (n : ℕ) (b : Block) (before rest : List Instruction) (i : Instruction) (stands : slice_get order turn ≡ Some n) (at : slice_get g.blocks n ≡ Some b) (parts : b.instructions ≡ before ++ i ∷ rest)
       (so_far : AreFoundTo g (IsDone order turn (length (i ∷ rest))) found) (bits : Bits) (told : AreFound (lines_of g.blocks) found bits) (missing : ℕ → Bool) (are : AreMissingAt found bits n b (i ∷ rest) missing) where

@@ -91,7 +91,7 @@ abbrev pub AreKnownIn : List Scalar → List CopyAt → (n : ℕ) → List Instr
 AreKnownIn scalars copies n all missing =
     (before rest : List Instruction) (i : Instruction) (here : ℕ → Bool) → all ≡ before ++ i ∷ rest
     → ((k : ℕ) (c : CopyAt) → slice_get copies k ≡ Some c
-        → here k ≡ missing_where c n (length (i ∷ rest)) (map target_of all) (missing k))
+    → here k ≡ missing_where c n (length (i ∷ rest)) (map target_of all) (missing k))
     → IsKnown scalars copies n (length rest) (reading (source_among copies here 0) i)
 
 -- the copies that are missing by the bits of a row

@@ -38,7 +38,7 @@ fn are_of_one_type(scalars: &[Scalar], target: u32, source: u32) -> bool
 pub fn copy_of(scalars: &[Scalar], instruction: &Instr) -> Option<(u32, u32)>
     ensures { MatchOption result (IsNoCopy (map scalar_view scalars.now) (instruction_view instruction.now))
         (λ pair. (instruction_view instruction.now ≡ Move pair.0 (NameOf pair.1))
-            × AreOfOneType (map scalar_view scalars.now) pair.0 pair.1) }
+        × AreOfOneType (map scalar_view scalars.now) pair.0 pair.1) }
 {
     match instruction {
         Instr::Move {
@@ -96,7 +96,7 @@ fn read_instructions(
         (map instruction_view made.items) (missing_in (bits_of walk.new) 0))) }
     ensures none { IfOk result (λ o. o ≡ None
         → AreKnownIn (map scalar_view scalars.now) copies.now.all.now number (map instruction_view instructions.now)
-            (missing_in (bits_of walk.old) 0)
+        (missing_in (bits_of walk.old) 0)
         → ⊥) }
 {
     let mut read = Vec::new(alloc);
@@ -140,7 +140,7 @@ fn read_block(
         (bits_of starts.now) number (block_view block.now) (block_view made))) }
     ensures none { IfOk result (λ o. o ≡ None
         → IsUnknownBlock (map scalar_view scalars.now) copies.now.all.now (bits_of starts.now) number
-            (block_view block.now)) }
+        (block_view block.now)) }
 {
     if !starts.get(number, 0) {
         let same = block.duplicate(alloc)?;
@@ -180,7 +180,7 @@ pub fn read_blocks(
         (bits_of starts.now) 0 (map block_view blocks.now) (map block_view made.items))) }
     ensures none { IfOk result (λ o. o ≡ None
         → IsSomeUnknown (map scalar_view scalars.now) copies.now.all.now (bits_of starts.now)
-            (map block_view blocks.now)) }
+        (map block_view blocks.now)) }
 {
     let mut walk = Marks::new(alloc, 1, copies.all.len() as u32 + 1)?;
     let mut number = 0u32;

@@ -12,17 +12,17 @@ use Rattle.copy_pass_rule.proofs.blocks.is_known.Goals as goal
 pub returns-in-None-None : goal.returns-in-None-None
 returns-in-None-None c = (
   (λ e.
-    known_none (map scalar_view c.args.scalars.now) c.args.copies.now.all.now c.args.block c.args.left (instruction_view c.args.instruction.now)
-    (MatchOption-at_none ((k : ℕ) (d : CopyAt) → slice_get c.args.copies.now.all.now k ≡ Some d → stands_at d c.args.block c.args.left ≡ false) (λ k. IsOnlyOne c.args.copies.now.all.now c.args.block c.args.left k) c.in-None-None.is-0 c.at.ensures)
-    c.in-None-None.ensures),
+      known_none (map scalar_view c.args.scalars.now) c.args.copies.now.all.now c.args.block c.args.left (instruction_view c.args.instruction.now)
+      (MatchOption-at_none ((k : ℕ) (d : CopyAt) → slice_get c.args.copies.now.all.now k ≡ Some d → stands_at d c.args.block c.args.left ≡ false) (λ k. IsOnlyOne c.args.copies.now.all.now c.args.block c.args.left k) c.in-None-None.is-0 c.at.ensures)
+      c.in-None-None.ensures),
   (λ known. refl),
 )
 
 pub returns-then-copy-target : goal.returns-then-copy-target
 returns-then-copy-target c = (
   (λ e.
-    known_by (map scalar_view c.args.scalars.now) c.args.copies.now.all.now c.args.block c.args.left (instruction_view c.args.instruction.now) c.in-Some-Some.k c.in-Some-Some.ensures c.in-Some-Some.target c.in-Some-Some.source (c.in-Some-Some.ensures').0 (c.in-Some-Some.ensures').1 _
-    c.if-copy-target.true (eqb-true _ _ e)),
+      known_by (map scalar_view c.args.scalars.now) c.args.copies.now.all.now c.args.block c.args.left (instruction_view c.args.instruction.now) c.in-Some-Some.k c.in-Some-Some.ensures c.in-Some-Some.target c.in-Some-Some.source (c.in-Some-Some.ensures').0 (c.in-Some-Some.ensures').1 _
+      c.if-copy-target.true (eqb-true _ _ e)),
   (λ known. eq-eqb _ _
-    (of_known (map scalar_view c.args.scalars.now) c.args.copies.now.all.now c.args.block c.args.left (instruction_view c.args.instruction.now) c.in-Some-Some.k c.in-Some-Some.ensures c.in-Some-Some.target c.in-Some-Some.source (c.in-Some-Some.ensures').0 (c.in-Some-Some.ensures').1 _ known).1),
+      (of_known (map scalar_view c.args.scalars.now) c.args.copies.now.all.now c.args.block c.args.left (instruction_view c.args.instruction.now) c.in-Some-Some.k c.in-Some-Some.ensures c.in-Some-Some.target c.in-Some-Some.source (c.in-Some-Some.ensures').0 (c.in-Some-Some.ensures').1 _ known).1),
 )

@@ -12,6 +12,6 @@ returns-in_ok-push c =
 
 pub returns-else-label-has : goal.returns-else-label-has
 returns-else-label-has c = stood (λ lt. elim c.else-label-has.branch [
-      else-label-has-via-then-label-has+else-not-has-label w ↦ slice_get-get_or c.args.has.now c.args.label false lt ∙ ap Some w.if-not-has-label.false
-    | else-label-has-via-else-label-has w ↦ absurd (omega (arith, lt, w.if-label-has.false))
-  ])
+  | else-label-has-via-then-label-has+else-not-has-label w ↦ slice_get-get_or c.args.has.now c.args.label false lt ∙ ap Some w.if-not-has-label.false
+  | else-label-has-via-else-label-has w ↦ absurd (omega (arith, lt, w.if-label-has.false))
+])
