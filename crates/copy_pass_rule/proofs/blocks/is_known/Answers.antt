@@ -1,4 +1,4 @@
-use Rattle.std.proofs.Common.{◌≡◌, ℕ, Some, false, true≢false, sym, map}
+use Rattle.std.proofs.Common.{◌≡◌, ℕ, Some, false, true≢false, refl, sym, map}
 use Rattle.std.specs.Prelude.{slice_get}
 use Rattle.std.proofs.lemmas.Bool.{eq-eqb, eqb-true}
 use Rattle.std.proofs.lemmas.Option.{MatchOption-at_none}
@@ -26,3 +26,6 @@ returns-then-copy-target c = (
   (λ known. eq-eqb _ _
       (of_known (map scalar_view c.args.scalars.now) c.args.copies.now.all.now c.args.block c.args.left (instruction_view c.args.instruction.now) c.in-Some-Some.k c.in-Some-Some.ensures c.in-Some-Some.target c.in-Some-Some.source (c.in-Some-Some.ensures').0 (c.in-Some-Some.ensures').1 _ known).1),
 )
+
+pub returns-in_default-2 : goal.returns-in_default-2
+returns-in_default-2 c = ((λ e. absurd (true≢false (sym e))), (λ known. ?))

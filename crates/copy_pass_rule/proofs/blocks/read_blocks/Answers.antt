@@ -27,3 +27,12 @@ loop-ahead-preserved c =
 
 pub returns-clause-read : goal.returns-clause-read
 returns-clause-read c = blocks_all block_view (map scalar_view c.args.scalars.now) c.args.copies.now.all.now (bits_of c.args.starts.now) (map block_view c.args.blocks.now) _ _ _ c.in_default.len_below c.loop-ahead.invariant.read
+
+pub returns-in_default-2-clause-none : goal.returns-in_default-2-clause-none
+returns-in_default-2-clause-none c = λ e. record {
+  number = c.loop-ahead.number;
+  block = block_view c.block-item.result;
+  is = one_from c.args.blocks.now c.loop-ahead.number block_view c.loop-ahead.ahead.now c.block-item.result _ c.in-len1-up.len_at_least
+      c.block-item.is c.loop-ahead.invariant.from;
+  unknown = c.in_ok-made.ensures.none c.in_default-2.is;
+}
