@@ -19,7 +19,8 @@ pub struct CopyAt {
     pub source: u32,
 }
 
-/// The number, from 1 on, of the copy that stands in a block with so many instructions behind it; 0 where there is none.
+/// The number, from 1 on, of the copy that stands in a block with so many instructions behind it; 0 where there is
+/// none.
 fn number_of(numbers: &[Vec<u32>], block: u32, left: usize) -> u32
     ensures { result ≡ number_at numbers.now block left }
 {
@@ -160,7 +161,10 @@ impl<'a> Copies<'a> {
 
     /// The number of the copy that stands in a block with so many instructions behind it.
     pub fn at(&self, block: u32, left: usize) -> Option<usize>
-        ensures { MatchOption result ((k : ℕ) (c : declared-copy.CopyAt) → slice_get self.now.all.now k ≡ Some c → stands_at c block left ≡ false) (λ k. IsOnlyOne self.now.all.now block left k) }
+        ensures { MatchOption result
+            ((k : ℕ) (c : declared-copy.CopyAt) → slice_get self.now.all.now k ≡ Some c → stands_at c block left
+            ≡ false)
+            (λ k. IsOnlyOne self.now.all.now block left k) }
     {
         let number = number_of(&self.numbers, block, left) as usize;
         if number == 0 || number > self.all.len() {

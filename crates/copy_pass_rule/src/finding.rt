@@ -31,7 +31,9 @@ fn walk_to(
     requires row { row < marks.old.count }
     requires width { marks.old.width ≡ length copies.now.all.now + 1 }
     requires narrow { length copies.now.all.now + 1 < 2 ^ 32 }
-    ensures walked { (k : ℕ) (c : declared-copy.CopyAt) → slice_get copies.now.all.now k ≡ Some c → bits_of marks.new row (suc k) ≡ missing_where c number (suc left) (line_of (block_view block.now)).writes (bits_of marks.old row (suc k)) }
+    ensures walked { (k : ℕ) (c : declared-copy.CopyAt) → slice_get copies.now.all.now k ≡ Some c
+        → bits_of marks.new row (suc k) ≡ missing_where c number (suc left) (line_of (block_view block.now)).writes
+        (bits_of marks.old row (suc k)) }
     ensures same_count { marks.new.count ≡ marks.old.count }
     ensures same_width { marks.new.width ≡ marks.old.width }
 {
@@ -56,10 +58,13 @@ fn copy_at(
     left: usize,
 ) -> Result<Option<CopyAt>, AllocError>
     requires countable { IsCountable (graph_view graph.now) }
-    requires numerable { AreNumerable found.now (length (graph_view graph.now).blocks) (length (graph_view graph.now).scalars) }
+    requires numerable { AreNumerable found.now (length (graph_view graph.now).blocks)
+        (length (graph_view graph.now).scalars) }
     requires few { length found.now < 2 ^ 31 }
     requires stands { IsPoint (graph_view graph.now) number left (instruction_view instruction.now) }
-    ensures { IfOk result (λ o. MatchOption o (MakesNone (graph_view graph.now) number left (instruction_view instruction.now) found.now) (Makes (graph_view graph.now) number left (instruction_view instruction.now) found.now)) }
+    ensures { IfOk result (λ o.
+        MatchOption o (MakesNone (graph_view graph.now) number left (instruction_view instruction.now) found.now)
+        (Makes (graph_view graph.now) number left (instruction_view instruction.now) found.now)) }
 {
     let scalars = graph.scalars.len() as u32;
     let Some(copies) = Copies::new(alloc, found, graph.blocks.len(), scalars)? else {
@@ -95,12 +100,15 @@ fn find_in(
     number: u32,
 ) -> Result<(), AllocError>
     requires countable { IsCountable (graph_view graph.now) }
-    requires numerable { AreNumerable found.old.items (length (graph_view graph.now).blocks) (length (graph_view graph.now).scalars) }
+    requires numerable { AreNumerable found.old.items (length (graph_view graph.now).blocks)
+        (length (graph_view graph.now).scalars) }
     requires few { length found.old.items + counted_in (slice_get (graph_view graph.now).blocks number) < 2 ^ 31 }
     requires new_block { (k : ℕ) (c : declared-copy.CopyAt) → slice_get found.old.items k ≡ Some c → c.block ≢ number }
     requires block { number < length (graph_view graph.now).blocks }
     ensures found { OnOk result (FindsIn (graph_view graph.now) number found.old.items found.new.items) }
-    ensures count { OnOk result (length found.new.items ≤ length found.old.items + counted_in (slice_get (graph_view graph.now).blocks number)) }
+    ensures count { OnOk result
+        (length found.new.items
+        ≤ length found.old.items + counted_in (slice_get (graph_view graph.now).blocks number)) }
 {
     let block = &graph.blocks[number as usize];
     let mut ahead: &[Instr] = &block.instructions;
@@ -115,7 +123,8 @@ fn find_in(
 
 /// The copies that a graph makes once each read is of what its name is a copy of.
 ///
-/// They are found one after the other, each as it is read by those that were found before: a copy that reaches a point on every path stands before it
+/// They are found one after the other, each as it is read by those that were found before: a copy that reaches a point
+/// on every path stands before it
 /// on the way by which the order comes there.
 pub fn find_copies(alloc: Global, graph: &Graph) -> Result<Vec<CopyAt>, AllocError>
     requires countable { IsCountable (graph_view graph.now) }
