@@ -37,5 +37,5 @@ returns-in_default-2 c =
     c.in_default.is-1 c.copy_of.ensures in (
       (λ e. absurd (true≢false (sym e))),
       (λ known. absurd (stands_alone scalars c.args.copies.now.all.now c.args.block c.args.left i c.in_default.field-0-0
-      c.in_default.ensures none known)),
+          c.in_default.ensures none known)),
     )

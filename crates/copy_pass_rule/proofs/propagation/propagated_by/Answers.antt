@@ -34,7 +34,7 @@ returns-in_default-2 c = λ are.
     let copies = c.in-Some.copies.all.now in
     let bits = bits_of c.in_ok-starts.starts in
     let same : copies ≡ c.args.copies.now =
-        subst (λ o. IfSome o (λ some. some.all.now ≡ c.args.copies.now)) c.in-Some.is c.in_ok-copies.ensures.all in
+    subst (λ o. IfSome o (λ some. some.all.now ≡ c.args.copies.now)) c.in-Some.is c.in_ok-copies.ensures.all in
     let found = subst (λ xs. AreFound (lines_of (map block_view xs)) copies bits) c.deref.ensures.value c.in_ok-starts.ensures.found in
     let unknown = subst (λ xs. IsSomeUnknown (map scalar_view g.scalars.items) copies bits (map block_view xs)) c.deref-3.ensures.value
     (subst (λ ss. IsSomeUnknown (map scalar_view ss) copies bits (map block_view c.deref-3.result.now)) c.deref-2.ensures.value
