@@ -3,11 +3,12 @@ use Rattle.std.proofs.Common.{◌≡◌, ℕ, suc, ◌+◌, ◌-◌, ◌≤◌, 
 use Rattle.std.specs.Prelude.{slice_get}
 use Rattle.std.proofs.lemmas.List.{length-map, map-append}
 use Rattle.base_laws.proofs.Lists.{map_at, rest_is}
-use Rattle.graph_core.specs.Graphs.{Instruction, Scalar}
+use Rattle.graph_core.specs.Graphs.{Graph, Instruction, Scalar}
 use Rattle.graph_core.specs.Uses.{target_of}
 use Rattle.copy_pass_rule.specs.declared.copies.CopyAt.{CopyAt}
 use Rattle.copy_pass_rule.specs.Copying.{reading}
-use Rattle.copy_pass_rule.specs.Flow.{AreKnownIn, IsKnown, missing_behind, missing_where, source_among}
+use Rattle.copy_pass_rule.specs.Flow.{AreFound, AreKnownIn, Bits, IsKnown, IsSomeUnknown, lines_of, missing_behind, missing_where, source_among}
+use Rattle.copy_pass_rule.specs.Found.{AreCopiesOf}
 use Rattle.copy_pass_rule.proofs.Missing.{where_start, where_step}
 
 -- A walk along a block stands before what is left of it, and knows what is missing there.
@@ -91,6 +92,13 @@ pub known_from : (scalars : List Scalar) (copies : List CopyAt) (n : ℕ) (all :
 known_from scalars copies n all start others same known =
     λ before rest i here parts at. known before rest i here parts
     (λ k c is. at k c is ∙ ap (missing_where c n (length (i ∷ rest)) (map target_of all)) (same k))
+
+-- Where a block is not known, the copies are not those of the graph.
+pub refused : (g : Graph) (copies : List CopyAt) (bits : Bits) → AreFound (lines_of g.blocks) copies bits
+    → IsSomeUnknown g.scalars copies bits g.blocks → AreCopiesOf g copies → ⊥
+refused g copies bits found some are =
+    some.unknown.unknown
+    (λ before rest i here parts at. are.known bits found some.number some.block before rest i some.is some.unknown.led parts here at)
 
 -- What is ahead are the members from a number on.
 abbrev pub AreFrom : {A : Type 0} (all left : List A) (number : ℕ) → Type 0
