@@ -1,20 +1,22 @@
 -- Copies that are found along a block, in the order of blocks.
-use Rattle.std.proofs.Common.{◌≡◌, ◌≢◌, ℕ, suc, ◌+◌, ◌-◌, ◌<◌, ◌≤◌, ◌⊎◌, inl, inr, Option, Some, List, [], ◌∷◌, ◌++◌, length, map, get_or, take, drop, refl, sym, ap, ◌∙◌, subst, arith, append_assoc, length-append}
+use Rattle.std.proofs.Common.{◌≡◌, ◌≢◌, ℕ, suc, ◌+◌, ◌-◌, ◌<◌, ◌≤◌, ◌^◌, ◌⊎◌, inl, inr, Option, Some, List, [], ◌∷◌, ◌++◌, length, map, get_or, take, drop, refl, sym, ap, ◌∙◌, subst, arith, append_assoc, length-append}
 use Rattle.std.specs.Prelude.{slice_get}
 use Rattle.std.proofs.lemmas.List.{length-map}
 use Rattle.std.proofs.lemmas.Option.{slice_get_within, same_Some}
-use Rattle.base_laws.proofs.Lists.{whole_is}
+use Rattle.base_laws.proofs.Lists.{there_is, whole_is}
 use Rattle.graph_core.specs.Graphs.{Operand, Name, Instruction, Marker, Note, Move, Block, Graph}
 use Rattle.graph_core.specs.Validity.{counts, total}
 use Rattle.copy_pass_rule.specs.declared.copies.CopyAt.{CopyAt}
 use Rattle.copy_pass_rule.specs.Along.{AreFoundAlong, done, no_copy, copy, IsReadBy, IsPoint, MakesNone, Makes, FindsIn, counted_in}
 use Rattle.copy_pass_rule.specs.Copying.{AreOfOneType, reading}
 use Rattle.copy_pass_rule.specs.Flow.{source_among}
-use Rattle.copy_pass_rule.specs.Found.{AreNumerable}
+use Rattle.copy_pass_rule.specs.Countable.{IsCountable}
+use Rattle.copy_pass_rule.specs.Found.{AreCopiesOf, AreNumerable}
 use Rattle.copy_pass_rule.specs.Known.{IsNoCopy}
 use Rattle.copy_pass_rule.specs.Order.{IsInOrder}
 use Rattle.copy_pass_rule.proofs.Found.{AreFoundTo, same_rest, snoc_cases, tail}
-use Rattle.copy_pass_rule.proofs.Turns.{IsDone, none_made, one_made}
+use Rattle.copy_pass_rule.proofs.Counting.{AreCounted, counted_on, none_counted, room_for}
+use Rattle.copy_pass_rule.proofs.Turns.{IsDone, IsPast, all_past, entered, none_made, none_past, not_past, one_made, passed_by}
 
 module _ (g : Graph) (order : List ℕ) (is : IsInOrder g.blocks order) (turn n : ℕ) (b : Block) (stands : slice_get order turn ≡ Some n) (at : slice_get g.blocks n ≡ Some b) where
   -- behind a block all its points are done
@@ -169,3 +171,41 @@ module _ {A : Type 0} (view : A → Instruction) (g : Graph) (n : ℕ) (old now 
   pub so_far_all : (left : List A) → length left < 1 → Far left now → AreFoundSoFar g n [] old now
   so_far_all [] lt are = are
   so_far_all (x ∷ left) lt are = absurd (omega arith)
+
+-- The copies are found that the first so many blocks of an order make, and they are at most as many as the instructions there.
+pub record AreFoundPast (g : Graph) (order : List ℕ) (turn : ℕ) (found : List CopyAt) : Type 0 where
+  pub are : AreFoundTo g (IsPast order turn) found
+  pub counted : AreCounted g order turn found
+
+module _ (g : Graph) (order : List ℕ) (is : IsInOrder g.blocks order) where
+  pub past_none : (found : List CopyAt) → found ≡ [] → AreFoundPast g order 0 found
+  past_none found none = subst (λ (cs : List CopyAt). AreFoundPast g order 0 cs) (sym none) (record { are = none_past g order is; counted = none_counted g order })
+
+  -- those of the next block
+  module _ (turn n : ℕ) (stands : slice_get order turn ≡ Some n) (found : List CopyAt) (so_far : AreFoundPast g order turn found) where
+    pub next_within : n < length g.blocks
+    next_within = is.within turn n stands
+
+    pub next_few : IsCountable g → length found + counted_in (slice_get g.blocks n) < 2 ^ 31
+    next_few countable =
+        let b = there_is g.blocks n next_within in
+        let room = room_for g order is turn n b.0 stands b.1 found so_far.counted in
+        let few = countable.instructions in
+        omega (arith, room, few)
+
+    pub next_apart : (k : ℕ) (c : CopyAt) → slice_get found k ≡ Some c → c.block ≢ n
+    next_apart = not_past g order is turn found n stands so_far.are
+
+    pub past_next : (new : List CopyAt) → FindsIn g n found new → length new ≤ length found + counted_in (slice_get g.blocks n) → AreFoundPast g order (turn + 1) new
+    past_next new finds count = record {
+      are = passed_by g order is turn new
+          (along g order is turn n finds.block stands finds.is finds.along [] refl (entered g order is turn found n finds.block stands finds.is so_far.are));
+      counted = counted_on g order is turn n finds.block stands finds.is found so_far.counted new count;
+    }
+
+  -- those of all
+  pub past_all : (turn : ℕ) (found : List CopyAt) → length order ≤ turn → AreFoundPast g order turn found → AreCopiesOf g found
+  past_all turn found finished so_far = all_past g order is found turn finished so_far.are
+
+  pub past_few : IsCountable g → (turn : ℕ) (found : List CopyAt) → AreFoundPast g order turn found → length found < 2 ^ 31
+  past_few countable turn found so_far = (let most = so_far.counted.bound in let few = countable.instructions in omega (arith, most, few))

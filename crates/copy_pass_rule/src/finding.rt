@@ -1,13 +1,13 @@
 //! The copies of a graph, found one after the other.
 
-ghost use Rattle.std.specs.Prelude.{◌≡◌, ◌≢◌, ◌≤◌, ℕ, suc, ◌+◌, ◌<◌, ◌^◌, IfOk, MatchOption, OnOk, Some, length, map, slice_get};
+ghost use Rattle.std.specs.Prelude.{◌≡◌, ◌≢◌, ◌≤◌, ℕ, suc, ◌+◌, ◌<◌, ◌^◌, [], IfOk, MatchOption, OnOk, Some, length, map, slice_get};
 ghost use Rattle.graph_core.specs.Graphs.{block_view, graph_view, instruction_view};
 ghost use Rattle.copy_pass_rule.specs.declared.copies.CopyAt as declared-copy;
 ghost use Rattle.copy_pass_rule.specs.Countable.{IsCountable};
 ghost use Rattle.copy_pass_rule.specs.Flow.{line_of, missing_where};
 ghost use Rattle.copy_pass_rule.specs.Along.{FindsIn, IsPoint, Makes, MakesNone, counted_in};
 ghost use Rattle.copy_pass_rule.specs.Found.{AreCopiesOf, AreNumerable};
-ghost use Rattle.graph_paths.specs.Flood.{AreSameBut};
+ghost use Rattle.copy_pass_rule.specs.Order.{IsInOrder};
 ghost use Rattle.graph_paths.specs.PathMarksTable.{bits_of};
 
 use crate::blocks::copy_of;
@@ -121,6 +121,25 @@ fn find_in(
     Ok(())
 }
 
+/// Finds the copies that the instructions of blocks in order make, where none is found yet.
+fn find_along(
+    alloc: Global,
+    graph: &Graph,
+    order: &[u32],
+    found: &mut Vec<CopyAt>,
+) -> Result<(), AllocError>
+    requires countable { IsCountable (graph_view graph.now) }
+    requires in_order { IsInOrder (graph_view graph.now).blocks order.now }
+    requires none { found.old.items ≡ [] }
+    ensures copies { OnOk result (AreCopiesOf (graph_view graph.now) found.new.items) }
+    ensures few { OnOk result (length found.new.items < 2 ^ 31) }
+{
+    for number in order {
+        find_in(alloc, graph, found, *number)?;
+    }
+    Ok(())
+}
+
 /// The copies that a graph makes once each read is of what its name is a copy of.
 ///
 /// They are found one after the other, each as it is read by those that were found before: a copy that reaches a point
@@ -133,8 +152,6 @@ pub fn find_copies(alloc: Global, graph: &Graph) -> Result<Vec<CopyAt>, AllocErr
 {
     let order = blocks_in_order(alloc, &graph.blocks)?;
     let mut found = Vec::new(alloc);
-    for number in &order {
-        find_in(alloc, graph, &mut found, *number)?;
-    }
+    find_along(alloc, graph, &order, &mut found)?;
     Ok(found)
 }
