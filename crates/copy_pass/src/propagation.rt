@@ -32,7 +32,8 @@ fn copy_name() -> PassName
 
 /// The graph with its copies propagated.
 ///
-/// The search goes along a graph once and says which copies there are in the end. By these the graph is read, and seen to
+/// The search goes along a graph once and says which copies there are in the end. By these the graph is read, and seen
+/// to
 /// make just them; else the rule finds the copies itself.
 fn graph_after(alloc: Global, graph: &Graph) -> Result<Graph, AllocError>
     requires countable { IsCountable (graph_view graph.now) }
@@ -57,7 +58,8 @@ fn graphs_after(alloc: Global, graphs: &[Graph]) -> Result<Vec<Graph>, AllocErro
     Ok(made)
 }
 
-/// Copy propagation (Aho, Lam, Sethi and Ullman 2006, section 9.1): a read of a scalar becomes a read of another one of the
+/// Copy propagation (Aho, Lam, Sethi and Ullman 2006, section 9.1): a read of a scalar becomes a read of another one of
+/// the
 /// same C type where one instruction that copies that one to it reaches on every path from the function's entry with
 /// neither written since, until there is no such read. In code that no path reaches nothing changes. The log tells each
 /// read that became another by a change `Replaced` of the pass `copy`: of the place, and of the variable that was read
