@@ -1,6 +1,7 @@
 //! The verdicts on all variables at all places.
 
 ghost use Rattle.std.specs.Prelude.{◌≡◌, ◌++◌, ℕ, IfOk, IfSome, MatchOption, get_or, map, true};
+ghost use Rattle.graph_core.specs.Graphs.{logged};
 ghost use Rattle.graph_homes.specs.Homed.{homed_view};
 ghost use Rattle.dead_pass_writes.specs.RemovedChangesTelling.{AreToldOf as AreRemovalsTold};
 ghost use Rattle.currency.specs.Telling.{AreRowsTold, AreSlotted, AreTold, IsNoneTold, IsToldOf, IsVerdictOn, told_at};
@@ -17,7 +18,7 @@ use crate::verdict::{PlaceVerdict, Verdict};
 use crate::written::are_written;
 use currency_hiding::Teller;
 use dead_pass_writes::RemovedChanges;
-use debug_records::{Place, Var};
+use debug_records::{Change, Place, Var};
 use graph_homes::HomedUnit;
 use places::{FlowTable, PlaceTable};
 use std::alloc::{AllocError, Global};
@@ -181,6 +182,17 @@ fn told_of_all<'a>(
     Ok(Some(told))
 }
 
+/// The changes by which assignments went. None where there are too many for numbers of 32 bits.
+fn removed_of(alloc: Global, changes: &[Change]) -> Result<Option<RemovedChanges>, AllocError>
+    ensures { IfOk result (λ o. IfSome o (λ removed. AreRemovalsTold (map logged changes.now) removed)) }
+{
+    if changes.len() >= 0xffff_ffff {
+        return Ok(None);
+    }
+    let removed = RemovedChanges::new(alloc, changes)?;
+    Ok(Some(removed))
+}
+
 /// The verdict on each variable that is visible at each place, in the order of places and then of variables.
 ///
 /// The places and their flow are the unit's, and its homes are those that are assigned by rule. None where a variable is not shown and nothing hides it, or a recipe
@@ -207,7 +219,7 @@ pub fn verdicts(
     ensures evident { IfOk result (λ o. IfSome o (λ v. AreEvident (homed_view homed.now).unit.log flow.now (homed_view homed.now) v.items)) }
 {
     let changes = homed.unit.log.changes();
-    let Some(removed) = RemovedChanges::new(alloc, changes)? else {
+    let Some(removed) = removed_of(alloc, changes)? else {
         return Ok(None);
     };
     let Some(told) = told_of_all(alloc, homed, &removed, places, flow)? else {

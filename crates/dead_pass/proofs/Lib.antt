@@ -3,3 +3,4 @@ pub mod Placed
 pub mod Noting
 pub mod Saying
 pub mod ByRule
+pub mod Bounded

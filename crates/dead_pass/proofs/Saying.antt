@@ -1,6 +1,6 @@
 -- Notes say what they shall, block by block.
 use Rattle.std.proofs.Common.{◌≡◌, ℕ, zero, suc, ◌+◌, ◌-◌, ◌≤◌, ◌⊎◌, inl, inr, Bool, true, false, true≢false, Option, Some, None, List, [], ◌∷◌, ◌++◌, length, map, take, drop, get_or, refl, sym, ap, ◌∙◌, subst, arith, append_assoc}
-use Rattle.std.specs.Prelude.{IfSome, slice_get}
+use Rattle.std.specs.Prelude.{slice_get}
 use Rattle.std.proofs.lemmas.Bool.{cases_Bool}
 use Rattle.std.proofs.lemmas.List.{length-append}
 use Rattle.std.proofs.lemmas.Option.{same_Some, none-some}
@@ -82,11 +82,6 @@ module _ (log : List Logged) (idle : IdleGraph) (borne : IsBorneOut idle) (none 
           | inr none_comes ↦ unreached_said log idle borne n b at none_comes [] b.instructions refl
         ]));
   }
-
--- what is so of what there is
-pub some_of : {A : Type 0} (o : Option A) (x : A) (P : A → Type 0) → o ≡ Some x → IfSome o P → P x
-some_of None x P e so = absurd (none-some x e)
-some_of (Some y) x P e so = subst P (same_Some y x e) so
 
 -- The last of a list, or one before it.
 last_or : {A : Type 0} (left : List A) (made c : A) (n : ℕ) → slice_get (left ++ made ∷ []) n ≡ Some c → (slice_get left n ≡ Some c) ⊎ ((n ≡ length left) × (made ≡ c))

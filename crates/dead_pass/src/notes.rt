@@ -37,7 +37,9 @@ fn untargeted(alloc: Global, callee: Callee, arguments: &[Operand]) -> Result<In
 
 /// Appends what is left of an instruction whose write goes: a call without its target, or nothing.
 fn push_gone(alloc: Global, instruction: &Instr, left: &mut Vec<Instr>) -> Result<(), AllocError>
-    ensures { OnOk result (map instruction_view left.new.items ≡ map instruction_view left.old.items ++ without (instruction_view instruction.now)) }
+    ensures { OnOk result
+        (map instruction_view left.new.items
+        ≡ map instruction_view left.old.items ++ without (instruction_view instruction.now)) }
 {
     if let Instr::Call {
         callee,
@@ -63,7 +65,11 @@ fn left_note(
     ensures note { IfOk result (λ left. IsNoteOf of.0 (instruction_view left)) }
     ensures same { OnOk result (HasOtherWays notes.old notes.new) }
     ensures room { OnOk result (HasRoom idle.now notes.old.ways → HasRoom idle.now notes.new.ways) }
-    ensures said { IfOk result (λ left. (log : List Logged) (b : BlockForm) (before rest : List InstructionForm) → IsReady log idle.now notes.old → IsHere idle.now notes.old note b before (NoteOf of.0 (note_view value.now)) rest → SaysAs (assignments_of idle.now) log (graph_of idle.now) note.spot.block rest b.end (NoteOf of.0 (note_view value.now)) (instruction_view left)) }
+    ensures said { IfOk result (λ left.
+        (log : List Logged) (b : BlockForm) (before rest : List InstructionForm) → IsReady log idle.now notes.old
+        → IsHere idle.now notes.old note b before (NoteOf of.0 (note_view value.now)) rest
+        → SaysAs (assignments_of idle.now) log (graph_of idle.now) note.spot.block rest b.end
+        (NoteOf of.0 (note_view value.now)) (instruction_view left)) }
 {
     let value = notes.said(alloc, idle, note, of, value)?;
     Ok(Instr::Note { of, value })
@@ -80,7 +86,11 @@ fn kept(
     ensures left { IfOk result (λ left. IsKeptAs (instruction_view instruction.now) (instruction_view left)) }
     ensures same { OnOk result (HasOtherWays notes.old notes.new) }
     ensures room { OnOk result (HasRoom idle.now notes.old.ways → HasRoom idle.now notes.new.ways) }
-    ensures said { IfOk result (λ left. (log : List Logged) (b : BlockForm) (before rest : List InstructionForm) → IsReady log idle.now notes.old → IsHere idle.now notes.old at b before (instruction_view instruction.now) rest → SaysAs (assignments_of idle.now) log (graph_of idle.now) at.spot.block rest b.end (instruction_view instruction.now) (instruction_view left)) }
+    ensures said { IfOk result (λ left.
+        (log : List Logged) (b : BlockForm) (before rest : List InstructionForm) → IsReady log idle.now notes.old
+        → IsHere idle.now notes.old at b before (instruction_view instruction.now) rest
+        → SaysAs (assignments_of idle.now) log (graph_of idle.now) at.spot.block rest b.end
+        (instruction_view instruction.now) (instruction_view left)) }
 {
     if let Instr::Note { of, value } = instruction {
         let note = left_note(alloc, idle, notes, at, *of, value)?;
@@ -100,10 +110,17 @@ fn push_left(
     instruction: &Instr,
     left: &mut Vec<Instr>,
 ) -> Result<(), AllocError>
-    ensures left { OnOk result (IsPushed goes (instruction_view instruction.now) (map instruction_view left.old.items) (map instruction_view left.new.items)) }
+    ensures left { OnOk result
+        (IsPushed goes (instruction_view instruction.now) (map instruction_view left.old.items)
+        (map instruction_view left.new.items)) }
     ensures same { OnOk result (HasOtherWays notes.old notes.new) }
     ensures room { OnOk result (HasRoom idle.now notes.old.ways → HasRoom idle.now notes.new.ways) }
-    ensures said { OnOk result ((log : List Logged) (b : BlockForm) (before rest : List InstructionForm) → goes ≡ false → IsReady log idle.now notes.old → IsHere idle.now notes.old at b before (instruction_view instruction.now) rest → IsSaidBehind (assignments_of idle.now) log (graph_of idle.now) at.spot.block b (instruction_view instruction.now) rest (map instruction_view left.old.items) (map instruction_view left.new.items)) }
+    ensures said { OnOk result
+        ((log : List Logged) (b : BlockForm) (before rest : List InstructionForm) → goes ≡ false → IsReady log
+        idle.now notes.old → IsHere idle.now notes.old at b before (instruction_view instruction.now) rest →
+        IsSaidBehind (assignments_of idle.now) log (graph_of idle.now) at.spot.block b
+        (instruction_view instruction.now) rest (map instruction_view left.old.items)
+        (map instruction_view left.new.items)) }
 {
     if goes {
         push_gone(alloc, instruction, left)?;
@@ -135,9 +152,16 @@ fn left_of(
     kept_place: Option<Place>,
     instructions: &[Instr],
 ) -> Result<Vec<Instr>, AllocError>
-    ensures left { IfOk result (λ left. AreLeftBy (is_going (turn_of idle.now.turns.items) number) (map instruction_view instructions.now) (map instruction_view left.items)) }
-    ensures ready { OnOk result ((log : List Logged) → IsReady log idle.now notes.old → IsReady log idle.now notes.new) }
-    ensures said { IfOk result (λ left. (log : List Logged) (b : BlockForm) → IsReady log idle.now notes.old → IsVisited idle.now number b → b.place ≡ placed kept_place → b.instructions ≡ map instruction_view instructions.now → AreSaid (assignments_of idle.now) log (graph_of idle.now) number b.end b.instructions (map instruction_view left.items)) }
+    ensures left { IfOk result (λ left.
+        AreLeftBy (is_going (turn_of idle.now.turns.items) number) (map instruction_view instructions.now)
+        (map instruction_view left.items)) }
+    ensures ready { OnOk result
+        ((log : List Logged) → IsReady log idle.now notes.old → IsReady log idle.now notes.new) }
+    ensures said { IfOk result (λ left.
+        (log : List Logged) (b : BlockForm) → IsReady log idle.now notes.old → IsVisited idle.now number b
+        → b.place ≡ placed kept_place → b.instructions ≡ map instruction_view instructions.now
+        → AreSaid (assignments_of idle.now) log (graph_of idle.now) number b.end b.instructions
+        (map instruction_view left.items)) }
 {
     notes.begin(number);
     let mut left = Vec::new(alloc);
@@ -162,9 +186,16 @@ fn left_block(
     number: u32,
     block: &Block,
 ) -> Result<Block, AllocError>
-    ensures left { IfOk result (λ left. IsLeftBlockBy (is_going (turn_of idle.now.turns.items)) (bits_of idle.now.reached 0) number (block_view block.now) (block_view left)) }
-    ensures ready { OnOk result ((log : List Logged) → IsReady log idle.now notes.old → IsReady log idle.now notes.new) }
-    ensures said { IfOk result (λ left. (log : List Logged) → IsReady log idle.now notes.old → slice_get (graph_of idle.now).blocks number ≡ Some (block_view block.now) → AreSaid (assignments_of idle.now) log (graph_of idle.now) number (block_view block.now).end (block_view block.now).instructions (block_view left).instructions) }
+    ensures left { IfOk result (λ left.
+        IsLeftBlockBy (is_going (turn_of idle.now.turns.items)) (bits_of idle.now.reached 0) number
+        (block_view block.now) (block_view left)) }
+    ensures ready { OnOk result
+        ((log : List Logged) → IsReady log idle.now notes.old → IsReady log idle.now notes.new) }
+    ensures said { IfOk result (λ left.
+        (log : List Logged) → IsReady log idle.now notes.old
+        → slice_get (graph_of idle.now).blocks number ≡ Some (block_view block.now)
+        → AreSaid (assignments_of idle.now) log (graph_of idle.now) number (block_view block.now).end
+        (block_view block.now).instructions (block_view left).instructions) }
 {
     if !idle.is_reached(number) {
         let same = block.duplicate(alloc)?;
@@ -185,8 +216,14 @@ fn blocks_left(
     blocks: &[Block],
 ) -> Result<Vec<Block>, AllocError>
     requires few { length blocks.now < 2 ^ 32 }
-    ensures left { IfOk result (λ left. AreLeftBlocksBy (is_going (turn_of idle.now.turns.items)) (bits_of idle.now.reached 0) 0 (map block_view blocks.now) (map block_view left.items)) }
-    ensures said { IfOk result (λ left. (log : List Logged) → IsReady log idle.now notes.old → (graph_of idle.now).blocks ≡ map block_view blocks.now → SaysWhatItShall (assignments_of idle.now) log (graph_of idle.now) (record (graph_of idle.now) { blocks = map block_view left.items })) }
+    ensures left { IfOk result (λ left.
+        AreLeftBlocksBy (is_going (turn_of idle.now.turns.items)) (bits_of idle.now.reached 0) 0
+        (map block_view blocks.now) (map block_view left.items)) }
+    ensures said { IfOk result (λ left.
+        (log : List Logged) → IsReady log idle.now notes.old
+        → (graph_of idle.now).blocks ≡ map block_view blocks.now
+        → SaysWhatItShall (assignments_of idle.now) log (graph_of idle.now)
+        (record (graph_of idle.now) { blocks = map block_view left.items })) }
 {
     let mut left = Vec::new(alloc);
     let mut number = 0u32;
@@ -200,25 +237,25 @@ fn blocks_left(
     Ok(left)
 }
 
-/// What is left of a graph, whose notes tell of what goes by these changes. None where it has 2^31 blocks or more.
+/// What is left of a graph, whose notes tell of what goes by these changes.
 pub fn graph_left(
     alloc: Global,
     idle: &IdleGraph<'_>,
     removed: &RemovedChanges,
-) -> Result<Option<Graph>, AllocError>
+) -> Result<Graph, AllocError>
     requires { IsBorneOut idle.now }
-    ensures left { IfOk result (λ o. IfSome o (λ left. IsReduced (assignments_of idle.now) (graph_of idle.now) (graph_view left))) }
-    ensures notes { IfOk result (λ o. IfSome o (λ left. (log : List Logged) (u : UnitForm) → AreToldOf log removed.now → IsGraph u (graph_of idle.now) → SaysWhatItShall (assignments_of idle.now) log (graph_of idle.now) (graph_view left))) }
+    ensures left { IfOk result (λ left. IsReduced (assignments_of idle.now) (graph_of idle.now) (graph_view left)) }
+    ensures notes { IfOk result (λ left.
+        (log : List Logged) (u : UnitForm) → AreToldOf log removed.now → IsGraph u (graph_of idle.now)
+        → SaysWhatItShall (assignments_of idle.now) log (graph_of idle.now) (graph_view left)) }
 {
     if idle.stays() {
         let same = idle.graph.duplicate(alloc)?;
-        return Ok(Some(same));
+        return Ok(same);
     }
-    let Some(mut notes) = Notes::new(alloc, idle, removed)? else {
-        return Ok(None);
-    };
+    let mut notes = Notes::new(alloc, idle, removed)?;
     let blocks = blocks_left(alloc, idle, &mut notes, &idle.graph.blocks)?;
-    Ok(Some(Graph {
+    Ok(Graph {
         entry: idle.graph.entry,
         parameters: Vec::from_slice(alloc, &idle.graph.parameters)?,
         scalars: Vec::from_slice(alloc, &idle.graph.scalars)?,
@@ -226,5 +263,5 @@ pub fn graph_left(
         name_count: idle.graph.name_count,
         first_moved: idle.graph.first_moved,
         blocks,
-    }))
+    })
 }

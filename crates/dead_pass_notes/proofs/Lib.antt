@@ -25,3 +25,4 @@ pub mod Keeping
 pub mod NamedNotes
 pub mod Removing
 pub mod Valid
+pub mod FewWrites

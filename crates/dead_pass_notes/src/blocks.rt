@@ -21,7 +21,9 @@ pub fn add_block(
     block: &Block,
     cases: &mut Vec<Case>,
 ) -> Result<(), AllocError>
-    ensures { OnOk result (Adds (IsRemovedIn (map scalar_view scalars.now) (is_going (turn_of turns.now) number) number (block_view block.now)) cases.old.items cases.new.items) }
+    ensures { OnOk result
+        (Adds (IsRemovedIn (map scalar_view scalars.now) (is_going (turn_of turns.now) number) number
+        (block_view block.now)) cases.old.items cases.new.items) }
 {
     let mut place = block.place;
     for index in 0..block.instructions.len() {

@@ -1,6 +1,6 @@
 //! What goes of a graph.
 
-ghost use Rattle.std.specs.Prelude.{◌≡◌, IfOk, List, true};
+ghost use Rattle.std.specs.Prelude.{◌<◌, ◌^◌, List, OnOk, length};
 ghost use Rattle.places.specs.declared.flow.Assignment.{Assignment};
 ghost use Rattle.graph_core.specs.Graphs.{graph_view};
 ghost use Rattle.pass_law.specs.Changes.{Adds};
@@ -14,22 +14,21 @@ use graph_core::Graph;
 use pass_law::Case;
 use std::alloc::AllocError;
 
-/// Appends the cases of a function: the assignments of scalars that go, where the turns tell what goes. They come block by block.
-///
-/// False where a block has a number of 2^32 or more. `AllocError` where memory was refused.
+/// Appends the cases of a function: the assignments of scalars that go, where the turns tell what goes. They come block
+/// by block. `AllocError` where memory was refused.
 pub fn removed_writes(
     graph: &Graph,
     turns: &[Vec<u32>],
     cases: &mut Vec<Case>,
-) -> Result<bool, AllocError>
-    ensures { IfOk result (λ whole. whole ≡ true → (assignments : List Assignment) → AreIdle assignments (graph_view graph.now) (is_going (turn_of turns.now)) → Adds (IsRemovedWrite assignments (graph_view graph.now)) cases.old.items cases.new.items) }
+) -> Result<(), AllocError>
+    requires few { length graph.now.blocks.items < 2 ^ 32 }
+    ensures { OnOk result ((assignments : List Assignment)
+        → AreIdle assignments (graph_view graph.now) (is_going (turn_of turns.now))
+        → Adds (IsRemovedWrite assignments (graph_view graph.now)) cases.old.items cases.new.items) }
 {
-    if graph.blocks.len() > 0xffff_ffff {
-        return Ok(false);
-    }
     for number in 0..graph.blocks.len() as u32 {
         let block = &graph.blocks[number as usize];
         add_block(&graph.scalars, turns, number, block, cases)?;
     }
-    Ok(true)
+    Ok(())
 }

@@ -1,17 +1,17 @@
 //! A graph and what goes of it.
 
-ghost use Rattle.std.specs.Prelude.{◌≡◌, ℕ, ◌<◌, ◌^◌, IfOk, IfSome, None, false, length, slice_index_or, true};
+ghost use Rattle.std.specs.Prelude.{◌≡◌, ℕ, ◌+◌, ◌<◌, ◌^◌, IfOk, IfSome, None, false, length, slice_index_or, true};
 ghost use Rattle.graph_core.specs.Graphs.{Name as OfName, graph_view, operand_view};
 ghost use Rattle.graph_core.specs.WellMarked.{IsLocal};
 ghost use Rattle.dead_pass_rule.specs.Asking.{is_going};
+ghost use Rattle.dead_pass_rule.specs.Free.{AreNamed};
 ghost use Rattle.dead_pass_rule.specs.Walks.{turn_of};
 ghost use Rattle.graph_paths.specs.PathMarksTable.{bits_of};
 
-use dead_pass_rule::{Heights, are_idle, turn_at};
-use dead_pass_search::{Points, idle_writes};
+use dead_pass_rule::{idle_writes, turn_at};
 use dead_pass_writes::PlaceWrites;
 use graph_core::{Graph, Name, Operand};
-use graph_paths::Marks;
+use graph_paths::{Marks, reached_blocks};
 use places::FlowTable;
 use std::alloc::{AllocError, Global};
 
@@ -27,7 +27,7 @@ pub struct IdleGraph<'a> {
     pub turns: Vec<Vec<u32>>,
     /// The blocks that paths reach, as bits of a row.
     pub reached: Marks,
-    pub ghost few: { length graph.now.blocks.items < 2 ^ 32 },
+    pub ghost few: { length graph.now.blocks.items + 2 < 2 ^ 32 },
 }
 
 /// Whether all writes of a block stay.
@@ -45,37 +45,28 @@ fn all_stay(turns: &[u32]) -> bool
 impl<'a> IdleGraph<'a> {
     ghost use Rattle.dead_pass_notes.specs.Idle.{IsBorneOut, assignments_of, graph_of};
 
-    /// A graph and what goes of it. None where that is not borne out, which no graph is known to meet.
+    /// A graph and what goes of it.
     pub fn new(
         alloc: Global,
         graph: &'a Graph,
         flow: &'a FlowTable,
-    ) -> Result<Option<IdleGraph<'a>>, AllocError>
-        ensures graph { IfOk result (λ o. IfSome o (λ idle. graph_of idle ≡ graph_view graph.now)) }
-        ensures assignments { IfOk result (λ o. IfSome o (λ idle. assignments_of idle ≡ flow.now.assignments.items)) }
-        ensures borne_out { IfOk result (λ o. IfSome o (λ idle. IsBorneOut idle)) }
+    ) -> Result<IdleGraph<'a>, AllocError>
+        requires few { length graph.now.blocks.items + 2 < 2 ^ 32 }
+        requires named { AreNamed (graph_view graph.now).blocks graph.now.name_count }
+        ensures graph { IfOk result (λ idle. graph_of idle ≡ graph_view graph.now) }
+        ensures assignments { IfOk result (λ idle. assignments_of idle ≡ flow.now.assignments.items) }
+        ensures borne_out { IfOk result (λ idle. IsBorneOut idle) }
     {
-        if graph.blocks.len() > 0xffff_ffff {
-            return Ok(None);
-        }
-        let points = Points::new(alloc, graph)?;
         let writes = PlaceWrites::new(alloc, graph)?;
-        let found = idle_writes(alloc, graph, flow, &points, &writes)?;
-        let heights = Heights {
-            columns: &found.columns,
-            names: &found.names,
-            rows: &found.rows,
-        };
-        let Some(reached) = are_idle(alloc, graph, flow, &found.turns, heights)? else {
-            return Ok(None);
-        };
-        Ok(Some(IdleGraph {
+        let reached = reached_blocks(alloc, &graph.blocks)?;
+        let turns = idle_writes(alloc, graph, flow, &writes, &reached)?;
+        Ok(IdleGraph {
             graph,
             flow,
             writes,
-            turns: found.turns,
+            turns,
             reached,
-        }))
+        })
     }
 
     /// Whether nothing goes.
@@ -106,7 +97,8 @@ impl<'a> IdleGraph<'a> {
 
     /// The temporary that an operand reads, where code motion did not make it.
     pub fn local(&self, operand: Operand) -> Option<Name>
-        ensures some { IfSome result (λ name. (operand_view operand ≡ OfName name.0) × IsLocal (graph_of self.now) name.0) }
+        ensures some { IfSome result
+            (λ name. (operand_view operand ≡ OfName name.0) × IsLocal (graph_of self.now) name.0) }
         ensures none { result ≡ None → (t : ℕ) → operand_view operand ≡ OfName t → IsLocal (graph_of self.now) t → ⊥ }
     {
         match operand {

@@ -84,7 +84,8 @@ fn gone_by(alloc: Global, change: Option<u32>, before: &NoteValue) -> Result<Not
 
 /// The variable of a scalar.
 fn var_of(graph: &Graph, name: Name) -> Option<Var>
-    ensures { option_map (λ (v : declared-var.Var). v.0) result ≡ option_map (λ (s : ScalarOf). s.variable) (slice_get (graph_view graph.now).scalars name.0) }
+    ensures { option_map (λ (v : declared-var.Var). v.0) result ≡ option_map (λ (s : ScalarOf). s.variable)
+        (slice_get (graph_view graph.now).scalars name.0) }
 {
     match graph.scalars.get(name.0 as usize) {
         Some(scalar) => Some(scalar.var),
@@ -94,8 +95,12 @@ fn var_of(graph: &Graph, name: Name) -> Option<Var>
 
 /// The number of the last change by which an assignment of a scalar in a place went.
 fn last_removed(graph: &Graph, removed: &RemovedChanges, place: Place, name: Name) -> Option<u32>
-    ensures some { (log : List Logged) → AreToldOf log removed.now → IfSome result (λ number. (variable : ℕ) × IsVariable (graph_view graph.now) name.0 variable × IsLastRemoval log place.0 variable number) }
-    ensures none { (log : List Logged) → AreToldOf log removed.now → result ≡ None → WasNeverRemoved log (graph_view graph.now) place.0 name.0 }
+    ensures some { (log : List Logged) → AreToldOf log removed.now
+        → IfSome result (λ number.
+        (variable : ℕ) × IsVariable (graph_view graph.now) name.0 variable
+        × IsLastRemoval log place.0 variable number) }
+    ensures none { (log : List Logged) → AreToldOf log removed.now → result ≡ None
+        → WasNeverRemoved log (graph_view graph.now) place.0 name.0 }
 {
     match var_of(graph, name) {
         Some(var) => removed.last(place, var),
@@ -105,8 +110,12 @@ fn last_removed(graph: &Graph, removed: &RemovedChanges, place: Place, name: Nam
 
 /// The number of the first such change.
 fn first_removed(graph: &Graph, removed: &RemovedChanges, place: Place, name: Name) -> Option<u32>
-    ensures some { (log : List Logged) → AreToldOf log removed.now → IfSome result (λ number. (variable : ℕ) × IsVariable (graph_view graph.now) name.0 variable × IsFirstRemoval log place.0 variable number) }
-    ensures none { (log : List Logged) → AreToldOf log removed.now → result ≡ None → WasNeverRemoved log (graph_view graph.now) place.0 name.0 }
+    ensures some { (log : List Logged) → AreToldOf log removed.now
+        → IfSome result (λ number.
+        (variable : ℕ) × IsVariable (graph_view graph.now) name.0 variable
+        × IsFirstRemoval log place.0 variable number) }
+    ensures none { (log : List Logged) → AreToldOf log removed.now → result ≡ None
+        → WasNeverRemoved log (graph_view graph.now) place.0 name.0 }
 {
     match var_of(graph, name) {
         Some(var) => removed.first(place, var),
@@ -116,8 +125,12 @@ fn first_removed(graph: &Graph, removed: &RemovedChanges, place: Place, name: Na
 
 /// The one assignment of a scalar in a place, where it goes.
 fn dropped(idle: &IdleGraph<'_>, place: Place, name: Name) -> Option<Spot>
-    ensures some { IsBorneOut idle.now → IfSome result (λ s. IsOnce (graph_of idle.now) place.0 name.0 s.block s.left × (is_going (turn_of idle.now.turns.items) s.block s.left ≡ true)) }
-    ensures none { IsBorneOut idle.now → result ≡ None → IsDropped (assignments_of idle.now) (graph_of idle.now) place.0 name.0 → ⊥ }
+    ensures some { IsBorneOut idle.now
+        → IfSome result (λ s.
+        IsOnce (graph_of idle.now) place.0 name.0 s.block s.left
+        × (is_going (turn_of idle.now.turns.items) s.block s.left ≡ true)) }
+    ensures none { IsBorneOut idle.now → result ≡ None
+        → IsDropped (assignments_of idle.now) (graph_of idle.now) place.0 name.0 → ⊥ }
 {
     let write = idle.writes.only(place.0, name.0)?;
     if idle.goes_at(write.block, write.left) {
@@ -132,29 +145,26 @@ impl<'a> Notes<'a> {
     ghost use Rattle.dead_pass_notes.specs.Sources.{HasRoom, IsKnown, IsSaidAt};
     ghost use Rattle.dead_pass_notes.specs.RemovalNotesStale.{AreKnown, HasComeBehind, HasOtherWays, HasSameWays};
 
-    /// What is known of a graph before anything is gone over. What goes is told by these changes. None where it has 2^31 blocks or more.
+    /// What is known of a graph before anything is gone over. What goes is told by these changes.
     pub fn new(
         alloc: Global,
         idle: &IdleGraph<'_>,
         removed: &'a RemovedChanges,
-    ) -> Result<Option<Notes<'a>>, AllocError>
+    ) -> Result<Notes<'a>, AllocError>
         requires { IsBorneOut idle.now }
-        ensures known { IfOk result (λ o. IfSome o (λ notes. AreKnown idle.now notes)) }
-        ensures room { IfOk result (λ o. IfSome o (λ notes. HasRoom idle.now notes.ways)) }
-        ensures removed { IfOk result (λ o. IfSome o (λ notes. notes.removed.now ≡ removed.now)) }
+        ensures known { IfOk result (λ notes. AreKnown idle.now notes) }
+        ensures room { IfOk result (λ notes. HasRoom idle.now notes.ways) }
+        ensures removed { IfOk result (λ notes. notes.removed.now ≡ removed.now) }
     {
         let order = reached_in_order(alloc, &idle.graph.blocks)?;
-        if idle.graph.blocks.len() > 0x7fff_ffff {
-            return Ok(None);
-        }
         let stale = stale_names(alloc, idle.graph, &idle.turns, &idle.reached, &order)?;
-        Ok(Some(Notes {
+        Ok(Notes {
             removed,
             stale,
             blocks: idle.graph.blocks.len() as u32,
             names: idle.graph.name_count,
             ways: Ways::new(alloc, idle.graph.blocks.len())?,
-        }))
+        })
     }
 
     /// What the note of an assignment that goes says: a recipe, or else the change.
@@ -169,7 +179,13 @@ impl<'a> Notes<'a> {
     ) -> Result<NoteValue, AllocError>
         ensures same { OnOk result (HasOtherWays self.old self.new) }
         ensures room { OnOk result (HasRoom idle.now self.old.ways → HasRoom idle.now self.new.ways) }
-        ensures said { IfOk result (λ v. (log : List Logged) → AreToldOf log self.old.removed.now → IsKnown idle.now self.old.stale note → HasRoom idle.now self.old.ways → IsOnce (graph_of idle.now) note.place.0 of.0 assignment.block assignment.left → is_going (turn_of idle.now.turns.items) assignment.block assignment.left ≡ true → IsSaidAt (assignments_of idle.now) log (graph_of idle.now) note of.0 (note_view before.now) (note_view v)) }
+        ensures said { IfOk result (λ v.
+            (log : List Logged) → AreToldOf log self.old.removed.now → IsKnown idle.now self.old.stale note
+            → HasRoom idle.now self.old.ways
+            → IsOnce (graph_of idle.now) note.place.0 of.0 assignment.block assignment.left
+            → is_going (turn_of idle.now.turns.items) assignment.block assignment.left ≡ true
+            → IsSaidAt (assignments_of idle.now) log (graph_of idle.now) note of.0 (note_view before.now)
+            (note_view v)) }
     {
         let recipe = recipe_of(
             alloc,
@@ -193,7 +209,8 @@ impl<'a> Notes<'a> {
     pub fn begin(&mut self, block: u32)
         ensures ways { HasSameWays self.old self.new }
         ensures known { (idle : declared-idle.IdleGraph) → AreKnown idle self.old → AreKnown idle self.new }
-        ensures come { (idle : declared-idle.IdleGraph) → AreKnown idle self.old → block < length (graph_of idle).blocks → (left : ℕ) → HasComeBehind idle self.new block [] left }
+        ensures come { (idle : declared-idle.IdleGraph) → AreKnown idle self.old → block < length (graph_of idle).blocks
+            → (left : ℕ) → HasComeBehind idle self.new block [] left }
     {
         if block < self.blocks {
             begin(self.blocks, self.names, &mut self.stale, block);
@@ -204,7 +221,12 @@ impl<'a> Notes<'a> {
     pub fn step(&mut self, target: Option<Name>, goes: bool)
         ensures ways { HasSameWays self.old self.new }
         ensures known { (idle : declared-idle.IdleGraph) → AreKnown idle self.old → AreKnown idle self.new }
-        ensures come { (idle : declared-idle.IdleGraph) (n : ℕ) (before : List InstructionForm) (i : InstructionForm) (left : ℕ) → AreKnown idle self.old → n < length (graph_of idle).blocks → option_map (λ (x : declared-name.Name). x.0) target ≡ target_of i → goes ≡ is_going (turn_of idle.turns.items) n left → HasComeBehind idle self.old n before (suc left) → HasComeBehind idle self.new n (before ++ i ∷ []) left }
+        ensures come { (idle : declared-idle.IdleGraph) (n : ℕ) (before : List InstructionForm) (i : InstructionForm)
+            (left : ℕ)
+            → AreKnown idle self.old → n < length (graph_of idle).blocks
+            → option_map (λ (x : declared-name.Name). x.0) target ≡ target_of i
+            → goes ≡ is_going (turn_of idle.turns.items) n left → HasComeBehind idle self.old n before (suc left)
+            → HasComeBehind idle self.new n (before ++ i ∷ []) left }
     {
         step(self.blocks, self.names, &mut self.stale, target, goes);
     }
@@ -220,7 +242,11 @@ impl<'a> Notes<'a> {
     ) -> Result<NoteValue, AllocError>
         ensures same { OnOk result (HasOtherWays self.old self.new) }
         ensures room { OnOk result (HasRoom idle.now self.old.ways → HasRoom idle.now self.new.ways) }
-        ensures said { IfOk result (λ v. (log : List Logged) → AreToldOf log self.old.removed.now → AreKnown idle.now self.old → IsKnown idle.now self.old.stale note → HasRoom idle.now self.old.ways → IsSaidAt (assignments_of idle.now) log (graph_of idle.now) note of.0 (note_view before.now) (note_view v)) }
+        ensures said { IfOk result (λ v.
+            (log : List Logged) → AreToldOf log self.old.removed.now → AreKnown idle.now self.old
+            → IsKnown idle.now self.old.stale note → HasRoom idle.now self.old.ways
+            → IsSaidAt (assignments_of idle.now) log (graph_of idle.now) note of.0 (note_view before.now)
+            (note_view v)) }
     {
         if let Some(assignment) = dropped(idle, note.place, of) {
             return self.said_of_dropped(alloc, idle, note, of, before, assignment);

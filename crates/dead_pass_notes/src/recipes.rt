@@ -45,8 +45,15 @@ enum Computed {
 
 /// What an instruction copies, if it does no more.
 fn copied(graph: &Graph, at: Spot) -> Option<Operand>
-    ensures some { IsPoint (graph_view graph.now) at.block (suc at.left) → IfSome result (λ a. (x : ℕ) × (left_at (graph_view graph.now) at.block (suc at.left) ≡ MoveForm x (operand_view a) ∷ left_at (graph_view graph.now) at.block at.left)) }
-    ensures none { IsPoint (graph_view graph.now) at.block (suc at.left) → result ≡ None → (x : ℕ) (a : OperandForm) (rest : List InstructionForm) → left_at (graph_view graph.now) at.block (suc at.left) ≢ MoveForm x a ∷ rest }
+    ensures some { IsPoint (graph_view graph.now) at.block (suc at.left)
+        → IfSome result (λ a.
+        (x : ℕ)
+        ×
+        (left_at (graph_view graph.now) at.block (suc at.left)
+        ≡ MoveForm x (operand_view a) ∷ left_at (graph_view graph.now) at.block at.left)) }
+    ensures none { IsPoint (graph_view graph.now) at.block (suc at.left) → result ≡ None
+        → (x : ℕ) (a : OperandForm) (rest : List InstructionForm)
+        → left_at (graph_view graph.now) at.block (suc at.left) ≢ MoveForm x a ∷ rest }
 {
     let [instruction, ..] = instructions_from(graph, at.block, at.left) else {
         return None;
@@ -67,15 +74,21 @@ fn is_same(mark: Option<Spot>, spot: Spot) -> bool
     }
 }
 
-/// The source of what an operand gives that an instruction reads: a temporary that code motion did not make gives what its one definition in the place does.
+/// The source of what an operand gives that an instruction reads: a temporary that code motion did not make gives what
+/// its one definition in the place does.
 fn source_of(
     idle: &IdleGraph<'_>,
     note: NotePoint,
     at: Spot,
     operand: Operand,
 ) -> Result<Source, AllocError>
-    ensures source { IfOk result (λ source. IsBorneOut idle.now → IsPoint (graph_of idle.now) at.block at.left → IsSource (graph_of idle.now) note source) }
-    ensures same { IfOk result (λ source. IsBorneOut idle.now → (r : RecipeForm) → IsRead (assignments_of idle.now) (graph_of idle.now) note at (operand_view operand) r ↔ Gives (assignments_of idle.now) (graph_of idle.now) note source r) }
+    ensures source { IfOk result (λ source.
+        IsBorneOut idle.now → IsPoint (graph_of idle.now) at.block at.left
+        → IsSource (graph_of idle.now) note source) }
+    ensures same { IfOk result (λ source.
+        IsBorneOut idle.now → (r : RecipeForm)
+        → IsRead (assignments_of idle.now) (graph_of idle.now) note at (operand_view operand) r ↔ Gives
+        (assignments_of idle.now) (graph_of idle.now) note source r) }
 {
     let mut at = at;
     let mut operand = operand;
@@ -104,7 +117,8 @@ fn source_of(
     Err(AllocError)
 }
 
-/// Whether a name still has at a note the value that an instruction reads: it is not stale at the note, and no way from there to the note writes it.
+/// Whether a name still has at a note the value that an instruction reads: it is not stale at the note, and no way from
+/// there to the note writes it.
 fn still_holds(
     idle: &IdleGraph<'_>,
     ways: &mut Ways,
@@ -114,7 +128,9 @@ fn still_holds(
     name: u32,
 ) -> Result<bool, AllocError>
     ensures room { OnOk result (HasRoom idle.now ways.old → HasRoom idle.now ways.new) }
-    ensures exact { IfOk result (λ is. IsKnown idle.now stale.now note → HasRoom idle.now ways.old → IsPoint (graph_of idle.now) at.block at.left → (is ≡ true) ↔ StillHolds (assignments_of idle.now) (graph_of idle.now) note at name) }
+    ensures exact { IfOk result (λ is.
+        IsKnown idle.now stale.now note → HasRoom idle.now ways.old → IsPoint (graph_of idle.now) at.block at.left
+        → (is ≡ true) ↔ StillHolds (assignments_of idle.now) (graph_of idle.now) note at name) }
 {
     if stale.get(idle.graph.blocks.len() as u32, name) {
         return Ok(false);
@@ -133,7 +149,11 @@ fn read_recipe(
     operand: Operand,
 ) -> Result<Option<Recipe>, AllocError>
     ensures room { OnOk result (HasRoom idle.now ways.old → HasRoom idle.now ways.new) }
-    ensures found { IfOk result (λ o. IsKnown idle.now stale.now note → HasRoom idle.now ways.old → IsSource (graph_of idle.now) note (ReadOf at operand) → (depth : ℕ) → IsFound (suc depth) (Gives (assignments_of idle.now) (graph_of idle.now) note (ReadOf at operand)) (option_map recipe_view o)) }
+    ensures found { IfOk result (λ o.
+        IsKnown idle.now stale.now note → HasRoom idle.now ways.old
+        → IsSource (graph_of idle.now) note (ReadOf at operand) → (depth : ℕ)
+        → IsFound (suc depth) (Gives (assignments_of idle.now) (graph_of idle.now) note (ReadOf at operand))
+        (option_map recipe_view o)) }
 {
     if let Operand::Name(name) = operand {
         if !still_holds(idle, ways, stale, note, at, name.0)? {
@@ -145,8 +165,13 @@ fn read_recipe(
 
 /// Of what sources an instruction computes its value.
 fn computed_at(idle: &IdleGraph<'_>, note: NotePoint, made: Spot) -> Result<Computed, AllocError>
-    ensures sources { IfOk result (λ computed. IsBorneOut idle.now → IsSource (graph_of idle.now) note (MadeAt made) → AreSources (graph_of idle.now) note computed) }
-    ensures same { IfOk result (λ computed. IsBorneOut idle.now → IsSource (graph_of idle.now) note (MadeAt made) → (r : RecipeForm) → IsMade (assignments_of idle.now) (graph_of idle.now) note made r ↔ Computes (assignments_of idle.now) (graph_of idle.now) note computed r) }
+    ensures sources { IfOk result (λ computed.
+        IsBorneOut idle.now → IsSource (graph_of idle.now) note (MadeAt made)
+        → AreSources (graph_of idle.now) note computed) }
+    ensures same { IfOk result (λ computed.
+        IsBorneOut idle.now → IsSource (graph_of idle.now) note (MadeAt made) → (r : RecipeForm)
+        → IsMade (assignments_of idle.now) (graph_of idle.now) note made r ↔ Computes (assignments_of idle.now)
+        (graph_of idle.now) note computed r) }
 {
     let [instruction, ..] = instructions_from(idle.graph, made.block, made.left) else {
         return Ok(Computed::Unknown);
@@ -185,7 +210,10 @@ fn recipe_at(
     depth: u32,
 ) -> Result<Option<Recipe>, AllocError>
     ensures room { OnOk result (HasRoom idle.now ways.old → HasRoom idle.now ways.new) }
-    ensures found { IfOk result (λ o. IsKnown idle.now stale.now note → HasRoom idle.now ways.old → IsSource (graph_of idle.now) note source → IsFound depth (Gives (assignments_of idle.now) (graph_of idle.now) note source) (option_map recipe_view o)) }
+    ensures found { IfOk result (λ o.
+        IsKnown idle.now stale.now note → HasRoom idle.now ways.old → IsSource (graph_of idle.now) note source
+        → IsFound depth (Gives (assignments_of idle.now) (graph_of idle.now) note source)
+        (option_map recipe_view o)) }
 {
     if depth == 0 {
         return Ok(None);
@@ -218,7 +246,8 @@ fn recipe_at(
     }
 }
 
-/// The recipe at a note of the right side of an assignment (Hennessy 1982), where there is one and it is at most so deep.
+/// The recipe at a note of the right side of an assignment (Hennessy 1982), where there is one and it is at most so
+/// deep.
 pub fn recipe_of(
     alloc: Global,
     idle: &IdleGraph<'_>,
@@ -229,7 +258,11 @@ pub fn recipe_of(
     depth: u32,
 ) -> Result<Option<Recipe>, AllocError>
     ensures room { OnOk result (HasRoom idle.now ways.old → HasRoom idle.now ways.new) }
-    ensures found { IfOk result (λ o. IsKnown idle.now stale.now note → HasRoom idle.now ways.old → IsPoint (graph_of idle.now) assignment.block (suc assignment.left) → IsFound depth (IsMade (assignments_of idle.now) (graph_of idle.now) note assignment) (option_map recipe_view o)) }
+    ensures found { IfOk result (λ o.
+        IsKnown idle.now stale.now note → HasRoom idle.now ways.old
+        → IsPoint (graph_of idle.now) assignment.block (suc assignment.left)
+        → IsFound depth (IsMade (assignments_of idle.now) (graph_of idle.now) note assignment)
+        (option_map recipe_view o)) }
 {
     let source = match copied(idle.graph, assignment) {
         Some(from) => source_of(idle, note, assignment, from)?,

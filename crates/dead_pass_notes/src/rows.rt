@@ -27,7 +27,8 @@ struct Staleness<'a> {
 impl Transfer for Staleness<'_> {
     ghost use Rattle.dead_pass_notes.specs.Rows.{going_stale};
 
-    ghost course = { λ s. going_stale (graph_view s.graph.now) (is_going (turn_of s.turns.now)) (bits_of s.reached.now 0) };
+    ghost course = { λ s. going_stale (graph_view s.graph.now) (is_going (turn_of s.turns.now))
+        (bits_of s.reached.now 0) };
 
     fn forward(&self) -> bool {
         true
@@ -45,7 +46,8 @@ impl Transfer for Staleness<'_> {
     }
 }
 
-/// The names that are stale at the starts of blocks: for each block that paths reach those that some path brings there stale, and, where the turns tell what goes, no others. The blocks are visited in this order first.
+/// The names that are stale at the starts of blocks: for each block that paths reach those that some path brings there
+/// stale, and, where the turns tell what goes, no others. The blocks are visited in this order first.
 pub fn stale_names(
     alloc: Global,
     graph: &Graph,
@@ -56,8 +58,11 @@ pub fn stale_names(
     requires few { length graph.now.blocks.items + 2 < 2 ^ 32 }
     requires led { AreLed (graph_view graph.now).blocks (bits_of reached.now 0) }
     ensures table { IfOk result (λ marks. IsTable (length graph.now.blocks.items) graph.now.name_count marks) }
-    ensures stale { IfOk result (λ marks. (assignments : List Assignment) → AreIdle assignments (graph_view graph.now) (is_going (turn_of turns.now)) → AreStale assignments (graph_view graph.now) graph.now.name_count marks) }
-    ensures all { IfOk result (λ marks. AreAll (graph_view graph.now) (is_going (turn_of turns.now)) (bits_of reached.now 0)
+    ensures stale { IfOk result (λ marks.
+        (assignments : List Assignment) → AreIdle assignments (graph_view graph.now) (is_going (turn_of turns.now))
+        → AreStale assignments (graph_view graph.now) graph.now.name_count marks) }
+    ensures all { IfOk result
+        (λ marks. AreAll (graph_view graph.now) (is_going (turn_of turns.now)) (bits_of reached.now 0)
         graph.now.name_count (bits_of marks)) }
 {
     let count = graph.blocks.len() as u32;

@@ -10,7 +10,8 @@ use dead_pass_rule::turn_at;
 use dead_pass_writes::Spot;
 use graph_core::Instr;
 
-/// Where a way comes that goes along instructions of a block: to the point that is sought, with a write on it or without, or to a marker, as if without; or
+/// Where a way comes that goes along instructions of a block: to the point that is sought, with a write on it or
+/// without, or to a marker, as if without; or
 /// to the end of the block.
 #[derive(Clone, Copy)]
 pub enum Scanned {
@@ -33,7 +34,8 @@ fn still_writes(
     instruction: &Instr,
     left: usize,
 ) -> bool
-    ensures { result ≡ stays_written (is_going (turn_of turns.now)) sought.to sought.name block (instruction_view instruction.now) left }
+    ensures { result ≡ stays_written (is_going (turn_of turns.now)) sought.to sought.name block
+        (instruction_view instruction.now) left }
 {
     match instruction.target() {
         Some(target) => target.0 == sought.name && turn_at(turns, block, left) == 0,
@@ -49,7 +51,8 @@ pub fn scan(
     instructions: &[Instr],
     was_written: bool,
 ) -> Scanned
-    ensures { result ≡ scan_of (is_going (turn_of turns.now)) sought.to sought.name block was_written (map instruction_view instructions.now) }
+    ensures { result ≡ scan_of (is_going (turn_of turns.now)) sought.to sought.name block was_written
+        (map instruction_view instructions.now) }
 {
     let mut is_written = was_written;
     let mut ahead = instructions;

@@ -6,7 +6,8 @@ ghost use Rattle.dead_pass_notes.specs.Spots.{left_at};
 
 use graph_core::{End, Graph, Instr};
 
-/// What is left of a block from a point on, behind which so many instructions stand; of a block that there is not, nothing.
+/// What is left of a block from a point on, behind which so many instructions stand; of a block that there is not,
+/// nothing.
 pub fn instructions_left<'a>(graph: &'a Graph, block: u32, left: usize) -> &'a [Instr]
     ensures { map instruction_view result.now ≡ left_at (graph_view graph.now) block left }
 {

@@ -34,7 +34,8 @@ fn step_in(row: u32, names: u32, marks: &mut Marks, target: Option<Name>, goes: 
     ensures others { AreSameBut row marks.old marks.new }
     ensures walk { (x : ℕ) → x < names
         → bits_of marks.new row x
-        ≡ (if is_written x (option_map (λ (n : declared-name.Name). n.0) target) then goes else bits_of marks.old row x) }
+        ≡ (if is_written x (option_map (λ (n : declared-name.Name). n.0) target) then goes
+        else bits_of marks.old row x) }
     ensures same_count { marks.new.count ≡ marks.old.count }
     ensures same_width { marks.new.width ≡ marks.old.width }
 {
@@ -48,7 +49,10 @@ pub fn step(blocks: u32, names: u32, marks: &mut Marks, target: Option<Name>, go
     requires table { IsTable blocks names marks.old }
     ensures table { IsTable blocks names marks.new }
     ensures others { AreSameBut blocks marks.old marks.new }
-    ensures walk { (x : ℕ) → x < names → bits_of marks.new blocks x ≡ (if is_written x (option_map (λ (n : declared-name.Name). n.0) target) then goes else bits_of marks.old blocks x) }
+    ensures walk { (x : ℕ) → x < names
+        → bits_of marks.new blocks x ≡
+        (if is_written x (option_map (λ (n : declared-name.Name). n.0) target) then goes else bits_of marks.old
+        blocks x) }
 {
     step_in(blocks, names, marks, target, goes);
 }

@@ -68,8 +68,12 @@ impl Ways {
     fn come_to(&mut self, block: u32, is_written: bool) -> Result<(), AllocError>
         ensures count { OnOk result (length self.new.seen.items ≡ length self.old.seen.items) }
         ensures seen { OnOk result (AreSeen self.old → AreSeen self.new) }
-        ensures ahead { OnOk result ((self.new.ahead.items ≡ self.old.ahead.items) ⊎ (self.new.ahead.items ≡ self.old.ahead.items ++ record { block = block; is_written = is_written } ∷ [])) }
-        ensures come { OnOk result (AreSeen self.old → number_of block is_written < length self.old.seen.items → HasCome self.new.ahead.items block is_written) }
+        ensures ahead { OnOk result
+            ((self.new.ahead.items ≡ self.old.ahead.items) ⊎ (self.new.ahead.items
+            ≡ self.old.ahead.items ++ record { block = block; is_written = is_written } ∷ [])) }
+        ensures come { OnOk result
+            (AreSeen self.old → number_of block is_written < length self.old.seen.items
+            → HasCome self.new.ahead.items block is_written) }
     {
         let number = block as usize * 2 + usize::from(is_written);
         if number >= self.seen.len() || self.seen[number] == self.search {
@@ -84,8 +88,11 @@ impl Ways {
     fn go_on(&mut self, end: &End, is_written: bool) -> Result<(), AllocError>
         ensures count { OnOk result (length self.new.seen.items ≡ length self.old.seen.items) }
         ensures seen { OnOk result (AreSeen self.old → AreSeen self.new) }
-        ensures grown { OnOk result (HasGrown (end_view end.now) (Leaves is_written) self.old.ahead.items self.new.ahead.items) }
-        ensures come { OnOk result ((count : ℕ) → length self.old.seen.items ≡ count * 2 → AreSeen self.old → (l : ℕ) → Among l (targets_of (end_view end.now)) → l < count → HasCome self.new.ahead.items l is_written) }
+        ensures grown { OnOk result
+            (HasGrown (end_view end.now) (Leaves is_written) self.old.ahead.items self.new.ahead.items) }
+        ensures come { OnOk result
+            ((count : ℕ) → length self.old.seen.items ≡ count * 2 → AreSeen self.old → (l : ℕ)
+            → Among l (targets_of (end_view end.now)) → l < count → HasCome self.new.ahead.items l is_written) }
     {
         match end {
             End::Return(_) => Ok(()),
@@ -101,7 +108,8 @@ impl Ways {
         }
     }
 
-    /// The search goes along instructions of a block with this end, and on from there. Tells whether it comes to the point that is sought, with a write on its way.
+    /// The search goes along instructions of a block with this end, and on from there. Tells whether it comes to the
+    /// point that is sought, with a write on its way.
     fn visit(
         &mut self,
         turns: &[Vec<u32>],
@@ -113,9 +121,18 @@ impl Ways {
     ) -> Result<bool, AllocError>
         ensures count { OnOk result (length self.new.seen.items ≡ length self.old.seen.items) }
         ensures seen { OnOk result (AreSeen self.old → AreSeen self.new) }
-        ensures grown { OnOk result (HasGrown (end_view end.now) (scan_of (is_going (turn_of turns.now)) sought.to sought.name block was_written (map instruction_view instructions.now)) self.old.ahead.items self.new.ahead.items) }
-        ensures found { IfOk result (λ is. is ≡ true → scan_of (is_going (turn_of turns.now)) sought.to sought.name block was_written (map instruction_view instructions.now) ≡ Stops true) }
-        ensures on { IfOk result (λ is. is ≡ false → (count : ℕ) → length self.old.seen.items ≡ count * 2 → AreSeen self.old → GoesOn count self.new.ahead.items (end_view end.now) (scan_of (is_going (turn_of turns.now)) sought.to sought.name block was_written (map instruction_view instructions.now))) }
+        ensures grown { OnOk result
+            (HasGrown (end_view end.now) (scan_of (is_going (turn_of turns.now)) sought.to sought.name block
+            was_written (map instruction_view instructions.now)) self.old.ahead.items self.new.ahead.items) }
+        ensures found { IfOk result (λ is.
+            is ≡ true
+            → scan_of (is_going (turn_of turns.now)) sought.to sought.name block was_written
+            (map instruction_view instructions.now) ≡ Stops true) }
+        ensures on { IfOk result (λ is.
+            is ≡ false → (count : ℕ) → length self.old.seen.items ≡ count * 2 → AreSeen self.old
+            → GoesOn count self.new.ahead.items (end_view end.now)
+            (scan_of (is_going (turn_of turns.now)) sought.to sought.name block was_written
+            (map instruction_view instructions.now))) }
     {
         match scan(turns, sought, block, instructions, was_written) {
             Scanned::Stops(is_written) => Ok(is_written),
@@ -134,7 +151,11 @@ impl Ways {
         sought: Sought,
     ) -> Result<bool, AllocError>
         ensures count { OnOk result (length self.new.seen.items ≡ length self.old.seen.items) }
-        ensures exact { IfOk result (λ is. (assignments : List Assignment) → IsReady assignments (graph_view graph.now) (is_going (turn_of turns.now)) sought.to self.old → AreSeen self.old → (is ≡ true) ↔ SomeComes assignments (graph_view graph.now) sought.to sought.name self.old.ahead.items) }
+        ensures exact { IfOk result (λ is.
+            (assignments : List Assignment)
+            → IsReady assignments (graph_view graph.now) (is_going (turn_of turns.now)) sought.to self.old
+            → AreSeen self.old
+            → (is ≡ true) ↔ SomeComes assignments (graph_view graph.now) sought.to sought.name self.old.ahead.items) }
     {
         for at in 0..usize::MAX {
             let Some(found) = self.ahead.get(at) else {
@@ -167,7 +188,13 @@ impl Ways {
         name: u32,
     ) -> Result<bool, AllocError>
         ensures count { OnOk result (length self.new.seen.items ≡ length self.old.seen.items) }
-        ensures exact { IfOk result (λ is. (assignments : List Assignment) → IsReady assignments (graph_view graph.now) (is_going (turn_of turns.now)) to self.old → IsPoint (graph_view graph.now) from.block from.left → (is ≡ true) ↔ IsWrittenBetween assignments (graph_view graph.now) to.block (left_at (graph_view graph.now) to.block (suc to.left)) name from.block (left_at (graph_view graph.now) from.block from.left) (end_at (graph_view graph.now) from.block)) }
+        ensures exact { IfOk result (λ is.
+            (assignments : List Assignment)
+            → IsReady assignments (graph_view graph.now) (is_going (turn_of turns.now)) to self.old
+            → IsPoint (graph_view graph.now) from.block from.left
+            → (is ≡ true) ↔ IsWrittenBetween assignments (graph_view graph.now) to.block
+            (left_at (graph_view graph.now) to.block (suc to.left)) name from.block
+            (left_at (graph_view graph.now) from.block from.left) (end_at (graph_view graph.now) from.block)) }
     {
         self.begin();
         let Some(block) = graph.blocks.get(from.block as usize) else {

@@ -12,7 +12,8 @@ use graph_core::{Name, Scalar};
 use pass_law::Case;
 use std::alloc::AllocError;
 
-/// A point of a graph: the place in force there, if there is one, its block, how many instructions stand before it, and whether what it writes goes.
+/// A point of a graph: the place in force there, if there is one, its block, how many instructions stand before it, and
+/// whether what it writes goes.
 #[derive(Drop)]
 pub struct Point {
     pub place: Option<Place>,
@@ -38,7 +39,9 @@ pub fn add_write(
     target: Option<Name>,
     cases: &mut Vec<Case>,
 ) -> Result<(), AllocError>
-    ensures { OnOk result (Adds (IsRemovedAt (map scalar_view scalars.now) point.now.goes (placed point.now.place) point.now.block point.now.index (option_map (λ (n : declared-name.Name). n.0) target)) cases.old.items cases.new.items) }
+    ensures { OnOk result
+        (Adds (IsRemovedAt (map scalar_view scalars.now) point.now.goes (placed point.now.place) point.now.block
+        point.now.index (option_map (λ (n : declared-name.Name). n.0) target)) cases.old.items cases.new.items) }
 {
     if !point.goes {
         return Ok(());

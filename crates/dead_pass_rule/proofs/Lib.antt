@@ -2,10 +2,9 @@ pub mod ReadNames
 pub mod Certificate
 pub mod Backward
 pub mod Walking
-pub mod Counted
-pub mod Rising
-pub mod Checking
-pub mod Adding
-pub mod RightBlocks
-pub mod Columns
+pub mod Freeing
+pub mod Turning
 pub mod AskedFlow
+pub mod Cascading
+pub mod BlockRows
+pub mod Passing

@@ -7,74 +7,50 @@ use Rattle.graph_core.specs.Uses.{target_of, targets_of, reads_of_end}
 use Rattle.graph_core.specs.Paths.{Among, reads, writes}
 use Rattle.graph_paths.specs.declared.marks.Marks.{Marks}
 use Rattle.graph_paths.specs.PathMarksTable.{bits_of}
-use Rattle.dead_pass_rule.specs.Asking.{Turns, is_gone, IsAsked, by_end, next, later, leads, TellsAsked}
-use Rattle.dead_pass_rule.specs.Walks.{IsTable, AreSameBut, AreSameBelow, AreAsked, IsToldOfOne, EachBehind, IsAskedWhere, IsToldWhere}
-use Rattle.dead_pass_rule.proofs.Backward.{at_last, before_last}
-use Rattle.dead_pass_rule.proofs.Certificate.{tells_more}
+use Rattle.dead_pass_rule.specs.Asking.{Turns, is_going, is_gone, IsAsked, by_end, next, later, leads, TellsAsked}
+use Rattle.dead_pass_rule.specs.Walks.{IsTable, AreSameBut, AreSameBelow, AreAsked, IsToldOfOne}
+use Rattle.dead_pass_rule.proofs.Certificate.{tells_more, tells_on_going}
 
--- what is told of writes stays where more is told
-each_more : (So : (x : ℕ) → Bool → List Instruction → Type 0) (told : List Bool) (v : Bool) (rest : List Instruction) → length rest ≤ length told → EachBehind So told rest → EachBehind So (told ++ v ∷ []) rest
-each_more So told v [] le each = tt
-each_more So told v (i ∷ rest) le each =
-    let lt : length rest < length told = omega (arith, le) in
-    ((λ x target. subst (λ b. So x b rest) (sym (before_last told v false (length rest) lt)) (each.0 x target)), each_more So told v rest (omega (arith, le)) each.1)
+-- Of each name it is told at least where something asks for it that stays, and just there where so it is told of blocks: at the end of a block, and before one instruction more.
+module _ (turns : Turns) (blocks names n : ℕ) (e : End) (first now : Marks) where
+  abbrev Tells : (now : Marks) → List Instruction → Type 0
+  Tells now rest = (x : ℕ) → x < names → TellsAsked turns (λ l. bits_of first l x) blocks x n (bits_of now blocks x) rest e
 
-each_next : (So : (x : ℕ) → Bool → List Instruction → Type 0) (told : List Bool) (v : Bool) (i : Instruction) (rest : List Instruction) → length told ≡ length rest → ((x : ℕ) → target_of i ≡ Some x → So x v rest) → EachBehind So told rest → EachBehind So (told ++ v ∷ []) (i ∷ rest)
-each_next So told v i rest count here each =
-    let at : slice_index_or (told ++ v ∷ []) (length rest) false ≡ v = ap (λ k. slice_index_or (told ++ v ∷ []) k false) (sym count) ∙ at_last told v false in
-    ((λ x target. subst (λ b. So x b rest) (sym at) (here x target)), each_more So told v rest (omega (arith, count)) each)
+  pub tells_first : ((l : ℕ) → l < blocks → Among l (targets_of e) → (x : ℕ) → x < names → bits_of first l x ≡ true → bits_of now blocks x ≡ true)
+      → ((x : ℕ) → x < names → Among x (reads_of_end e) → bits_of now blocks x ≡ true) → Tells now []
+  tells_first come read x lt = ((λ among. read x lt among), (λ l small to was. come l small to x lt was))
 
-module _ (turns : Turns) (blocks names n : ℕ) (e : End) (first : Marks) where
-  -- What a walk back over a block has found behind a point.
-  pub record IsWalked (now : Marks) (told : List Bool) (rest : List Instruction) : Type 0 where
-    pub asked : (all : List Block) → AreAsked turns all blocks names first → (x : ℕ) → x < names → bits_of now blocks x ≡ true → IsAsked turns all x n rest e
-    pub tells : (x : ℕ) → x < names → TellsAsked turns (λ l. bits_of first l x) blocks x n (bits_of now blocks x) rest e
-    pub asked_behind : (all : List Block) → AreAsked turns all blocks names first → EachBehind (IsAskedWhere turns all names n e) told rest
-    pub told_behind : EachBehind (IsToldWhere turns first blocks names n e) told rest
-    pub count : length told ≡ length rest
+  pub asked_first : ((x : ℕ) → x < names → bits_of now blocks x ≡ true → Among x (reads_of_end e) ⊎ IsToldOfOne blocks e first x)
+      → (all : List Block) → AreAsked turns all blocks names first → (x : ℕ) → x < names → bits_of now blocks x ≡ true → IsAsked turns all x n [] e
+  asked_first only all are x lt b = elim (only x lt b) [
+    | inl among ↦ by_end among
+    | inr one ↦ (let there = are one.l x one.within lt one.told in leads there.block one.among there.is there.asked)
+  ]
 
-  pub walked_first : (now : Marks) → ((l : ℕ) → l < blocks → Among l (targets_of e) → (x : ℕ) → x < names → bits_of first l x ≡ true → bits_of now blocks x ≡ true)
-      → ((x : ℕ) → x < names → Among x (reads_of_end e) → bits_of now blocks x ≡ true)
-      → ((x : ℕ) → x < names → bits_of now blocks x ≡ true → Among x (reads_of_end e) ⊎ IsToldOfOne blocks e first x) → IsWalked now [] []
-  walked_first now come read only = record {
-    asked = λ all are x lt b. elim (only x lt b) [
-      | inl among ↦ by_end among
-      | inr one ↦ (let there = are one.l x one.within lt one.told in leads there.block one.among there.is there.asked)
-    ];
-    tells = λ x lt. ((λ among. read x lt among), (λ l small to was. come l small to x lt was));
-    asked_behind = λ all are. tt;
-    told_behind = tt;
-    count = refl;
-  }
-
-  not_not : (b : Bool) → not b ≡ true → b ≡ false
-  not_not true q = sym q
-  not_not false q = refl
-
-  pub walked_next : (now more : Marks) (told longer : List Bool) (i : Instruction) (rest : List Instruction) (v gone : Bool) → longer ≡ told ++ v ∷ [] → ((x : ℕ) → target_of i ≡ Some x → v ≡ bits_of now blocks x) → gone ≡ is_gone turns n (length rest) i
-      → ((x : ℕ) → x < names → bits_of more blocks x ≡ ((not gone && reads x i) || (not (writes x i) && bits_of now blocks x))) → IsWalked now told rest → IsWalked more longer (i ∷ rest)
-  walked_next now more told longer i rest v gone grown is_told is_gone_now step w = record {
-    asked = λ all are x lt b. at_either all are x lt (or_cases (not gone && reads x i) (not (writes x i) && bits_of now blocks x) (sym (step x lt) ∙ b));
-    tells = λ x lt. (
-      (λ a. step x lt ∙ or_left (not gone && reads x i) (not (writes x i) && bits_of now blocks x) (ap (λ z. not z && reads x i) is_gone_now ∙ a)),
+  module _ (more : Marks) (i : Instruction) (rest : List Instruction) (gone : Bool) (is : gone ≡ is_gone turns n (length rest) i)
+      (step : (x : ℕ) → x < names → bits_of more blocks x ≡ ((not gone && reads x i) || (not (writes x i) && bits_of now blocks x))) where
+    pub tells_next : Tells now rest → Tells more (i ∷ rest)
+    tells_next tells x lt = (
+      (λ a. step x lt ∙ or_left (not gone && reads x i) (not (writes x i) && bits_of now blocks x) (ap (λ z. not z && reads x i) is ∙ a)),
       (λ unwritten. tells_more turns [] (λ l. bits_of first l x) blocks x n (bits_of now blocks x) (bits_of more blocks x) rest e
-          (λ was. step x lt ∙ or_right (not gone && reads x i) (not (writes x i) && bits_of now blocks x) (ap (λ z. not z && bits_of now blocks x) unwritten ∙ was)) (w.tells x lt)),
-    );
-    asked_behind = λ all are. subst (λ l. EachBehind (IsAskedWhere turns all names n e) l (i ∷ rest)) (sym grown)
-        (each_next (IsAskedWhere turns all names n e) told v i rest w.count (λ x target lt b. w.asked all are x lt (sym (is_told x target) ∙ b)) (w.asked_behind all are));
-    told_behind = subst (λ l. EachBehind (IsToldWhere turns first blocks names n e) l (i ∷ rest)) (sym grown)
-        (each_next (IsToldWhere turns first blocks names n e) told v i rest w.count
-        (λ x target lt. subst (λ b. TellsAsked turns (λ l. bits_of first l x) blocks x n b rest e) (sym (is_told x target)) (w.tells x lt)) w.told_behind);
-    count = ap (λ l. length l) grown ∙ length_more told v ∙ ap suc w.count;
-  }
-    where
-      length_more : (xs : List Bool) (y : Bool) → length (xs ++ y ∷ []) ≡ suc (length xs)
-      length_more [] y = refl
-      length_more (x ∷ xs) y = ap suc (length_more xs y)
+          (λ was. step x lt ∙ or_right (not gone && reads x i) (not (writes x i) && bits_of now blocks x) (ap (λ z. not z && bits_of now blocks x) unwritten ∙ was)) (tells x lt)),
+    )
 
-      at_either : (all : List Block) → AreAsked turns all blocks names first → (x : ℕ) → x < names → (((not gone && reads x i) ≡ true) ⊎ ((not (writes x i) && bits_of now blocks x) ≡ true)) → IsAsked turns all x n (i ∷ rest) e
-      at_either all are x lt (inl a) = next (ap (λ z. not z && reads x i) (sym is_gone_now) ∙ a)
-      at_either all are x lt (inr b) = (let both = and_parts (not (writes x i)) (bits_of now blocks x) b in later (not_not (writes x i) both.0) (w.asked all are x lt both.1))
+    pub asked_next : (all : List Block) → ((x : ℕ) → x < names → bits_of now blocks x ≡ true → IsAsked turns all x n rest e) → (x : ℕ) → x < names → bits_of more blocks x ≡ true → IsAsked turns all x n (i ∷ rest) e
+    asked_next all asked x lt b = by_part (or_cases (not gone && reads x i) (not (writes x i) && bits_of now blocks x) (sym (step x lt) ∙ b))
+      where
+        not_not : (z : Bool) → not z ≡ true → z ≡ false
+        not_not true q = sym q
+        not_not false q = refl
+
+        by_part : (((not gone && reads x i) ≡ true) ⊎ ((not (writes x i) && bits_of now blocks x) ≡ true)) → IsAsked turns all x n (i ∷ rest) e
+        by_part (inl a) = next (ap (λ z. not z && reads x i) (sym is) ∙ a)
+        by_part (inr later_on) = (let both = and_parts (not (writes x i)) (bits_of now blocks x) later_on in later (not_not (writes x i) both.0) (asked x lt both.1))
+
+-- where a write goes that nothing asks for, nothing more is asked for
+pub walked_going : (turns more : Turns) (blocks names n : ℕ) (e : End) (first now : Marks) (rest : List Instruction) → ((m k : ℕ) → is_going turns m k ≡ true → is_going more m k ≡ true)
+    → ((x : ℕ) → x < names → TellsAsked turns (λ l. bits_of first l x) blocks x n (bits_of now blocks x) rest e) → (x : ℕ) → x < names → TellsAsked more (λ l. bits_of first l x) blocks x n (bits_of now blocks x) rest e
+walked_going turns more blocks names n e first now rest f tells x lt = tells_on_going turns more f (λ l. bits_of first l x) blocks x n (bits_of now blocks x) rest e (tells x lt)
 
 -- the rows stay in order where that of a walk changes
 pub table_but : (blocks names : ℕ) (old new : Marks) → IsTable blocks names old → new.count ≡ old.count → new.width ≡ old.width → AreSameBut blocks old new → IsTable blocks names new

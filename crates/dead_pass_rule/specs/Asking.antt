@@ -32,8 +32,3 @@ module _ (turns : Turns) where
   abbrev pub TellsAsked : (told : ℕ → Bool) (count x n : ℕ) → (here : Bool) → List Instruction → End → Type 0
   TellsAsked told count x n here [] e = (Among x (reads_of_end e) → here ≡ true) × ((l : ℕ) → l < count → Among l (targets_of e) → told l ≡ true → here ≡ true)
   TellsAsked told count x n here (i ∷ rest) e = (asks n (length rest) i x ≡ true → here ≡ true) × (writes x i ≡ false → TellsAsked told count x n here rest e)
-
-  -- Where these are the greatest turns of computations that read a name and go, from the start of each block on, this is no less than any of them from a point on.
-  abbrev pub IsAbove : (greatest : ℕ → ℕ) (count x n : ℕ) → (here : ℕ) → List Instruction → End → Type 0
-  IsAbove greatest count x n here [] e = (l : ℕ) → l < count → Among l (targets_of e) → greatest l ≤ here
-  IsAbove greatest count x n here (i ∷ rest) e = (is_gone n (length rest) i ≡ true → reads x i ≡ true → turns n (length rest) ≤ here) × (writes x i ≡ false → IsAbove greatest count x n here rest e)

@@ -3,6 +3,6 @@ pub mod Removing
 pub mod Asking
 pub mod Certified
 pub mod Walks
-pub mod Counting
-pub mod Heights
-pub mod Checked
+pub mod Free
+pub mod Cascade
+pub mod Cascading

@@ -54,19 +54,6 @@ pub record IsToldOfOne (blocks : ℕ) (e : End) (marks : Marks) (x : ℕ) : Type
   pub within : l < blocks
   pub told : bits_of marks l x ≡ true
 
--- Of each write it is so what is told of its name behind it; it is told by how many instructions stand behind it.
-abbrev pub EachBehind : (So : (x : ℕ) → Bool → List Instruction → Type 0) → (told : List Bool) → List Instruction → Type 0
-EachBehind So told [] = ⊤
-EachBehind So told (i ∷ rest) = ((x : ℕ) → target_of i ≡ Some x → So x (slice_index_or told (length rest) false) rest) × EachBehind So told rest
-
--- a name is asked for where that is told
-abbrev pub IsAskedWhere : Turns → List Block → (names n : ℕ) → End → (x : ℕ) → Bool → List Instruction → Type 0
-IsAskedWhere turns all names n e x told rest = x < names → told ≡ true → IsAsked turns all x n rest e
-
--- and it is told where it is asked for
-abbrev pub IsToldWhere : Turns → Marks → (blocks names n : ℕ) → End → (x : ℕ) → Bool → List Instruction → Type 0
-IsToldWhere turns marks blocks names n e x told rest = x < names → TellsAsked turns (λ l. bits_of marks l x) blocks x n told rest e
-
 -- it is told of each name that is asked for at the start of a block
 abbrev pub AreTold : Turns → List Block → (names : ℕ) → Marks → Type 0
 AreTold turns all names marks =

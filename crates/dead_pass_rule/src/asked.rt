@@ -3,12 +3,11 @@
 ghost use Rattle.std.specs.Prelude.{◌≡◌, ◌≢◌, ◌⊎◌, ℕ, ◌+◌, ◌<◌, ◌^◌, ◌==◌, ◌&&◌, ◌||◌, not, List, Some, OnOk, IfOk, IfSome, length, map, option_map, true, false};
 ghost use Rattle.std.specs.List.{list_any};
 ghost use Rattle.graph_core.specs.declared.name.Name as declared-name;
-ghost use Rattle.graph_core.specs.Graphs.{Block as BlockForm, block_view, end_view, instruction_view};
+ghost use Rattle.graph_core.specs.Graphs.{block_view, end_view, instruction_view};
 ghost use Rattle.graph_core.specs.Paths.{Among, reads, writes};
 ghost use Rattle.graph_core.specs.Uses.{numbers, reads_of_end, targets_of};
 ghost use Rattle.graph_paths.specs.PathMarksTable.{bits_of};
-ghost use Rattle.dead_pass_rule.specs.Asking.{IsAsked, TellsAsked};
-ghost use Rattle.dead_pass_rule.specs.Walks.{AreAsked, AreSameBut, AreTold, EachBehind, IsAskedWhere, IsTable, IsToldOfOne, IsToldWhere, asked_before, is_written, turn_of};
+ghost use Rattle.dead_pass_rule.specs.Walks.{AreAsked, AreSameBut, AreTold, IsTable, IsToldOfOne, asked_before, is_written, turn_of};
 
 use crate::turns::is_gone;
 use graph_core::{Block, End, Instr, Name};
@@ -62,7 +61,7 @@ fn forget(row: u32, names: u32, marks: &mut Marks, target: Option<Name>)
 }
 
 /// Goes back over an instruction.
-fn step_back(
+pub fn step_back(
     alloc: Global,
     row: u32,
     names: u32,
@@ -95,7 +94,8 @@ fn join(blocks: u32, names: u32, marks: &mut Marks, from: u32)
     ensures others { AreSameBut blocks marks.old marks.new }
     ensures come { from < blocks → (x : ℕ) → bits_of marks.old from x ≡ true → bits_of marks.new blocks x ≡ true }
     ensures kept { (x : ℕ) → bits_of marks.old blocks x ≡ true → bits_of marks.new blocks x ≡ true }
-    ensures only { (x : ℕ) → bits_of marks.new blocks x ≡ true → (bits_of marks.old blocks x ≡ true) ⊎ ((from < blocks) × (bits_of marks.old from x ≡ true)) }
+    ensures only { (x : ℕ) → bits_of marks.new blocks x ≡ true → (bits_of marks.old blocks x ≡ true)
+        ⊎ ((from < blocks) × (bits_of marks.old from x ≡ true)) }
 {
     if from < blocks {
         let _is_new = marks.unite(from, blocks);
@@ -107,8 +107,11 @@ fn join_all(blocks: u32, names: u32, marks: &mut Marks, end: &End)
     requires table { IsTable blocks names marks.old }
     ensures table { IsTable blocks names marks.new }
     ensures others { AreSameBut blocks marks.old marks.new }
-    ensures come { (l : ℕ) → l < blocks → Among l (targets_of (end_view end.now)) → (x : ℕ) → bits_of marks.old l x ≡ true → bits_of marks.new blocks x ≡ true }
-    ensures only { (x : ℕ) → bits_of marks.new blocks x ≡ true → (bits_of marks.old blocks x ≡ true) ⊎ IsToldOfOne blocks (end_view end.now) marks.old x }
+    ensures come { (l : ℕ) → l < blocks → Among l (targets_of (end_view end.now)) → (x : ℕ) → bits_of marks.old l x
+        ≡ true
+        → bits_of marks.new blocks x ≡ true }
+    ensures only { (x : ℕ) → bits_of marks.new blocks x ≡ true → (bits_of marks.old blocks x ≡ true)
+        ⊎ IsToldOfOne blocks (end_view end.now) marks.old x }
 {
     match end {
         End::Return(_) => {}
@@ -125,7 +128,7 @@ fn join_all(blocks: u32, names: u32, marks: &mut Marks, end: &End)
 }
 
 /// A walk begins at the end of a block.
-fn begin(
+pub fn begin(
     alloc: Global,
     blocks: u32,
     names: u32,
@@ -136,9 +139,14 @@ fn begin(
     requires few { blocks + 2 < 2 ^ 32 }
     ensures table { OnOk result (IsTable blocks names marks.new) }
     ensures others { OnOk result (AreSameBut blocks marks.old marks.new) }
-    ensures come { OnOk result ((l : ℕ) → l < blocks → Among l (targets_of (end_view end.now)) → (x : ℕ) → x < names → bits_of marks.old l x ≡ true → bits_of marks.new blocks x ≡ true) }
-    ensures read { OnOk result ((x : ℕ) → x < names → Among x (reads_of_end (end_view end.now)) → bits_of marks.new blocks x ≡ true) }
-    ensures only { OnOk result ((x : ℕ) → x < names → bits_of marks.new blocks x ≡ true → Among x (reads_of_end (end_view end.now)) ⊎ IsToldOfOne blocks (end_view end.now) marks.old x) }
+    ensures come { OnOk result
+        ((l : ℕ) → l < blocks → Among l (targets_of (end_view end.now)) → (x : ℕ) → x < names
+        → bits_of marks.old l x ≡ true → bits_of marks.new blocks x ≡ true) }
+    ensures read { OnOk result
+        ((x : ℕ) → x < names → Among x (reads_of_end (end_view end.now)) → bits_of marks.new blocks x ≡ true) }
+    ensures only { OnOk result
+        ((x : ℕ) → x < names → bits_of marks.new blocks x ≡ true → Among x (reads_of_end (end_view end.now))
+        ⊎ IsToldOfOne blocks (end_view end.now) marks.old x) }
 {
     marks.keep(blocks + 1, blocks);
     join_all(blocks, names, marks, end);
@@ -148,46 +156,14 @@ fn begin(
 }
 
 /// Whether it is told at the walk's point of the name that is written.
-fn is_told(blocks: u32, marks: &Marks, target: Option<Name>) -> bool
-    ensures { (x : ℕ) → option_map (λ (n : declared-name.Name). n.0) target ≡ Some x → result ≡ bits_of marks.now blocks x }
+pub fn is_told(blocks: u32, marks: &Marks, target: Option<Name>) -> bool
+    ensures { (x : ℕ) → option_map (λ (n : declared-name.Name). n.0) target ≡ Some x → result
+        ≡ bits_of marks.now blocks x }
 {
     match target {
         Some(name) => marks.get(blocks, name.0),
         None => false,
     }
-}
-
-/// Walks back over a block. Tells of each instruction, the last first, whether the name that it writes is asked for behind it.
-pub fn walk_back(
-    alloc: Global,
-    turns: &[Vec<u32>],
-    blocks: u32,
-    names: u32,
-    marks: &mut Marks,
-    number: u32,
-    block: &Block,
-) -> Result<Vec<bool>, AllocError>
-    requires table { IsTable blocks names marks.old }
-    requires few { blocks + 2 < 2 ^ 32 }
-    ensures table { OnOk result (IsTable blocks names marks.new) }
-    ensures others { OnOk result (AreSameBut blocks marks.old marks.new) }
-    ensures asked { OnOk result ((all : List BlockForm) → AreAsked (turn_of turns.now) all blocks names marks.old → (x : ℕ) → x < names → bits_of marks.new blocks x ≡ true → IsAsked (turn_of turns.now) all x number (block_view block.now).instructions (block_view block.now).end) }
-    ensures tells { OnOk result ((x : ℕ) → x < names → TellsAsked (turn_of turns.now) (λ l. bits_of marks.old l x) blocks x number (bits_of marks.new blocks x) (block_view block.now).instructions (block_view block.now).end) }
-    ensures asked_behind { IfOk result (λ told. (all : List BlockForm) → AreAsked (turn_of turns.now) all blocks names marks.old → EachBehind (IsAskedWhere (turn_of turns.now) all names number (block_view block.now).end) told.items (block_view block.now).instructions) }
-    ensures told_behind { IfOk result (λ told. EachBehind (IsToldWhere (turn_of turns.now) marks.old blocks names number (block_view block.now).end) told.items (block_view block.now).instructions) }
-{
-    begin(alloc, blocks, names, marks, &block.end)?;
-    let mut told = Vec::new(alloc);
-    let instructions: &[Instr] = &block.instructions;
-    for left in 0..instructions.len() {
-        let at = instructions.len() - 1 - left;
-        let instruction = &instructions[at];
-        let asked = is_told(blocks, marks, instruction.target());
-        told.push(asked)?;
-        let gone = is_gone(turns, number, left, instruction);
-        step_back(alloc, blocks, names, marks, instruction, gone)?;
-    }
-    Ok(told)
 }
 
 /// Goes back over a block in a row.

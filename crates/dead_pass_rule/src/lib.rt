@@ -1,12 +1,10 @@
-//! The rule of the removal of dead assignments: which writes of a graph are idle, and a check that just these go.
+//! The rule of the removal of dead assignments: which writes of a graph are idle, and a cascade that finds just these.
 #![tactic(auto)]
 
 mod asked;
-mod checks;
-mod counts;
-mod heights;
+mod cascade;
+mod free;
 mod turns;
 
-pub use checks::are_idle;
-pub use heights::Heights;
+pub use cascade::idle_writes;
 pub use turns::{is_computation, turn_at};

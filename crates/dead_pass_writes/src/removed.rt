@@ -1,6 +1,6 @@
 //! The changes of a log by which assignments went.
 
-ghost use Rattle.std.specs.Prelude.{◌≡◌, ◌&&◌, ◌==◌, ℕ, IfOk, IfSome, OnOk, None, List, map};
+ghost use Rattle.std.specs.Prelude.{◌≡◌, ◌&&◌, ◌==◌, ◌+◌, ◌<◌, ◌^◌, ℕ, IfOk, IfSome, OnOk, None, List, length, map};
 ghost use Rattle.debug_records.specs.Change.{is_taken};
 ghost use Rattle.graph_core.specs.Graphs.{Logged, logged};
 ghost use Rattle.dead_pass_writes.specs.Removals.{IsFirstRemoval, IsLastRemoval, IsRemoval};
@@ -24,7 +24,8 @@ pub struct RemovedChanges {
 }
 
 impl RemovedChanges {
-    /// The number of the first change by which an assignment of a variable in a place went, if this one is behind the others.
+    /// The number of the first change by which an assignment of a variable in a place went, if this one is behind the
+    /// others.
     fn first_with(&self, place: u32, var: u32, number: u32) -> u32
         ensures { result ≡ first_with (told self.now place var) number }
     {
@@ -36,7 +37,8 @@ impl RemovedChanges {
 
     /// An assignment of a variable in a place went by the change of a number.
     fn add(&mut self, place: u32, var: u32, number: u32) -> Result<(), AllocError>
-        ensures { OnOk result ((p v : ℕ) → told self.new p v ≡ with_removal (place == p && var == v) number (told self.old p v)) }
+        ensures { OnOk result
+            ((p v : ℕ) → told self.new p v ≡ with_removal (place == p && var == v) number (told self.old p v)) }
     {
         let first = self.first_with(place, var, number);
         self.all.insert(
@@ -51,7 +53,10 @@ impl RemovedChanges {
 
     /// The change of a number may be one by which an assignment went.
     fn add_change(&mut self, change: &Change, number: u32) -> Result<(), AllocError>
-        ensures { OnOk result ((p v : ℕ) → told self.new p v ≡ with_removal (is_taken change.now.kind && (change.now.place.0 == p && change.now.var.0 == v)) number (told self.old p v)) }
+        ensures { OnOk result
+            ((p v : ℕ) → told self.new p v ≡ with_removal
+            (is_taken change.now.kind && (change.now.place.0 == p && change.now.var.0 == v)) number
+            (told self.old p v)) }
     {
         if change.kind.is_taken() {
             self.add(change.place.0, change.var.0, number)?;
@@ -59,13 +64,11 @@ impl RemovedChanges {
         Ok(())
     }
 
-    /// Those among these changes. None where there are 2^32 - 1 of them or more.
-    pub fn new(alloc: Global, changes: &[Change]) -> Result<Option<RemovedChanges>, AllocError>
-        ensures { IfOk result (λ o. IfSome o (λ removed. AreToldOf (map logged changes.now) removed)) }
+    /// Those among these changes.
+    pub fn new(alloc: Global, changes: &[Change]) -> Result<RemovedChanges, AllocError>
+        requires few { length changes.now + 1 < 2 ^ 32 }
+        ensures { IfOk result (λ removed. AreToldOf (map logged changes.now) removed) }
     {
-        if changes.len() >= 0xffff_ffff {
-            return Ok(None);
-        }
         let mut removed = RemovedChanges {
             all: BTreeMap::new(alloc),
         };
@@ -76,13 +79,15 @@ impl RemovedChanges {
             removed.add_change(change, number)?;
             ahead = rest;
         }
-        Ok(Some(removed))
+        Ok(removed)
     }
 
     /// The number of the first change by which an assignment of a variable in a place went.
     pub fn first(&self, place: Place, var: Var) -> Option<u32>
-        ensures first { (log : List Logged) → AreToldOf log self.now → IfSome result (λ number. IsFirstRemoval log place.0 var.0 number) }
-        ensures none { (log : List Logged) → AreToldOf log self.now → result ≡ None → (number : ℕ) → IsRemoval log place.0 var.0 number → ⊥ }
+        ensures first { (log : List Logged) → AreToldOf log self.now
+            → IfSome result (λ number. IsFirstRemoval log place.0 var.0 number) }
+        ensures none { (log : List Logged) → AreToldOf log self.now → result ≡ None → (number : ℕ)
+            → IsRemoval log place.0 var.0 number → ⊥ }
     {
         match self.all.get(&(place.0, var.0)) {
             Some(removals) => Some(removals.first),
@@ -92,8 +97,10 @@ impl RemovedChanges {
 
     /// The number of the last change by which an assignment of a variable in a place went.
     pub fn last(&self, place: Place, var: Var) -> Option<u32>
-        ensures last { (log : List Logged) → AreToldOf log self.now → IfSome result (λ number. IsLastRemoval log place.0 var.0 number) }
-        ensures none { (log : List Logged) → AreToldOf log self.now → result ≡ None → (number : ℕ) → IsRemoval log place.0 var.0 number → ⊥ }
+        ensures last { (log : List Logged) → AreToldOf log self.now
+            → IfSome result (λ number. IsLastRemoval log place.0 var.0 number) }
+        ensures none { (log : List Logged) → AreToldOf log self.now → result ≡ None → (number : ℕ)
+            → IsRemoval log place.0 var.0 number → ⊥ }
     {
         match self.all.get(&(place.0, var.0)) {
             Some(removals) => Some(removals.last),

@@ -47,7 +47,8 @@ fn once(written: Option<Written>) -> Option<Spot>
 impl PlaceWrites {
     /// An instruction writes a name in a place.
     fn add(&mut self, place: u32, name: u32, spot: Spot) -> Result<(), AllocError>
-        ensures { OnOk result ((p x : ℕ) → told self.new p x ≡ with_write (place == p && name == x) spot (told self.old p x)) }
+        ensures { OnOk result
+            ((p x : ℕ) → told self.new p x ≡ with_write (place == p && name == x) spot (told self.old p x)) }
     {
         let key = (place, name);
         let written = if self.all.contains_key(&key) {
@@ -61,7 +62,8 @@ impl PlaceWrites {
 
     /// The binding of a parameter writes a name in a place.
     fn add_bound(&mut self, place: u32, name: u32) -> Result<(), AllocError>
-        ensures { OnOk result ((p x : ℕ) → told self.new p x ≡ with_binding (place == p && name == x) (told self.old p x)) }
+        ensures { OnOk result
+            ((p x : ℕ) → told self.new p x ≡ with_binding (place == p && name == x) (told self.old p x)) }
     {
         self.all.insert((place, name), Written::More)?;
         Ok(())
@@ -74,7 +76,10 @@ impl PlaceWrites {
         target: Option<Name>,
         spot: Spot,
     ) -> Result<(), AllocError>
-        ensures { OnOk result ((p x : ℕ) → told self.new p x ≡ with_write (is_place p (option_map (λ (q : declared-place.Place). q.0) place) && is_name x (option_map (λ (n : declared-name.Name). n.0) target)) spot (told self.old p x)) }
+        ensures { OnOk result
+            ((p x : ℕ) → told self.new p x ≡ with_write (is_place p
+            (option_map (λ (q : declared-place.Place). q.0) place) && is_name x
+            (option_map (λ (n : declared-name.Name). n.0) target)) spot (told self.old p x)) }
     {
         let Some(in_force) = place else {
             return Ok(());
@@ -87,7 +92,9 @@ impl PlaceWrites {
 
     /// The instructions of a block write.
     fn add_block(&mut self, number: u32, block: &Block) -> Result<(), AllocError>
-        ensures { OnOk result ((p x : ℕ) → told self.new p x ≡ written_by p x (told self.old p x) (block_view block.now).place number (block_view block.now).instructions) }
+        ensures { OnOk result
+            ((p x : ℕ) → told self.new p x ≡ written_by p x (told self.old p x) (block_view block.now).place number
+            (block_view block.now).instructions) }
     {
         let mut place = block.place;
         let mut ahead = block.instructions.as_slice();
@@ -105,7 +112,8 @@ impl PlaceWrites {
 
     /// The binding of a parameter to a scalar writes it at the entry.
     fn add_binding(&mut self, entry: u32, binding: &Binding) -> Result<(), AllocError>
-        ensures { OnOk result ((p x : ℕ) → told self.new p x ≡ bound_by entry p x (told self.old p x) (binding_view binding.now ∷ [])) }
+        ensures { OnOk result
+            ((p x : ℕ) → told self.new p x ≡ bound_by entry p x (told self.old p x) (binding_view binding.now ∷ [])) }
     {
         match binding {
             Binding::Scalar(name) => self.add_bound(entry, name.0),
@@ -115,7 +123,8 @@ impl PlaceWrites {
 
     /// The bindings of parameters write at the entry.
     fn add_bindings(&mut self, entry: u32, bindings: &[Binding]) -> Result<(), AllocError>
-        ensures { OnOk result ((p x : ℕ) → told self.new p x ≡ bound_by entry p x (told self.old p x) (map binding_view bindings.now)) }
+        ensures { OnOk result
+            ((p x : ℕ) → told self.new p x ≡ bound_by entry p x (told self.old p x) (map binding_view bindings.now)) }
     {
         let mut ahead = bindings;
         while let [binding, rest @ ..] = ahead {
@@ -128,7 +137,8 @@ impl PlaceWrites {
     /// The blocks write.
     fn add_blocks(&mut self, blocks: &[Block]) -> Result<(), AllocError>
         requires few { length blocks.now < 2 ^ 32 }
-        ensures { OnOk result ((p x : ℕ) → told self.new p x ≡ written_in p x (told self.old p x) 0 (map block_view blocks.now)) }
+        ensures { OnOk result
+            ((p x : ℕ) → told self.new p x ≡ written_in p x (told self.old p x) 0 (map block_view blocks.now)) }
     {
         let mut number = 0u32;
         let mut ahead = blocks;
@@ -155,7 +165,8 @@ impl PlaceWrites {
 
     /// The one instruction that writes a name in a place, where nothing else writes it there.
     pub fn only(&self, place: u32, name: u32) -> Option<Spot>
-        ensures { (g : GraphForm) → Tells g self.now → (s : Spot) → (result ≡ Some s) ↔ IsOnce g place name s.block s.left }
+        ensures { (g : GraphForm) → Tells g self.now → (s : Spot)
+            → (result ≡ Some s) ↔ IsOnce g place name s.block s.left }
     {
         let written = self.all.get(&(place, name)).copied();
         once(written)

@@ -53,7 +53,8 @@ fn push_passes(log: &[Change], names: &mut Vec<u8>) -> Result<(), AllocError>
 
 /// The names of a program's functions and variables, and of the passes of changes, one after the other.
 pub fn names_of(alloc: Global, program: &Program, log: &[Change]) -> Result<Vec<u8>, AllocError>
-    ensures { IfOk result (λ names. names.items ≡ declared_names (program_view program.now) ++ pass_names (map logged log.now)) }
+    ensures { IfOk result (λ names.
+        names.items ≡ declared_names (program_view program.now) ++ pass_names (map logged log.now)) }
 {
     let mut names = Vec::new(alloc);
     push_functions(&program.functions, &mut names)?;

@@ -182,8 +182,11 @@ impl Nodes {
     /// The number of a node, which is added where it is not there yet. There are to be fewer than 2^32.
     fn add(&mut self, node: Node) -> Result<u32, AllocError>
         ensures grown { OnOk result (Begin self.old.nodes.items self.new.nodes.items) }
-        ensures fresh { OnOk result ((k : ℕ) → length self.old.nodes.items ≤ k → k < length self.new.nodes.items → slice_get self.new.nodes.items k ≡ Some node) }
-        ensures node { length self.new.nodes.items < 2 ^ 32 → IfOk result (λ number. slice_get self.new.nodes.items number ≡ Some node) }
+        ensures fresh { OnOk result
+            ((k : ℕ) → length self.old.nodes.items ≤ k → k < length self.new.nodes.items
+            → slice_get self.new.nodes.items k ≡ Some node) }
+        ensures node { length self.new.nodes.items < 2 ^ 32
+            → IfOk result (λ number. slice_get self.new.nodes.items number ≡ Some node) }
     {
         if let Some(number) = self.find(node) {
             return Ok(number);
@@ -194,11 +197,16 @@ impl Nodes {
         Ok(number)
     }
 
-    /// The number of a recipe's node. What is not there yet is added, operands first, the left before the right. There are to be fewer than 2^32 nodes.
+    /// The number of a recipe's node. What is not there yet is added, operands first, the left before the right. There
+    /// are to be fewer than 2^32 nodes.
     pub fn add_recipe(&mut self, naming: Naming<'_>, recipe: &Recipe) -> Result<u32, AllocError>
         ensures grown { OnOk result (Begin self.old.nodes.items self.new.nodes.items) }
-        ensures fresh { length self.new.nodes.items < 2 ^ 32 → OnOk result (AreNewOf self.old.nodes.items self.new.nodes.items (naming_view naming.entry) (recipe_view recipe.now)) }
-        ensures node { length self.new.nodes.items < 2 ^ 32 → IfOk result (λ number. IsNodeOf self.new.nodes.items (naming_view naming.entry) (recipe_view recipe.now) number) }
+        ensures fresh { length self.new.nodes.items < 2 ^ 32
+            → OnOk result
+            (AreNewOf self.old.nodes.items self.new.nodes.items (naming_view naming.entry) (recipe_view recipe.now)) }
+        ensures node { length self.new.nodes.items < 2 ^ 32
+            → IfOk result (λ number.
+            IsNodeOf self.new.nodes.items (naming_view naming.entry) (recipe_view recipe.now) number) }
     {
         match recipe {
             Recipe::Operand(operand) => self.add(naming.operand_node(*operand)),

@@ -34,7 +34,8 @@ fn first_of(code: &[EmittedFunction], function: u32) -> u32
     }
 }
 
-/// The places with their addresses: an entry's is that of its function, another's that of its stop. They are fewer than 2^32 - 1.
+/// The places with their addresses: an entry's is that of its function, another's that of its stop. They are fewer than
+/// 2^32 - 1.
 pub fn places_of(
     alloc: Global,
     rows: &[PlaceRow],
@@ -43,7 +44,8 @@ pub fn places_of(
 ) -> Result<Vec<Place>, AllocError>
     requires { length rows.now + 1 < 2 ^ 32 }
     ensures spots { IfOk result (λ v. map spot v.items ≡ map spot_of_row rows.now) }
-    ensures addresses { IfOk result (λ v. map address v.items ≡ addresses_of (map function_view code.now) stops.now rows.now) }
+    ensures addresses { IfOk result
+        (λ v. map address v.items ≡ addresses_of (map function_view code.now) stops.now rows.now) }
 {
     let addresses = addresses(alloc, stops, rows.len() + 1)?;
     let mut places = Vec::new(alloc);

@@ -35,7 +35,8 @@ fn instructions_before(alloc: Global, blocks: &[Block]) -> Result<Vec<u32>, Allo
 
 /// The same for each function.
 fn all_before(alloc: Global, graphs: &[Graph]) -> Result<Vec<Vec<u32>>, AllocError>
-    ensures { IfOk result (λ v. map (λ firsts. firsts.items) v.items ≡ map (λ g. firsts_from 0 (map block_view g.blocks.items)) graphs.now) }
+    ensures { IfOk result (λ v.
+        map (λ firsts. firsts.items) v.items ≡ map (λ g. firsts_from 0 (map block_view g.blocks.items)) graphs.now) }
 {
     let mut all = Vec::new(alloc);
     for graph in graphs {
@@ -54,7 +55,8 @@ fn word_at(words: &[u32], number: usize) -> Option<u32>
 
 /// How many instructions stand before a block of a function; none where there is no such function.
 fn first_at(before: &[Vec<u32>], function: u32, block: usize) -> Option<u32>
-    ensures { result ≡ option_map (λ firsts. get_or firsts block 0) (slice_get (map (λ firsts. firsts.items) before.now) function) }
+    ensures { result ≡ option_map (λ firsts. get_or firsts block 0)
+        (slice_get (map (λ firsts. firsts.items) before.now) function) }
 {
     let firsts = before.get(function as usize)?;
     Some(entry(firsts, block))
@@ -100,21 +102,24 @@ impl<'a> Telling<'a> {
 
     /// The word of this number among those of a function that write its names.
     fn writing(&self, function: u32, number: u32) -> Option<u32>
-        ensures { result ≡ option_and_then (λ (c : FunctionCode). slice_get c.writers number) (slice_get (telling_view self.now).codes function) }
+        ensures { result ≡ option_and_then (λ (c : FunctionCode). slice_get c.writers number)
+            (slice_get (telling_view self.now).codes function) }
     {
         word_at(&self.code.get(function as usize)?.writers, number as usize)
     }
 
     /// The word of this number among those of a function that bind its parameters.
     fn binding(&self, function: u32, parameter: usize) -> Option<u32>
-        ensures { result ≡ option_and_then (λ (c : FunctionCode). slice_get c.bindings parameter) (slice_get (telling_view self.now).codes function) }
+        ensures { result ≡ option_and_then (λ (c : FunctionCode). slice_get c.bindings parameter)
+            (slice_get (telling_view self.now).codes function) }
     {
         word_at(&self.code.get(function as usize)?.bindings, parameter)
     }
 
     /// The word that writes a home; none where there is no such instruction or binding.
     fn address_of(&self, before: &[Vec<u32>], writer: Writer) -> Option<u32>
-        requires { map (λ firsts. firsts.items) before.now ≡ map (λ g. firsts_from 0 (map block_view g.blocks.items)) self.now.graphs.now }
+        requires { map (λ firsts. firsts.items) before.now ≡ map (λ g.
+            firsts_from 0 (map block_view g.blocks.items)) self.now.graphs.now }
         ensures { result ≡ address_of_writer (telling_view self.now).graphs (telling_view self.now).codes writer }
     {
         match writer {
@@ -135,14 +140,16 @@ impl<'a> Telling<'a> {
 
     /// The word that writes a home, if something is to write it.
     fn address_of_some(&self, before: &[Vec<u32>], writer: Option<Writer>) -> Option<u32>
-        requires { map (λ firsts. firsts.items) before.now ≡ map (λ g. firsts_from 0 (map block_view g.blocks.items)) self.now.graphs.now }
+        requires { map (λ firsts. firsts.items) before.now ≡ map (λ g.
+            firsts_from 0 (map block_view g.blocks.items)) self.now.graphs.now }
         ensures { result ≡ address_of_some (telling_view self.now).graphs (telling_view self.now).codes writer }
     {
         self.address_of(before, writer?)
     }
 }
 
-/// The node of a recipe that is told of at a place. Where there is no such place, a node that no image has. There are to be fewer than 2^32 nodes.
+/// The node of a recipe that is told of at a place. Where there is no such place, a node that no image has. There are
+/// to be fewer than 2^32 nodes.
 fn node_at(
     telling: Telling<'_>,
     nodes: &mut Nodes,
@@ -150,8 +157,13 @@ fn node_at(
     recipe: &Recipe,
 ) -> Result<u32, AllocError>
     ensures grown { OnOk result (Begin nodes.old.nodes.items nodes.new.nodes.items) }
-    ensures fresh { length nodes.new.nodes.items < 2 ^ 32 → OnOk result (AreNewIn nodes.old.nodes.items nodes.new.nodes.items (naming_at (telling_view telling.entry) place) (recipe_view recipe.now)) }
-    ensures node { length nodes.new.nodes.items < 2 ^ 32 → IfOk result (λ k. IsNodeIn nodes.new.nodes.items (naming_at (telling_view telling.entry) place) (recipe_view recipe.now) k) }
+    ensures fresh { length nodes.new.nodes.items < 2 ^ 32
+        → OnOk result
+        (AreNewIn nodes.old.nodes.items nodes.new.nodes.items (naming_at (telling_view telling.entry) place)
+        (recipe_view recipe.now)) }
+    ensures node { length nodes.new.nodes.items < 2 ^ 32
+        → IfOk result (λ k.
+        IsNodeIn nodes.new.nodes.items (naming_at (telling_view telling.entry) place) (recipe_view recipe.now) k) }
 {
     match telling.naming_at(place) {
         Some(naming) => nodes.add_recipe(naming, recipe),
@@ -159,18 +171,25 @@ fn node_at(
     }
 }
 
-/// A verdict as an image has it. For each function, and each of its blocks, it is known how many instructions stand before it.
+/// A verdict as an image has it. For each function, and each of its blocks, it is known how many instructions stand
+/// before it.
 fn verdict_of(
     telling: Telling<'_>,
     before: &[Vec<u32>],
     nodes: &mut Nodes,
     told: &PlaceVerdict,
 ) -> Result<Verdict, AllocError>
-    requires { map (λ firsts. firsts.items) before.now ≡ map (λ g. firsts_from 0 (map block_view g.blocks.items)) telling.graphs.now }
+    requires { map (λ firsts. firsts.items) before.now ≡ map (λ g.
+        firsts_from 0 (map block_view g.blocks.items)) telling.graphs.now }
     ensures grown { OnOk result (Begin nodes.old.nodes.items nodes.new.nodes.items) }
-    ensures fresh { length nodes.new.nodes.items < 2 ^ 32 → OnOk result (AreNewBy (telling_view telling.entry) nodes.old.nodes.items nodes.new.nodes.items told.now.place.0 told.now.verdict) }
+    ensures fresh { length nodes.new.nodes.items < 2 ^ 32
+        → OnOk result
+        (AreNewBy (telling_view telling.entry) nodes.old.nodes.items nodes.new.nodes.items told.now.place.0
+        told.now.verdict) }
     ensures home { told.now.verdict ≡ Home → OnOk result (nodes.new.nodes.items ≡ nodes.old.nodes.items) }
-    ensures verdict { length nodes.new.nodes.items < 2 ^ 32 → IfOk result (λ v. IsVerdictOf (telling_view telling.entry) nodes.new.nodes.items told.now.place.0 told.now.verdict v) }
+    ensures verdict { length nodes.new.nodes.items < 2 ^ 32
+        → IfOk result (λ v.
+        IsVerdictOf (telling_view telling.entry) nodes.new.nodes.items told.now.place.0 told.now.verdict v) }
 {
     match &told.verdict {
         Told::Home => Ok(Verdict::Home),
@@ -209,9 +228,11 @@ pub fn rows_of(
     telling: Telling<'_>,
 ) -> Result<(Vec<VisibleRow>, Vec<Node>), AllocError>
     ensures sights { IfOk result (λ r. map sight r.0.items ≡ map sight_of_verdict verdicts.now) }
-    ensures nodes { IfOk result (λ r. length r.1.items < 2 ^ 32 → AreNodesOf (telling_view telling.entry) r.1.items verdicts.now) }
+    ensures nodes { IfOk result
+        (λ r. length r.1.items < 2 ^ 32 → AreNodesOf (telling_view telling.entry) r.1.items verdicts.now) }
     ensures bare { AreShown verdicts.now → IfOk result (λ r. r.1.items ≡ []) }
-    ensures rows { IfOk result (λ r. length r.1.items < 2 ^ 32 → AreRowsOf (telling_view telling.entry) r.1.items verdicts.now r.0.items) }
+    ensures rows { IfOk result (λ r.
+        length r.1.items < 2 ^ 32 → AreRowsOf (telling_view telling.entry) r.1.items verdicts.now r.0.items) }
 {
     let before = all_before(alloc, telling.graphs)?;
     let mut nodes = Nodes::new(alloc);

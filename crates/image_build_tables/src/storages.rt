@@ -71,7 +71,10 @@ fn put_functions(
     homes: &[FunctionHomes],
     table: &mut [Storage],
 )
-    ensures { table.new ≡ put_all (functions_kept (map graph_view graphs.now) (map function_view codes.now) (map (λ f. f.homes.items) homes.now)) table.old }
+    ensures { table.new ≡ put_all
+        (functions_kept (map graph_view graphs.now) (map function_view codes.now)
+        (map (λ f. f.homes.items) homes.now))
+        table.old }
 {
     let mut left = graphs;
     let mut codes_left = codes;
@@ -106,7 +109,8 @@ fn put_statics(addresses: &[u32], table: &mut [Storage])
     }
 }
 
-/// Where so many variables of a unit with this code are kept. One that is nowhere has a storage that no image gives it. The only error is want of memory.
+/// Where so many variables of a unit with this code are kept. One that is nowhere has a storage that no image gives it.
+/// The only error is want of memory.
 pub fn storages_of(
     alloc: Global,
     homed: &HomedUnit,

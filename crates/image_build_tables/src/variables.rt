@@ -65,8 +65,12 @@ fn push_statics(
 ) -> Result<(), AllocError>
     requires { length storages.now ≡ length statics.now }
     ensures storages { OnOk result (map storage variables.new.items ≡ map storage variables.old.items ++ storages.now) }
-    ensures owners { OnOk result (map owner variables.new.items ≡ map owner variables.old.items ++ map (λ v. None) (map static_view statics.now)) }
-    ensures shapes { OnOk result (map shape variables.new.items ≡ map shape variables.old.items ++ map static_shape (map static_view statics.now)) }
+    ensures owners { OnOk result
+        (map owner variables.new.items
+        ≡ map owner variables.old.items ++ map (λ v. None) (map static_view statics.now)) }
+    ensures shapes { OnOk result
+        (map shape variables.new.items
+        ≡ map shape variables.old.items ++ map static_shape (map static_view statics.now)) }
 {
     for (number, of) in statics.iter().enumerate() {
         let (element, count) = elements_of(of.of);
@@ -90,8 +94,12 @@ fn push_literals(
 ) -> Result<(), AllocError>
     requires { length storages.now ≡ length literals.now }
     ensures storages { OnOk result (map storage variables.new.items ≡ map storage variables.old.items ++ storages.now) }
-    ensures owners { OnOk result (map owner variables.new.items ≡ map owner variables.old.items ++ map (λ l. None) (map literal_view literals.now)) }
-    ensures shapes { OnOk result (map shape variables.new.items ≡ map shape variables.old.items ++ map literal_shape (map literal_view literals.now)) }
+    ensures owners { OnOk result
+        (map owner variables.new.items
+        ≡ map owner variables.old.items ++ map (λ l. None) (map literal_view literals.now)) }
+    ensures shapes { OnOk result
+        (map shape variables.new.items
+        ≡ map shape variables.old.items ++ map literal_shape (map literal_view literals.now)) }
 {
     for (number, of) in literals.iter().enumerate() {
         variables.push(Variable {
@@ -117,7 +125,9 @@ fn push_automatics(
     requires storages { length storages.now ≡ length automatics.now }
     ensures storages { OnOk result (map storage variables.new.items ≡ map storage variables.old.items ++ storages.now) }
     ensures owners { OnOk result (map owner variables.new.items ≡ map owner variables.old.items ++ owners.now) }
-    ensures shapes { OnOk result (map shape variables.new.items ≡ map shape variables.old.items ++ map automatic_shape (map automatic_view automatics.now)) }
+    ensures shapes { OnOk result
+        (map shape variables.new.items
+        ≡ map shape variables.old.items ++ map automatic_shape (map automatic_view automatics.now)) }
 {
     for (number, of) in automatics.iter().enumerate() {
         let (element, count) = elements_of(of.of);
@@ -135,13 +145,17 @@ fn push_automatics(
 
 /// How many variables a program has: static ones, literals and automatic ones. There are fewer than 2^32.
 pub fn variable_count(program: &Program) -> usize
-    requires { length program.now.statics.items + length program.now.literals.items + length program.now.automatics.items < 2 ^ 32 }
-    ensures { result ≡ length program.now.statics.items + length program.now.literals.items + length program.now.automatics.items }
+    requires { length program.now.statics.items + length program.now.literals.items
+        + length program.now.automatics.items < 2 ^
+        32 }
+    ensures { result ≡ length program.now.statics.items + length program.now.literals.items + length
+        program.now.automatics.items }
 {
     program.statics.len() + program.literals.len() + program.automatics.len()
 }
 
-/// The variables of a program, which are kept there: the static ones, the literals and the automatic ones, each by position. The program has as many automatic
+/// The variables of a program, which are kept there: the static ones, the literals and the automatic ones, each by
+/// position. The program has as many automatic
 /// variables as its functions have.
 pub fn variables_of(
     alloc: Global,
@@ -150,7 +164,8 @@ pub fn variables_of(
 ) -> Result<Vec<Variable>, AllocError>
     requires few { length program.now.functions.items < 2 ^ 32 }
     requires owned { length (owned_from 0 (program_view program.now).functions) ≡ length program.now.automatics.items }
-    requires kept { length storages.now ≡ length program.now.statics.items + length program.now.literals.items + length program.now.automatics.items }
+    requires kept { length storages.now ≡ length program.now.statics.items + length program.now.literals.items + length
+        program.now.automatics.items }
     ensures owners { IfOk result (λ v. map owner v.items ≡ owners_of (program_view program.now)) }
     ensures shapes { IfOk result (λ v. map shape v.items ≡ shapes_of (program_view program.now)) }
     ensures storages { IfOk result (λ v. map storage v.items ≡ storages.now) }

@@ -1,4 +1,4 @@
-use Rattle.std.proofs.Common.{◌≡◌, List, ap, map, rules, subst, sym, ◌∙◌}
+use Rattle.std.proofs.Common.{◌≡◌, List, ap, map, subst, sym, ◌∙◌}
 use Rattle.graph_core.specs.declared.graph.MemoryObject.{MemoryObject}
 use Rattle.graph_core.specs.Graphs.{Binding, Block, Graph, Scalar, binding_view, block_view, graph_view, scalar_view}
 use Rattle.graph_paths.specs.PathMarksTable.{bits_of}
@@ -29,9 +29,9 @@ returns-then-stays-clause-notes c = λ log u told valid.
 pub returns-clause-notes : goal.returns-clause-notes
 returns-clause-notes c = λ log u told valid.
     (let g = graph_of c.args.idle.now in
-    let known : AreKnown c.args.idle.now c.in-Some.notes = search rules in
-    let room : HasRoom c.args.idle.now c.in-Some.notes.ways = search rules in
-    let removed : c.in-Some.notes.removed.now ≡ c.args.removed.now = search rules in
+    let known : AreKnown c.args.idle.now c.in_ok-notes.notes = c.in_ok-notes.ensures.known in
+    let room : HasRoom c.args.idle.now c.in_ok-notes.notes.ways = c.in_ok-notes.ensures.room in
+    let removed : c.in_ok-notes.notes.removed.now ≡ c.args.removed.now = c.in_ok-notes.ensures.removed in
     let said = c.in_ok-blocks.ensures.said log (record {
       borne_out = c.requires;
       known = known;

@@ -1,4 +1,4 @@
-use Rattle.std.proofs.Common.{List, ap, map, rules, subst, sym, ◌∙◌}
+use Rattle.std.proofs.Common.{List, ap, map, subst, sym, ◌∙◌}
 use Rattle.std.proofs.lemmas.List.{map-append}
 use Rattle.graph_core.specs.declared.graph.Graph as declared-graph
 use Rattle.graph_core.specs.Graphs.{Logged, UnitForm, graph_view}
@@ -29,15 +29,15 @@ graph_left-requires c = first_of_all IsBorneOut _ c.graph-item.result c.in-len1-
 pub loop-ahead-preserved : goal.loop-ahead-preserved
 loop-ahead-preserved c =
     let one = c.graph-item.result in
-    let left : IsReduced (assignments_of one) (graph_of one) (graph_view c.in-Some.next) = search rules in
-    let says : (log : List Logged) (u : UnitForm) → AreToldOf log c.args.removed.now → IsGraph u (graph_of one) → SaysWhatItShall (assignments_of one) log (graph_of one) (graph_view c.in-Some.next) = search rules in
+    let left : IsReduced (assignments_of one) (graph_of one) (graph_view c.in_ok-next.next) = c.in_ok-next.ensures.left in
+    let says : (log : List Logged) (u : UnitForm) → AreToldOf log c.args.removed.now → IsGraph u (graph_of one) → SaysWhatItShall (assignments_of one) log (graph_of one) (graph_view c.in_ok-next.next) = c.in_ok-next.ensures.notes in
     let grown = ap (λ xs. map graph_view xs) c.in_ok-push.ensures.items ∙ map-append graph_view _ _ in
     record {
       left = λ assignments of.
           (let so_far = c.loop-ahead.invariant.left assignments of in
           let its : IsOf assignments one = first_of_all (IsOf assignments) _ one c.in-len1-up.len_at_least c.graph-item.is so_far.0 in (
             all_behind (IsOf assignments) _ c.in-len1-up.len_at_least so_far.0,
-            functions_step (IsReduced assignments) graph_of _ _ one _ _ _ (graph_view c.in-Some.next) c.in-len1-up.len_at_least c.graph-item.is grown (subst (λ l. IsReduced l (graph_of one) (graph_view c.in-Some.next)) its left) so_far.1,
+            functions_step (IsReduced assignments) graph_of _ _ one _ _ _ (graph_view c.in_ok-next.next) c.in-len1-up.len_at_least c.graph-item.is grown (subst (λ l. IsReduced l (graph_of one) (graph_view c.in_ok-next.next)) its left) so_far.1,
           ));
       borne_out = all_behind IsBorneOut _ c.in-len1-up.len_at_least c.loop-ahead.invariant.borne_out;
       notes = λ log u told valid assignments of.
@@ -45,7 +45,7 @@ loop-ahead-preserved c =
           let its : IsOf assignments one = first_of_all (IsOf assignments) _ one c.in-len1-up.len_at_least c.graph-item.is (c.loop-ahead.invariant.left assignments of).0 in
           let graph = first_of_all (λ idle. IsGraph u (graph_of idle)) _ one c.in-len1-up.len_at_least c.graph-item.is so_far.0 in (
             all_behind (λ idle. IsGraph u (graph_of idle)) _ c.in-len1-up.len_at_least so_far.0,
-            functions_step (SaysWhatItShall assignments log) graph_of _ _ one _ _ _ (graph_view c.in-Some.next) c.in-len1-up.len_at_least c.graph-item.is grown (subst (λ l. SaysWhatItShall l log (graph_of one) (graph_view c.in-Some.next)) its (says log u told graph)) so_far.1,
+            functions_step (SaysWhatItShall assignments log) graph_of _ _ one _ _ _ (graph_view c.in_ok-next.next) c.in-len1-up.len_at_least c.graph-item.is grown (subst (λ l. SaysWhatItShall l log (graph_of one) (graph_view c.in_ok-next.next)) its (says log u told graph)) so_far.1,
           ));
     }
 

@@ -32,7 +32,7 @@ loop-number-preserved c = λ assignments of.
     subst (λ (ts : List (Vec _ Global)). AreIdle assignments (graph_of one) (is_going (turn_of ts))) (sym c.deref.ensures.value) (subst (λ l. AreIdle l (graph_of one) (is_going (turn_of one.turns.items))) its borne.goes) in
     let there : slice_get gs k ≡ Some (graph_of one) = slice_get-map graph_of xs k ∙ ap (option_map graph_of) (slice_get_read xs (length xs) k one refl inside c.index-idle-number.is) in
     cases_next (λ before after. IsRemovedWrite assignments before) gs gs k _ _ (c.loop-number.invariant assignments of)
-    (function_step (λ before after. IsRemovedWrite assignments before) gs gs k (graph_of one) (graph_of one) _ _ there there (c.in_ok-removed_writes.ensures c.if-not-branch.false assignments idle)))
+    (function_step (λ before after. IsRemovedWrite assignments before) gs gs k (graph_of one) (graph_of one) _ _ there there (c.in_ok-removed_writes.ensures assignments idle)))
 
 pub returns : goal.returns
 returns c = λ assignments of.

@@ -23,14 +23,14 @@ loop-number-preserved c = λ assignments idle.
     let k = c.loop-number.number in
     let b = c.index-block.result.now in
     let goes = is_going (turn_of c.args.turns.now) in
-    let inside : k < length xs = omega (arith, c.loop-number-test.true, c.if-len-gt4294967295.false) in
+    let inside : k < length xs = omega (arith, c.loop-number-test.true, c.requires.few) in
     let there : slice_get (map block_view xs) k ≡ Some (block_view b) = slice_get-map block_view xs k ∙ ap (option_map block_view) (slice_get_read xs (length xs) k b refl inside c.index-block.ensures) in
     block_step (graph_view g) goes idle k (block_view b) there _ _ _ (c.loop-number.invariant assignments idle)
     (subst (λ (ss : List Scalar). Adds (IsRemovedIn (map scalar_view ss) (goes k) k (block_view b)) c.loop-number.cases.items c.add_block.new.cases.items) c.deref.ensures.value c.in_ok-add_block.ensures))
 
 pub returns : goal.returns
-returns c = λ _ assignments idle.
+returns c = λ assignments idle.
     (let g = c.args.graph.now in
     let long = length-map g.blocks.items block_view in
-    let whole : length (map block_view g.blocks.items) ≤ c.loop-number.number = omega (arith, long, c.loop-number-test.false, c.if-len-gt4294967295.false) in
+    let whole : length (map block_view g.blocks.items) ≤ c.loop-number.number = omega (arith, long, c.loop-number-test.false, c.requires.few) in
     blocks_done (graph_view g) (is_going (turn_of c.args.turns.now)) idle c.loop-number.number _ _ whole (c.loop-number.invariant assignments idle))
