@@ -7,7 +7,7 @@ mod tests;
 use cdbg_passes::{CopyPropagation, DeadRemoval, LazyMotion};
 use line_form::{Status, fault_text};
 use outside::{FileShelf, Shelf, Sink, StdoutSink};
-use pass_law::UnitPass;
+use pass_law::Pass;
 use session::session;
 use std::alloc::{AllocError, Global};
 use std::process::ExitCode;
@@ -29,7 +29,7 @@ fn session_of<S: Shelf, K: Sink>(
     shelf: &mut S,
     sink: &mut K,
 ) -> Result<Status, AllocError> {
-    let mut passes: Vec<Box<dyn UnitPass>> = Vec::new(alloc);
+    let mut passes: Vec<Box<dyn Pass>> = Vec::new(alloc);
     passes.push(Box::new(alloc, CopyPropagation::new())?)?;
     passes.push(Box::new(alloc, LazyMotion::new())?)?;
     passes.push(Box::new(alloc, DeadRemoval::new())?)?;

@@ -6,7 +6,7 @@ use Rattle.graph_core.specs.WellMarked.{AreWellMarked}
 use Rattle.pass_law.specs.Keeps.{Keeps}
 use Rattle.pass_law.proofs.Keeping.{keeps_itself}
 use Rattle.pass_law.specs.Relations.{PassRelation}
-use Rattle.cdbg_middle_tests.specs.LogLonger.{keeps_with_changes}
+use Rattle.pass_law.proofs.LogLonger.{keeps_with_changes}
 
 -- a well marked unit stays what it is
 pub record StaysSame (u v : UnitForm) : Type 0 where

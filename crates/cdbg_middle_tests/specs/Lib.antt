@@ -1,4 +1,3 @@
-pub mod LogLonger
 pub mod Examples
 pub mod Passed
 pub mod Passing

@@ -28,9 +28,7 @@ fn units(alloc: Global) -> Result<Option<(Unit, Unit)>, AllocError> {
     if !unit.is_valid() {
         return Ok(None);
     }
-    let Some(moved) = move_code(alloc, &unit)? else {
-        return Ok(None);
-    };
+    let moved = move_code(alloc, &unit)?;
     Ok(Some((unit, moved)))
 }
 

@@ -1,7 +1,8 @@
 //! Passes with their names.
 
 ghost use Rattle.std.specs.Prelude.{◌≡◌, codes};
-ghost use Rattle.debug_records.specs.Change.{IsPassName, letters, pass_name};
+ghost use Rattle.debug_records.specs.Change.{letters, pass_name};
+ghost use Rattle.pass_law.specs.Relations.{kept_steps};
 ghost use Rattle.cdbg_passes.specs.Steps.{MovesCode, PropagatesCopies, RemovesDead};
 
 use copy_pass::propagate_copies;
@@ -9,20 +10,8 @@ use dead_pass::remove_dead;
 use debug_records::PassName;
 use graph_core::Unit;
 use motion_pass::move_code;
-use pass_law::UnitPass;
+use pass_law::{Pass, name_of};
 use std::alloc::{AllocError, Global};
-
-/// The name of these letters, which are 1 to 16 lower-case letters.
-fn name_of(bytes: &[u8]) -> PassName
-    requires { IsPassName bytes.now }
-    ensures letters { letters result ≡ bytes.now }
-    ensures whole { result ≡ pass_name bytes.now }
-{
-    match PassName::of(bytes) {
-        Some(name) => name,
-        None => unreachable!(),
-    }
-}
 
 /// Copy propagation, by the name `copy`.
 #[derive(Drop)]
@@ -42,16 +31,16 @@ impl CopyPropagation {
     }
 }
 
-impl UnitPass for CopyPropagation {
+impl Pass for CopyPropagation {
     ghost named = { λ pass. pass.name };
 
-    ghost steps = { λ pass u v. PropagatesCopies u v };
+    ghost steps = { λ pass. kept_steps PropagatesCopies };
 
     fn name(&self) -> PassName {
         self.name
     }
 
-    fn apply(&self, alloc: Global, unit: &Unit) -> Result<Option<Unit>, AllocError> {
+    fn apply(&self, alloc: Global, unit: &Unit) -> Result<Unit, AllocError> {
         propagate_copies(alloc, unit)
     }
 }
@@ -74,16 +63,16 @@ impl LazyMotion {
     }
 }
 
-impl UnitPass for LazyMotion {
+impl Pass for LazyMotion {
     ghost named = { λ pass. pass.name };
 
-    ghost steps = { λ pass u v. MovesCode u v };
+    ghost steps = { λ pass. kept_steps MovesCode };
 
     fn name(&self) -> PassName {
         self.name
     }
 
-    fn apply(&self, alloc: Global, unit: &Unit) -> Result<Option<Unit>, AllocError> {
+    fn apply(&self, alloc: Global, unit: &Unit) -> Result<Unit, AllocError> {
         move_code(alloc, unit)
     }
 }
@@ -106,16 +95,16 @@ impl DeadRemoval {
     }
 }
 
-impl UnitPass for DeadRemoval {
+impl Pass for DeadRemoval {
     ghost named = { λ pass. pass.name };
 
-    ghost steps = { λ pass u v. RemovesDead u v };
+    ghost steps = { λ pass. kept_steps RemovesDead };
 
     fn name(&self) -> PassName {
         self.name
     }
 
-    fn apply(&self, alloc: Global, unit: &Unit) -> Result<Option<Unit>, AllocError> {
+    fn apply(&self, alloc: Global, unit: &Unit) -> Result<Unit, AllocError> {
         remove_dead(alloc, unit)
     }
 }

@@ -1,3 +1,4 @@
+mod Countable
 mod Instructions
 mod OfBlocks
 mod Operands

@@ -1,8 +1,8 @@
 -- WHAT COPY PROPAGATION LOGS: few changes, each in a place of the unit, of a variable of it.
-use Rattle.std.proofs.Common.{◌≡◌, ℕ, ◌+◌, ◌<◌, ◌≤◌, Some, None, List, [], ◌∷◌, ◌++◌, length, refl, sym, ap, ◌∙◌, subst, arith}
+use Rattle.std.proofs.Common.{◌≡◌, ℕ, ◌+◌, ◌^◌, ◌<◌, ◌≤◌, Some, None, List, [], ◌∷◌, ◌++◌, length, refl, sym, ap, ◌∙◌, subst, arith}
 use Rattle.std.specs.Prelude.{option_map, slice_get}
 use Rattle.std.specs.List.{AllByRecursion}
-use Rattle.std.proofs.lemmas.List.{length-append}
+use Rattle.std.proofs.lemmas.List.{length-append, length-map}
 use Rattle.std.proofs.lemmas.Option.{same_Some, slice_get_within}
 use Rattle.memory_map.specs.declared.map.Room.{Room}
 use Rattle.memory_map.specs.declared.map.Room.TheVariants.{Small, Large}
@@ -12,13 +12,13 @@ use Rattle.graph_core.specs.Bounds.{most_instructions, most_blocks, most_argumen
 use Rattle.graph_core.specs.Graphs.{Operand, Name, Constant, StaticAddress, Location, Automatic, Static, At, Instruction, Marker, Note, Move, Operate, Truncate, Same, Address, Load, Store, Zero, CopyWords, Call, End, Jump, Branch, Return, Scalar, Block, Graph, UnitForm}
 use Rattle.graph_core.specs.Points.{reads_at}
 use Rattle.graph_core.specs.Uses.{names_of, names_of_all, names_of_location, reads_of, reads_of_end}
-use Rattle.graph_core.specs.Validity.{counts, arguments_in, arguments_of, instructions_of, place_behind, total}
+use Rattle.graph_core.specs.Validity.{IsValid, counts, arguments_in, arguments_of, instructions_of, place_behind, total}
 use Rattle.graph_core.specs.WellMarked.{AreWellMarked}
 use Rattle.base_laws.proofs.Lists.{all_so}
 use Rattle.pass_law.specs.declared.cases.Case.{Case}
-use Rattle.pass_law.specs.Changes.{AddsChangesOf, IsCaseOf}
+use Rattle.pass_law.specs.Changes.{AddsChangesOf, AreCasesOf, IsCaseOf}
 use Rattle.pass_law.specs.Logs.{LogsWell, most_changes}
-use Rattle.pass_law.proofs.FewCases.{AreApart, few_by_key, one_at_most}
+use Rattle.pass_law.proofs.FewCases.{AreApart, all_apart, few_by_key, one_at_most}
 use Rattle.pass_law.proofs.LoggedWell.{logged_well, place_marked}
 use Rattle.copy_pass.specs.Reads.{IsReplacedRead}
 
@@ -220,10 +220,15 @@ few_changes : (room : Room) → most_instructions room + most_instructions room 
 few_changes Small = omega (arith)
 few_changes Large = omega (arith)
 
-module _ (u v : UnitForm) (pass : PassName) (marked : AreWellMarked u) (changes : AddsChangesOf pass Replaced IsReplacedRead u v) where
+-- So many are fewer than 2^31.
+few_logged : (room : Room) → most_changes room < 2 ^ 31
+few_logged Small = omega (arith)
+few_logged Large = omega (arith)
+
+module _ (u : UnitForm) (hs : List Graph) (valid : IsValid u) where
   -- a case of a function of the unit
   abbrev IsOfUnit : ℕ × Case → Type 0
-  IsOfUnit c = IsCaseOf IsReplacedRead u.graphs v.graphs c
+  IsOfUnit c = IsCaseOf IsReplacedRead u.graphs hs c
 
   -- In all functions there are few.
   few : (cases : List (ℕ × Case)) → AllByRecursion IsOfUnit cases → AreApart cases → length cases ≤ most_changes u.room
@@ -233,14 +238,23 @@ module _ (u v : UnitForm) (pass : PassName) (marked : AreWellMarked u) (changes 
       (λ c is. (is.1, is.0.after, subst (λ h. IsReplacedRead h is.0.after c.1) (same_Some is.0.before g (sym is.0.stood ∙ ap (slice_get u.graphs) is.1 ∙ at)) is.0.case)) part these) no_two)
       cases are apart in
       let read = few_in_graphs u.graphs in
-      let instructions = marked.valid.instructions in
-      let blocks = marked.valid.blocks in
-      let arguments = marked.valid.arguments in
+      let instructions = valid.instructions in
+      let blocks = valid.blocks in
+      let arguments = valid.arguments in
       let most = few_changes u.room in
       omega (arith, all, read, instructions, blocks, arguments, most)
 
-  -- WHAT COPY PROPAGATION LOGS IS LOGGED WELL.
-  pub copy_logs_well : LogsWell pass u v
-  copy_logs_well = logged_well pass Replaced IsReplacedRead u v changes few
-      (λ c is. place_marked u marked c.0 is.before is.stood c.1.place.0 c.1.block is.case.rest is.case.end is.case.stood)
-      (λ c is. record { function = c.0; graph = is.before; x = is.case.x; is = is.stood; of = is.case.variable })
+  -- THE READS THAT ARE REPLACED IN A VALID UNIT ARE FEWER THAN 2^31.
+  pub few_cases : (cases : List Case) → AreCasesOf IsReplacedRead u.graphs hs cases → length cases < 2 ^ 31
+  few_cases cases all =
+      let each = all_apart IsOfUnit all.of all.all in
+      let most = few all.of each.0 each.1 in
+      let same : length cases ≡ length all.of = ap length all.are ∙ length-map all.of (λ (c : ℕ × Case). c.1) in
+      let low = few_logged u.room in
+      omega (arith, most, same, low)
+
+-- WHAT COPY PROPAGATION LOGS IS LOGGED WELL.
+pub copy_logs_well : (u v : UnitForm) (pass : PassName) → AreWellMarked u → AddsChangesOf pass Replaced IsReplacedRead u v → LogsWell pass u v
+copy_logs_well u v pass marked changes = logged_well pass Replaced IsReplacedRead u v changes (few u v.graphs marked.valid)
+    (λ c is. place_marked u marked c.0 is.before is.stood c.1.place.0 c.1.block is.case.rest is.case.end is.case.stood)
+    (λ c is. record { function = c.0; graph = is.before; x = is.case.x; is = is.stood; of = is.case.variable })

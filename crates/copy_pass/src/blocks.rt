@@ -33,7 +33,8 @@ impl Walk<'_> {
         Ok(())
     }
 
-    /// The copy that an instruction makes in the end: it moves one scalar, or what that is a copy of, to another one of the same type.
+    /// The copy that an instruction makes in the end: it moves one scalar, or what that is a copy of, to another one of
+    /// the same type.
     fn copy_of(&self, instruction: &Instr) -> Option<Copied> {
         match instruction {
             Instr::Move {

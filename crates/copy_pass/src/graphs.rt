@@ -8,9 +8,11 @@ use graph_core::{Block, Scalar};
 use graph_paths::reached_in_order;
 use std::alloc::{AllocError, Global};
 
-/// The copies of scalars in the blocks of a graph that some path reaches, as they are once each read is of what its name is a copy of.
+/// The copies of scalars in the blocks of a graph that some path reaches, as they are once each read is of what its
+/// name is a copy of.
 ///
-/// A copy that reaches a point on every path stands before it on each, and so does the block of the copy in the order in which the blocks are
+/// A copy that reaches a point on every path stands before it on each, and so does the block of the copy in the order
+/// in which the blocks are
 /// gone along: what the copy itself reads is settled before it is told where it reaches.
 pub fn copies_of(
     alloc: Global,

@@ -14,7 +14,8 @@ use graph_core::{Name, Scalar};
 use pass_law::Case;
 use std::alloc::AllocError;
 
-/// A point of both graphs: the place in force there in both, if there is one, its block, and how many instructions stand before it.
+/// A point of both graphs: the place in force there in both, if there is one, its block, and how many instructions
+/// stand before it.
 #[derive(Drop)]
 pub struct Point {
     pub place: Option<Place>,
@@ -34,7 +35,8 @@ fn name_at(names: &[Name], operand: usize) -> Option<u32>
 
 /// The name that was read as an operand, if another one is read now.
 fn replaced_name(was: &[Name], is: &[Name], operand: usize) -> Option<u32>
-    ensures { MatchOption result ((x : ℕ) → IsOther (numbers was.now) (numbers is.now) operand x → ⊥) (λ x. IsOther (numbers was.now) (numbers is.now) operand x) }
+    ensures { MatchOption result ((x : ℕ) → IsOther (numbers was.now) (numbers is.now) operand x → ⊥) (λ x.
+        IsOther (numbers was.now) (numbers is.now) operand x) }
 {
     match (name_at(was, operand), name_at(is, operand)) {
         (Some(before), Some(after)) => { if before == after { None } else { Some(before) } }
@@ -44,7 +46,8 @@ fn replaced_name(was: &[Name], is: &[Name], operand: usize) -> Option<u32>
 
 /// The variable that a name is, if it is one.
 fn variable_of(scalars: &[Scalar], name: u32) -> Option<Var>
-    ensures { option_map (λ (v : declared-var.Var). v.0) result ≡ option_map (λ (s : ScalarOf). s.variable) (slice_get (map scalar_view scalars.now) name) }
+    ensures { option_map (λ (v : declared-var.Var). v.0) result ≡ option_map (λ (s : ScalarOf). s.variable)
+        (slice_get (map scalar_view scalars.now) name) }
 {
     match scalars.get(name as usize) {
         Some(scalar) => Some(scalar.var),
@@ -61,7 +64,10 @@ fn add_operand(
     is: &[Name],
     cases: &mut Vec<Case>,
 ) -> Result<(), AllocError>
-    ensures { OnOk result (Adds (Numbered (IsReplacedAt (map scalar_view scalars.now) (placed point.now.place) point.now.block point.now.index (numbers was.now) (numbers is.now)) (λ (c : declared-case.Case). c.operand) operand) cases.old.items cases.new.items) }
+    ensures { OnOk result
+        (Adds (Numbered (IsReplacedAt (map scalar_view scalars.now) (placed point.now.place) point.now.block
+        point.now.index (numbers was.now) (numbers is.now)) (λ (c : declared-case.Case).
+        c.operand) operand) cases.old.items cases.new.items) }
 {
     let Some(name) = replaced_name(was, is, operand) else {
         return Ok(());
@@ -90,7 +96,9 @@ pub fn add_names(
     is: &[Name],
     cases: &mut Vec<Case>,
 ) -> Result<(), AllocError>
-    ensures { OnOk result (Adds (IsReplacedAt (map scalar_view scalars.now) (placed point.now.place) point.now.block point.now.index (numbers was.now) (numbers is.now)) cases.old.items cases.new.items) }
+    ensures { OnOk result
+        (Adds (IsReplacedAt (map scalar_view scalars.now) (placed point.now.place) point.now.block point.now.index
+        (numbers was.now) (numbers is.now)) cases.old.items cases.new.items) }
 {
     for operand in 0..was.len() {
         add_operand(scalars, point, operand, was, is, cases)?;

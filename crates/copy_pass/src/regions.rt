@@ -9,7 +9,8 @@ use std::alloc::{AllocError, Global};
 #[derive(Drop)]
 pub struct Regions {
     alloc: Global,
-    /// For each block that some path reaches those to which it leads, and those which some path reaches and which lead to it.
+    /// For each block that some path reaches those to which it leads, and those which some path reaches and which lead
+    /// to it.
     after: Vec<Vec<u32>>,
     before: Vec<Vec<u32>>,
     /// For each block the scalars that it writes.
@@ -150,7 +151,8 @@ impl Regions {
         block != 0
     }
 
-    /// The flood leaves those of the blocks to which the copy does not come along each edge. They are gone on from later.
+    /// The flood leaves those of the blocks to which the copy does not come along each edge. They are gone on from
+    /// later.
     fn drain(
         &mut self,
         blocks: &[u32],

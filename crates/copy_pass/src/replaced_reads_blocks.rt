@@ -37,7 +37,10 @@ fn add_instruction(
     is: &Instr,
     cases: &mut Vec<Case>,
 ) -> Result<(), AllocError>
-    ensures { OnOk result (Adds (IsReplacedAt (map scalar_view scalars.now) (placed point.now.place) point.now.block point.now.index (reads_of (instruction_view was.now)) (reads_of (instruction_view is.now))) cases.old.items cases.new.items) }
+    ensures { OnOk result
+        (Adds (IsReplacedAt (map scalar_view scalars.now) (placed point.now.place) point.now.block point.now.index
+        (reads_of (instruction_view was.now))
+        (reads_of (instruction_view is.now))) cases.old.items cases.new.items) }
 {
     let read_before = was.reads(alloc)?;
     let read_now = is.reads(alloc)?;
@@ -53,7 +56,9 @@ fn add_end(
     is: &End,
     cases: &mut Vec<Case>,
 ) -> Result<(), AllocError>
-    ensures { OnOk result (Adds (IsReplacedAt (map scalar_view scalars.now) (placed point.now.place) point.now.block point.now.index (reads_of_end (end_view was.now)) (reads_of_end (end_view is.now))) cases.old.items cases.new.items) }
+    ensures { OnOk result
+        (Adds (IsReplacedAt (map scalar_view scalars.now) (placed point.now.place) point.now.block point.now.index
+        (reads_of_end (end_view was.now)) (reads_of_end (end_view is.now))) cases.old.items cases.new.items) }
 {
     let read_before = was.reads(alloc)?;
     let read_now = is.reads(alloc)?;
@@ -70,7 +75,9 @@ pub fn add_block(
     cases: &mut Vec<Case>,
 ) -> Result<(), AllocError>
     requires alike { length is.now.instructions.items ≡ length was.now.instructions.items }
-    ensures { OnOk result (Adds (IsReplacedIn (map scalar_view scalars.now) number (block_view was.now) (block_view is.now)) cases.old.items cases.new.items) }
+    ensures { OnOk result
+        (Adds (IsReplacedIn (map scalar_view scalars.now) number (block_view was.now) (block_view is.now))
+        cases.old.items cases.new.items) }
 {
     let mut stood = was.place;
     let mut stands = is.place;

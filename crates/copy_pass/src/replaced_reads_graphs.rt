@@ -19,7 +19,9 @@ fn add_block_of(
     number: usize,
     cases: &mut Vec<Case>,
 ) -> Result<(), AllocError>
-    ensures { OnOk result (Adds (Numbered (IsReplacedRead (graph_view was.now) (graph_view is.now)) (λ (c : declared-case.Case). c.block) number) cases.old.items cases.new.items) }
+    ensures { OnOk result
+        (Adds (Numbered (IsReplacedRead (graph_view was.now) (graph_view is.now))
+        (λ (c : declared-case.Case). c.block) number) cases.old.items cases.new.items) }
 {
     let Some(before) = was.blocks.get(number) else {
         return Ok(());
@@ -40,7 +42,8 @@ fn add_graph(
     is: &Graph,
     cases: &mut Vec<Case>,
 ) -> Result<(), AllocError>
-    ensures { OnOk result (Adds (IsReplacedRead (graph_view was.now) (graph_view is.now)) cases.old.items cases.new.items) }
+    ensures { OnOk result
+        (Adds (IsReplacedRead (graph_view was.now) (graph_view is.now)) cases.old.items cases.new.items) }
 {
     for number in 0..was.blocks.len() {
         add_block_of(alloc, was, is, number, cases)?;
@@ -56,7 +59,9 @@ fn add_function(
     number: usize,
     cases: &mut Vec<Case>,
 ) -> Result<(), AllocError>
-    ensures { OnOk result (Adds (λ c. IsCaseOf IsReplacedRead (map graph_view was.now) (map graph_view is.now) (number, c)) cases.old.items cases.new.items) }
+    ensures { OnOk result
+        (Adds (λ c. IsCaseOf IsReplacedRead (map graph_view was.now) (map graph_view is.now) (number, c))
+        cases.old.items cases.new.items) }
 {
     let Some(before) = was.get(number) else {
         return Ok(());
@@ -67,12 +72,14 @@ fn add_function(
     add_graph(alloc, before, after, cases)
 }
 
-/// The reads that differ between graphs before and after, function by function: each that was of a variable, where both have a place in force. They come in no
+/// The reads that differ between graphs before and after, function by function: each that was of a variable, where both
+/// have a place in force. They come in no
 /// particular order.
 ///
 /// `AllocError` where memory was refused.
 pub fn replaced_reads(alloc: Global, was: &[Graph], is: &[Graph]) -> Result<Vec<Case>, AllocError>
-    ensures { IfOk result (λ cases. AreCasesOf IsReplacedRead (map graph_view was.now) (map graph_view is.now) cases.items) }
+    ensures { IfOk result
+        (λ cases. AreCasesOf IsReplacedRead (map graph_view was.now) (map graph_view is.now) cases.items) }
 {
     let mut cases = Vec::new(alloc);
     for number in 0..was.len() {

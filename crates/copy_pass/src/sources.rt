@@ -120,7 +120,8 @@ impl Sources {
         }
     }
 
-    /// A block is left, and no scalar is a copy any more. Gives those that became copies in it behind the first so many, and were still, each once.
+    /// A block is left, and no scalar is a copy any more. Gives those that became copies in it behind the first so
+    /// many, and were still, each once.
     pub fn leave(&mut self, arrived: usize) -> Result<Vec<Copied>, AllocError> {
         let made = self.made(arrived)?;
         self.end_all();

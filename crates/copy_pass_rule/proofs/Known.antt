@@ -49,3 +49,19 @@ known_none scalars copies n left i none never = record {
   listed = λ k c at stands. absurd (true≢false (sym stands ∙ none k c at));
   all = λ x y is typed. absurd (never x y is typed);
 }
+
+-- where it is known, the one copy that stands there is the one that is made
+pub of_known : (scalars : List Scalar) (copies : List CopyAt) (n left : ℕ) (i : Instruction) (k : ℕ) → IsOnlyOne copies n left k → (target source : ℕ) → i ≡ Move target (Name source) → AreOfOneType scalars target source → (d : CopyAt)
+    → IsKnown scalars copies n left i → ((get_or copies k d).target ≡ target) × ((get_or copies k d).source ≡ source)
+of_known scalars copies n left i k one target source is typed d known =
+    let made = known.all target source is typed in
+    let same : get_or copies k d ≡ made.1 = get_or_from_slice_get copies k made.1 d (ap (slice_get copies) (sym (one.only made.0 made.1 made.2 made.3)) ∙ made.2) in
+    (ap (λ (e : CopyAt). e.target) same ∙ made.4, ap (λ (e : CopyAt). e.source) same ∙ made.5)
+
+-- none is made where one stands, or one is made where none stands
+pub stands_alone : (scalars : List Scalar) (copies : List CopyAt) (n left : ℕ) (i : Instruction) (k : ℕ) → IsOnlyOne copies n left k → IsNoCopy scalars i → IsKnown scalars copies n left i → ⊥
+stands_alone scalars copies n left i k one never known = (let made = known.listed k one.copy one.is one.stands in never one.copy.target one.copy.source made.0 made.1)
+
+pub none_stands : (scalars : List Scalar) (copies : List CopyAt) (n left : ℕ) (i : Instruction) → ((k : ℕ) (c : CopyAt) → slice_get copies k ≡ Some c → stands_at c n left ≡ false) → (target source : ℕ) → i ≡ Move target (Name source)
+    → AreOfOneType scalars target source → IsKnown scalars copies n left i → ⊥
+none_stands scalars copies n left i none target source is typed known = (let made = known.all target source is typed in absurd (true≢false (sym made.3 ∙ none made.0 made.1 made.2)))

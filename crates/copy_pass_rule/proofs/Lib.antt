@@ -11,3 +11,11 @@ pub mod Naming
 pub mod Keeping
 pub mod Alike
 pub mod Valid
+pub mod LaterCopies
+pub mod Found
+pub mod Ordering
+pub mod Turns
+pub mod AlongBlocks
+mod Standing
+pub mod Counting
+pub mod Pointed

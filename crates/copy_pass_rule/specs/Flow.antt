@@ -1,5 +1,5 @@
 -- Where copies are missing: how that flows from block to block.
-use Rattle.std.specs.Prelude.{◌≡◌, ℕ, suc, ◌+◌, ◌<◌, ◌==◌, ◌&&◌, ◌||◌, Bool, true, false, if◌then◌else◌, not, Option, Some, List, [], ◌∷◌, length, map, slice_get, ⊤}
+use Rattle.std.specs.Prelude.{◌≡◌, ℕ, suc, ◌+◌, ◌<◌, ◌==◌, ◌&&◌, ◌||◌, Bool, true, false, if◌then◌else◌, not, Option, Some, List, [], ◌∷◌, ◌++◌, length, map, slice_get, ⊤}
 use Rattle.std.specs.Option.{option_map_or}
 use Rattle.graph_core.specs.Graphs.{Name, Instruction, Move, Block, Scalar}
 use Rattle.graph_core.specs.Uses.{target_of, targets_of}
@@ -85,6 +85,15 @@ pub data AreRead (scalars : List Scalar) (copies : List CopyAt) (n : ℕ) : List
       → ((k : ℕ) (c : CopyAt) → slice_get copies k ≡ Some c → next k ≡ missing_behind c n (length rest) (target_of i) (missing k)) → AreRead scalars copies n rest next later after
       → AreRead scalars copies n (i ∷ rest) missing (reading (source_among copies missing 0) i ∷ later) after
 
+-- At each point of a block the copies are known that its instruction makes, as it is read by those that are not missing
+-- there; at the start of the block these are missing.
+abbrev pub AreKnownIn : List Scalar → List CopyAt → (n : ℕ) → List Instruction → (missing : ℕ → Bool) → Type 0
+AreKnownIn scalars copies n all missing =
+    (before rest : List Instruction) (i : Instruction) (here : ℕ → Bool) → all ≡ before ++ i ∷ rest
+    → ((k : ℕ) (c : CopyAt) → slice_get copies k ≡ Some c
+    → here k ≡ missing_where c n (length (i ∷ rest)) (map target_of all) (missing k))
+    → IsKnown scalars copies n (length rest) (reading (source_among copies here 0) i)
+
 -- the copies that are missing by the bits of a row
 abbrev pub missing_in : Bits → (row : ℕ) → ℕ → Bool
 missing_in bits row k = bits row (suc k)
@@ -101,3 +110,15 @@ AreReadBlocks scalars copies bits n [] [] = ⊤
 AreReadBlocks scalars copies bits n [] (c ∷ after) = ⊥
 AreReadBlocks scalars copies bits n (b ∷ before) [] = ⊥
 AreReadBlocks scalars copies bits n (b ∷ before) (c ∷ after) = IsReadBlock scalars copies bits n b c × AreReadBlocks scalars copies bits (n + 1) before after
+
+-- Some way leads to a block, and the copies are not known that it makes.
+pub record IsUnknownBlock (scalars : List Scalar) (copies : List CopyAt) (bits : Bits) (n : ℕ) (b : Block) : Type 0 where
+  pub led : bits n 0 ≡ true
+  pub unknown : AreKnownIn scalars copies n b.instructions (missing_in bits n) → ⊥
+
+-- there is such a block
+pub record IsSomeUnknown (scalars : List Scalar) (copies : List CopyAt) (bits : Bits) (blocks : List Block) : Type 0 where
+  pub number : ℕ
+  pub block : Block
+  pub is : slice_get blocks number ≡ Some block
+  pub unknown : IsUnknownBlock scalars copies bits number block

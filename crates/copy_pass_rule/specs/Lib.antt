@@ -5,3 +5,7 @@ pub mod Rows
 pub mod Reader
 pub mod Known
 pub mod Alike
+pub mod Order
+pub mod Found
+pub mod Countable
+pub mod Along

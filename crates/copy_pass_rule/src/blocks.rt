@@ -1,16 +1,16 @@
 //! Blocks as they are read.
 
-ghost use Rattle.std.specs.Prelude.{◌≡◌, ◌↔◌, ℕ, ◌+◌, ◌^◌, ◌<◌, IfOk, IfSome, MatchOption, OnOk, length, map, true};
-ghost use Rattle.graph_core.specs.Graphs.{Move, Name as NameOf, block_view, graph_view, instruction_view, scalar_view};
-ghost use Rattle.copy_pass_rule.specs.Copying.{AreOfOneType, IsPropagated};
-ghost use Rattle.copy_pass_rule.specs.Flow.{AreRead, AreReadBlocks, IsKnown, IsReadBlock, missing_in};
+ghost use Rattle.std.specs.Prelude.{◌≡◌, ◌↔◌, ℕ, ◌+◌, ◌^◌, ◌<◌, IfOk, IfSome, MatchOption, None, OnOk, length, map, true};
+ghost use Rattle.graph_core.specs.Graphs.{Move, Name as NameOf, block_view, instruction_view, scalar_view};
+ghost use Rattle.copy_pass_rule.specs.Copying.{AreOfOneType};
+ghost use Rattle.copy_pass_rule.specs.Flow.{AreKnownIn, AreRead, AreReadBlocks, IsKnown, IsReadBlock, IsSomeUnknown, IsUnknownBlock, missing_in};
 ghost use Rattle.copy_pass_rule.specs.Known.{IsNoCopy, type_in};
 ghost use Rattle.graph_paths.specs.PathMarksTable.{bits_of};
 
-use crate::copies::{Copies, CopyAt};
-use crate::flow::{find_missing, step};
+use crate::copies::Copies;
+use crate::flow::step;
 use crate::reading::Reader;
-use graph_core::{Block, Graph, Instr, Operand, Scalar};
+use graph_core::{Block, Instr, Operand, Scalar};
 use graph_paths::Marks;
 use std::alloc::{AllocError, Global};
 
@@ -35,8 +35,10 @@ fn are_of_one_type(scalars: &[Scalar], target: u32, source: u32) -> bool
 }
 
 /// The scalars of a copy: an instruction moves one scalar to another of the same type.
-fn copy_of(scalars: &[Scalar], instruction: &Instr) -> Option<(u32, u32)>
-    ensures { MatchOption result (IsNoCopy (map scalar_view scalars.now) (instruction_view instruction.now)) (λ pair. (instruction_view instruction.now ≡ Move pair.0 (NameOf pair.1)) × AreOfOneType (map scalar_view scalars.now) pair.0 pair.1) }
+pub fn copy_of(scalars: &[Scalar], instruction: &Instr) -> Option<(u32, u32)>
+    ensures { MatchOption result (IsNoCopy (map scalar_view scalars.now) (instruction_view instruction.now))
+        (λ pair. (instruction_view instruction.now ≡ Move pair.0 (NameOf pair.1))
+        × AreOfOneType (map scalar_view scalars.now) pair.0 pair.1) }
 {
     match instruction {
         Instr::Move {
@@ -61,7 +63,8 @@ fn is_known(
     left: usize,
     instruction: &Instr,
 ) -> bool
-    ensures { result ≡ true → IsKnown (map scalar_view scalars.now) copies.now.all.now block left (instruction_view instruction.now) }
+    ensures { (result ≡ true)
+        ↔ IsKnown (map scalar_view scalars.now) copies.now.all.now block left (instruction_view instruction.now) }
 {
     match (copies.at(block, left), copy_of(scalars, instruction)) {
         (None, None) => true,
@@ -73,7 +76,8 @@ fn is_known(
     }
 }
 
-/// The instructions of a block as they are read, where their copies are known. The walk's row is at the start of the block, and comes to its end.
+/// The instructions of a block as they are read, where their copies are known. The walk's row is at the start of the
+/// block, and comes to its end.
 fn read_instructions(
     alloc: Global,
     scalars: &[Scalar],
@@ -87,7 +91,13 @@ fn read_instructions(
     requires narrow { length copies.now.all.now + 1 < 2 ^ 32 }
     ensures same_count { OnOk result (walk.new.count ≡ walk.old.count) }
     ensures same_width { OnOk result (walk.new.width ≡ walk.old.width) }
-    ensures read { IfOk result (λ o. IfSome o (λ made. AreRead (map scalar_view scalars.now) copies.now.all.now number (map instruction_view instructions.now) (missing_in (bits_of walk.old) 0) (map instruction_view made.items) (missing_in (bits_of walk.new) 0))) }
+    ensures read { IfOk result (λ o. IfSome o (λ made. AreRead (map scalar_view scalars.now) copies.now.all.now number
+        (map instruction_view instructions.now) (missing_in (bits_of walk.old) 0)
+        (map instruction_view made.items) (missing_in (bits_of walk.new) 0))) }
+    ensures none { IfOk result (λ o. o ≡ None
+        → AreKnownIn (map scalar_view scalars.now) copies.now.all.now number (map instruction_view instructions.now)
+        (missing_in (bits_of walk.old) 0)
+        → ⊥) }
 {
     let mut read = Vec::new(alloc);
     let mut ahead = instructions;
@@ -126,7 +136,11 @@ fn read_block(
     requires block { number < starts.now.count }
     ensures same_count { OnOk result (walk.new.count ≡ walk.old.count) }
     ensures same_width { OnOk result (walk.new.width ≡ walk.old.width) }
-    ensures read { IfOk result (λ o. IfSome o (λ made. IsReadBlock (map scalar_view scalars.now) copies.now.all.now (bits_of starts.now) number (block_view block.now) (block_view made))) }
+    ensures read { IfOk result (λ o. IfSome o (λ made. IsReadBlock (map scalar_view scalars.now) copies.now.all.now
+        (bits_of starts.now) number (block_view block.now) (block_view made))) }
+    ensures none { IfOk result (λ o. o ≡ None
+        → IsUnknownBlock (map scalar_view scalars.now) copies.now.all.now (bits_of starts.now) number
+        (block_view block.now)) }
 {
     if !starts.get(number, 0) {
         let same = block.duplicate(alloc)?;
@@ -151,7 +165,7 @@ fn read_block(
 }
 
 /// Blocks as they are read, where their copies are known.
-fn read_blocks(
+pub fn read_blocks(
     alloc: Global,
     scalars: &[Scalar],
     copies: &Copies<'_>,
@@ -162,7 +176,11 @@ fn read_blocks(
     requires widths { starts.now.width ≡ length copies.now.all.now + 1 }
     requires few { length blocks.now < 2 ^ 32 }
     requires narrow { length copies.now.all.now + 1 < 2 ^ 32 }
-    ensures { IfOk result (λ o. IfSome o (λ made. AreReadBlocks (map scalar_view scalars.now) copies.now.all.now (bits_of starts.now) 0 (map block_view blocks.now) (map block_view made.items))) }
+    ensures read { IfOk result (λ o. IfSome o (λ made. AreReadBlocks (map scalar_view scalars.now) copies.now.all.now
+        (bits_of starts.now) 0 (map block_view blocks.now) (map block_view made.items))) }
+    ensures none { IfOk result (λ o. o ≡ None
+        → IsSomeUnknown (map scalar_view scalars.now) copies.now.all.now (bits_of starts.now)
+        (map block_view blocks.now)) }
 {
     let mut walk = Marks::new(alloc, 1, copies.all.len() as u32 + 1)?;
     let mut number = 0u32;
@@ -178,37 +196,4 @@ fn read_blocks(
         ahead = rest;
     }
     Ok(Some(read))
-}
-
-/// The graph that reads its names as these copies have it, where they are the copies that it then makes: what copy propagation makes of a graph.
-///
-/// None where they are others, or more than can be numbered.
-pub fn propagated(
-    alloc: Global,
-    graph: &Graph,
-    copies: &[CopyAt],
-) -> Result<Option<Graph>, AllocError>
-    ensures { IfOk result (λ o. IfSome o (λ made. IsPropagated (graph_view graph.now) (graph_view made))) }
-{
-    let rows = graph.blocks.len().saturating_add(graph.scalars.len());
-    if graph.blocks.is_empty() || rows > 0x7fff_ffff || copies.len() > 0x7fff_ffff {
-        return Ok(None);
-    }
-    let scalars = graph.scalars.len() as u32;
-    let Some(copies) = Copies::new(alloc, copies, graph.blocks.len(), scalars)? else {
-        return Ok(None);
-    };
-    let starts = find_missing(alloc, &copies, &graph.blocks)?;
-    let Some(blocks) = read_blocks(alloc, &graph.scalars, &copies, &starts, &graph.blocks)? else {
-        return Ok(None);
-    };
-    Ok(Some(Graph {
-        entry: graph.entry,
-        parameters: Vec::from_slice(alloc, &graph.parameters)?,
-        scalars: Vec::from_slice(alloc, &graph.scalars)?,
-        objects: Vec::from_slice(alloc, &graph.objects)?,
-        name_count: graph.name_count,
-        first_moved: graph.first_moved,
-        blocks,
-    }))
 }

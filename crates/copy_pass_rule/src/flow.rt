@@ -19,7 +19,10 @@ fn write(copies: &Copies<'_>, marks: &mut Marks, row: u32, target: Option<Name>)
     requires width { marks.old.width ≡ length copies.now.all.now + 1 }
     ensures others { AreSameBut row (bits_of marks.old) (bits_of marks.new) }
     ensures led { bits_of marks.new row 0 ≡ bits_of marks.old row 0 }
-    ensures walk { (k : ℕ) (c : declared-copy.CopyAt) → slice_get copies.now.all.now k ≡ Some c → bits_of marks.new row (suc k) ≡ (is_written c.target (option_map (λ (n : declared-name.Name). n.0) target) || (is_written c.source (option_map (λ (n : declared-name.Name). n.0) target) || bits_of marks.old row (suc k))) }
+    ensures walk { (k : ℕ) (c : declared-copy.CopyAt) → slice_get copies.now.all.now k ≡ Some c
+        → bits_of marks.new row (suc k) ≡
+        (is_written c.target (option_map (λ (n : declared-name.Name). n.0) target) || (is_written c.source
+        (option_map (λ (n : declared-name.Name). n.0) target) || bits_of marks.old row (suc k))) }
     ensures same_count { marks.new.count ≡ marks.old.count }
     ensures same_width { marks.new.width ≡ marks.old.width }
 {
@@ -37,7 +40,8 @@ fn make(copies: &Copies<'_>, marks: &mut Marks, row: u32, block: u32, left: usiz
     requires few { length copies.now.all.now + 1 < 2 ^ 32 }
     ensures others { AreSameBut row (bits_of marks.old) (bits_of marks.new) }
     ensures led { bits_of marks.new row 0 ≡ bits_of marks.old row 0 }
-    ensures walk { (k : ℕ) (c : declared-copy.CopyAt) → slice_get copies.now.all.now k ≡ Some c → bits_of marks.new row (suc k) ≡ (if stands_at c block left then false else bits_of marks.old row (suc k)) }
+    ensures walk { (k : ℕ) (c : declared-copy.CopyAt) → slice_get copies.now.all.now k ≡ Some c
+        → bits_of marks.new row (suc k) ≡ (if stands_at c block left then false else bits_of marks.old row (suc k)) }
     ensures same_count { marks.new.count ≡ marks.old.count }
     ensures same_width { marks.new.width ≡ marks.old.width }
 {
@@ -60,7 +64,9 @@ pub fn step(
     requires narrow { length copies.now.all.now + 1 < 2 ^ 32 }
     ensures others { AreSameBut row (bits_of marks.old) (bits_of marks.new) }
     ensures led { bits_of marks.new row 0 ≡ bits_of marks.old row 0 }
-    ensures walk { (k : ℕ) (c : declared-copy.CopyAt) → slice_get copies.now.all.now k ≡ Some c → bits_of marks.new row (suc k) ≡ missing_behind c block left (option_map (λ (n : declared-name.Name). n.0) target) (bits_of marks.old row (suc k)) }
+    ensures walk { (k : ℕ) (c : declared-copy.CopyAt) → slice_get copies.now.all.now k ≡ Some c
+        → bits_of marks.new row (suc k) ≡ missing_behind c block left
+        (option_map (λ (n : declared-name.Name). n.0) target) (bits_of marks.old row (suc k)) }
     ensures same_count { marks.new.count ≡ marks.old.count }
     ensures same_width { marks.new.width ≡ marks.old.width }
 {
@@ -75,7 +81,9 @@ fn walk(copies: &Copies<'_>, marks: &mut Marks, row: u32, number: u32, block: &B
     requires narrow { length copies.now.all.now + 1 < 2 ^ 32 }
     ensures others { AreSameBut row (bits_of marks.old) (bits_of marks.new) }
     ensures led { bits_of marks.new row 0 ≡ bits_of marks.old row 0 }
-    ensures walk { (k : ℕ) (c : declared-copy.CopyAt) → slice_get copies.now.all.now k ≡ Some c → bits_of marks.new row (suc k) ≡ missing_along c number (line_of (block_view block.now)).writes (bits_of marks.old row (suc k)) }
+    ensures walk { (k : ℕ) (c : declared-copy.CopyAt) → slice_get copies.now.all.now k ≡ Some c
+        → bits_of marks.new row (suc k) ≡ missing_along c number (line_of (block_view block.now)).writes
+        (bits_of marks.old row (suc k)) }
     ensures same_count { marks.new.count ≡ marks.old.count }
     ensures same_width { marks.new.width ≡ marks.old.width }
 {
@@ -137,7 +145,8 @@ pub fn find_missing(alloc: Global, copies: &Copies<'_>, all: &[Block]) -> Result
     requires some { 0 < length all.now }
     ensures count { IfOk result (λ marks. marks.count ≡ length all.now) }
     ensures width { IfOk result (λ marks. marks.width ≡ length copies.now.all.now + 1) }
-    ensures found { IfOk result (λ marks. AreFound (lines_of (map block_view all.now)) copies.now.all.now (bits_of marks)) }
+    ensures found { IfOk result
+        (λ marks. AreFound (lines_of (map block_view all.now)) copies.now.all.now (bits_of marks)) }
 {
     let reached = reached_blocks(alloc, all)?;
     let count = all.len() as u32;

@@ -3,8 +3,11 @@
 
 mod blocks;
 mod copies;
+mod finding;
 mod flow;
+mod order;
+mod propagation;
 mod reading;
 
-pub use blocks::propagated;
 pub use copies::CopyAt;
+pub use propagation::propagated;

@@ -61,7 +61,8 @@ impl Reader<'_> {
         alloc: Global,
         operands: &[Operand],
     ) -> Result<SmallVec<Operand, 4>, AllocError>
-        ensures { IfOk result (λ v. map operand_view v.items ≡ reading_all (read_as self.now) (map operand_view operands.now)) }
+        ensures { IfOk result
+            (λ v. map operand_view v.items ≡ reading_all (read_as self.now) (map operand_view operands.now)) }
     {
         let mut all = SmallVec::new(alloc);
         for operand in operands {

@@ -1,6 +1,6 @@
 -- What a unit keeps of its program's shape.
 use Rattle.std.proofs.Common.{◌≡◌, ℕ, suc, ◌+◌, List, [], ◌∷◌, length, map, refl, ap, subst, sym, ◌∙◌}
-use Rattle.std.specs.Prelude.{◌↔◌, IfOk, IfSome, Option, Some, None, Result, Ok, Err}
+use Rattle.std.specs.Prelude.{◌↔◌, IfOk, Result, Ok, Err}
 use Rattle.std.specs.List.{Contains}
 use Rattle.places.specs.declared.flow.Assignment.{Assignment}
 use Rattle.places.specs.declared.flow.FlowStep.{FlowStep}
@@ -10,9 +10,8 @@ use Rattle.c_flow.specs.Flow.{steps_of_program}
 use Rattle.graph_core.specs.declared.unit.Unit as declared-unit
 use Rattle.graph_core.specs.declared.graph.Graph as declared-graph
 use Rattle.graph_core.specs.Graphs.{Graph, UnitForm, graph_view, unit_view}
-use Rattle.pass_law.specs.Kept.{EachFunction, KeepsFunction}
+use Rattle.pass_law.specs.Kept.{EachFunction, KeepsFunction, KeepsShape}
 use Rattle.graph_build.specs.Units.{IsUnitOf, graphs_from}
-use Rattle.pass_law.specs.PassRunsKept.{KeepsShape}
 use Rattle.image_build.specs.Tables.{HasShapeOf, entry_of, entry_place}
 
 as_many : (gs hs : List Graph) → EachFunction KeepsFunction gs hs → length hs ≡ length gs
@@ -50,12 +49,11 @@ shaped p u v is steps assignments kept = record {
   assignments = subst (λ all. (a : Assignment) → Contains all a ↔ Contains (assignments_of_program p) a) (sym kept.shared.assignments) assignments;
 }
 
--- what passes make of that unit, if they make one, has its shape
-pub shaped_by : {E : Type 0} (p : ProgramTree) (u : UnitForm) (made : Result (Option declared-unit.Unit) E) → IsUnitOf p u
+-- what passes make of that unit has its shape
+pub shaped_by : {E : Type 0} (p : ProgramTree) (u : UnitForm) (made : Result declared-unit.Unit E) → IsUnitOf p u
     → ((s : FlowStep) → Contains u.steps s ↔ Contains (steps_of_program p) s) → ((a : Assignment) → Contains u.assignments a ↔ Contains (assignments_of_program p) a)
-    → IfOk made (λ o. IfSome o (λ v. KeepsShape u (unit_view v))) → IfOk made (λ o. IfSome o (λ v. HasShapeOf p (unit_view v)))
-shaped_by p u (Ok (Some v)) is steps assignments kept = shaped p u (unit_view v) is steps assignments kept
-shaped_by p u (Ok None) is steps assignments kept = tt
+    → IfOk made (λ v. KeepsShape u (unit_view v)) → IfOk made (λ v. HasShapeOf p (unit_view v))
+shaped_by p u (Ok v) is steps assignments kept = shaped p u (unit_view v) is steps assignments kept
 shaped_by p u (Err e) is steps assignments kept = tt
 
 -- a unit that differs by its log alone has the same shape

@@ -1,6 +1,6 @@
 //! The image of a program.
 
-ghost use Rattle.std.specs.Prelude.{◌≡◌, [], true, IfNone, IfOk, IfSome, map};
+ghost use Rattle.std.specs.Prelude.{◌≡◌, ◌≤◌, [], true, IfNone, IfOk, IfSome, length, map};
 ghost use Rattle.c_tree.specs.Programs.{program_view};
 ghost use Rattle.c_flow.specs.Tables.{Fits32};
 ghost use Rattle.c_type_laws.specs.Laws.{IsWellFormed};
@@ -16,6 +16,7 @@ ghost use Rattle.image_build.specs.Behind.{ComesHomed};
 ghost use Rattle.image_build.specs.Made.{IsHomed, IsMadeOf};
 ghost use Rattle.image_build.specs.ProgramImageShown.{ShowsAll};
 ghost use Rattle.image_build.specs.Tables.{HasTablesOf};
+ghost use Rattle.pass_law.specs.HandedIn.{AreHandedIn};
 
 use crate::drafting::{draft_of, unit_of};
 use crate::made::Build;
@@ -23,7 +24,7 @@ use c_tree::Program;
 use debug_records::{Mode, PassName};
 use home_assign::assign;
 use image_form_drafts::spelled_image;
-use pass_law::UnitPass;
+use pass_law::Pass;
 use std::alloc::{AllocError, Global};
 
 /// Whether no pass is run and variables are kept in slots.
@@ -41,7 +42,7 @@ fn is_plain(names: &[PassName], mode: Mode) -> bool
 pub fn image_of_program(
     alloc: Global,
     program: Program,
-    passes: &[Box<dyn UnitPass>],
+    passes: &[Box<dyn Pass>],
     names: &[PassName],
     mode: Mode,
 ) -> Result<Option<Build>, AllocError>
@@ -49,19 +50,21 @@ pub fn image_of_program(
     requires laws { IsWellFormed (program_view program) }
     requires names { HasNames (program_view program) }
     requires spots { HasSpots (program_view program) }
+    requires few { length names.now ≤ 32 }
+    requires handed_in { AreHandedIn (λ p. named p) passes.now (map letters names.now) }
     ensures image { IfOk result (λ o. IfSome o (λ b. IsImage (form b.image))) }
     ensures bytes { IfOk result (λ o. IfSome o (λ b. b.bytes.items ≡ spelling (form b.image))) }
     ensures tables { IfOk result (λ o. IfSome o (λ b. HasTablesOf (program_view program) (form b.image))) }
     ensures made { IfOk result (λ o. IfSome o (λ b. IsMadeOf (program_view program) (homed_view b.homed) (form b.image))) }
     ensures homed { IfOk result (λ o. IfSome o (λ b. IsHomed mode (homed_view b.homed))) }
-    ensures comes { IfOk result (λ o. IfSome o (λ b. ComesHomed (λ p. named p) (λ p. steps p) passes.now (map letters names.now) (program_view program) (homed_view b.homed))) }
+    ensures comes { IfOk result (λ o. IfSome o (λ b.
+        ComesHomed (λ p. named p) (λ p. (steps p).leads) passes.now (map letters names.now) (program_view program)
+        (homed_view b.homed))) }
     ensures shows { names.now ≡ [] → mode ≡ Slots → IfOk result (λ o. IfSome o (λ b. ShowsAll (form b.image))) }
     ensures plain { names.now ≡ [] → mode ≡ Slots → IfOk result (λ o. IfNone o ⊥) }
     ensures program { IfOk result (λ o. IfSome o (λ b. program_view b.program ≡ program_view program)) }
 {
-    let Some(unit) = unit_of(alloc, &program, passes, names)? else {
-        return Ok(None);
-    };
+    let unit = unit_of(alloc, &program, passes, names)?;
     let homed = assign(alloc, &unit, mode)?;
     let Some(draft) = draft_of(alloc, &program, &homed, is_plain(names, mode))? else {
         return Ok(None);

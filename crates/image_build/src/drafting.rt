@@ -1,6 +1,6 @@
 //! From a program to what is to be its image, step by step.
 
-ghost use Rattle.std.specs.Prelude.{◌≡◌, ◌<◌, ◌^◌, [], IfNone, IfOk, IfSome, length, map, true};
+ghost use Rattle.std.specs.Prelude.{◌≡◌, ◌<◌, ◌≤◌, ◌^◌, [], IfNone, IfOk, IfSome, length, map, true};
 ghost use Rattle.c_tree.specs.Programs.{program_view};
 ghost use Rattle.c_flow.specs.Tables.{Fits32};
 ghost use Rattle.c_type_laws.specs.Laws.{IsWellFormed};
@@ -18,6 +18,7 @@ ghost use Rattle.image_build.specs.Made.{IsMadeOf};
 ghost use Rattle.image_build.specs.ProgramImageShown.{IsPlainUnit, ShowsAll};
 ghost use Rattle.image_build.specs.Tables.{HasShapeOf, HasTablesOf};
 ghost use Rattle.graph_build_laws.specs.Built.{IsBuilt};
+ghost use Rattle.pass_law.specs.HandedIn.{AreHandedIn};
 
 use crate::telling::verdicts_on;
 use c_flow::place_table;
@@ -29,27 +30,31 @@ use graph_homes::HomedUnit;
 use image_build_tables::{Parts, image_of};
 use image_form::Image;
 use image_form_drafts::tables_fit;
-use pass_law::{UnitPass, run_passes};
+use pass_law::{Pass, run_passes};
 use rv_emit::emit;
 use std::alloc::{AllocError, Global};
 
 /// The unit of a program, after the passes of these names, of which each in its turn made a step. It is well marked: so
-/// is the one that is built of the program (`built_units_are_marked`), and each pass keeps it so. None where a pass makes
-/// no unit.
+/// is the one that is built of the program (`built_units_are_marked`), and each pass keeps it so. The only error is want
+/// of memory.
 pub fn unit_of(
     alloc: Global,
     program: &Program,
-    passes: &[Box<dyn UnitPass>],
+    passes: &[Box<dyn Pass>],
     names: &[PassName],
-) -> Result<Option<Unit>, AllocError>
+) -> Result<Unit, AllocError>
     requires fits { Fits32 (program_view program.now) }
     requires laws { IsWellFormed (program_view program.now) }
-    ensures valid { IfOk result (λ o. IfSome o (λ u. IsValid (unit_view u))) }
-    ensures marked { IfOk result (λ o. IfSome o (λ u. AreWellMarked (unit_view u))) }
-    ensures shape { IfOk result (λ o. IfSome o (λ u. HasShapeOf (program_view program.now) (unit_view u))) }
-    ensures comes { IfOk result (λ o. IfSome o (λ u. ComesOf (λ p. named p) (λ p. steps p) passes.now (map letters names.now) (program_view program.now) (unit_view u))) }
-    ensures total { names.now ≡ [] → IfOk result (λ o. IfNone o ⊥) }
-    ensures built { names.now ≡ [] → IfOk result (λ o. IfSome o (λ u. IsBuilt (program_view program.now) (unit_view u))) }
+    requires few { length names.now ≤ 32 }
+    requires handed_in { AreHandedIn (λ p. named p) passes.now (map letters names.now) }
+    ensures valid { IfOk result (λ u. IsValid (unit_view u)) }
+    ensures marked { IfOk result (λ u. AreWellMarked (unit_view u)) }
+    ensures shape { IfOk result (λ u. HasShapeOf (program_view program.now) (unit_view u)) }
+    ensures comes { IfOk result (λ u.
+        ComesOf (λ p. named p) (λ p. (steps p).leads) passes.now (map letters names.now) (program_view program.now)
+        (unit_view u)) }
+    ensures few_changes { IfOk result (λ u. length (unit_view u).log ≤ 32000000) }
+    ensures built { names.now ≡ [] → IfOk result (λ u. IsBuilt (program_view program.now) (unit_view u)) }
 {
     let unit = program_unit(alloc, program)?;
     run_passes(alloc, passes, names, unit)

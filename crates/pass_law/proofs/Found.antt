@@ -1,7 +1,6 @@
 -- Passes of a name.
-use Rattle.std.proofs.Common.{◌≡◌, ◌≢◌, ℕ, ◌<◌, ◌+◌, List, ◌∷◌, sym, subst, ap, ◌∙◌, take, length, get_or, map}
+use Rattle.std.proofs.Common.{◌≡◌, ◌≢◌, ℕ, ◌<◌, ◌+◌, List, sym, subst, ap, ◌∙◌, take, length, get_or, map}
 use Rattle.std.specs.Prelude.{Bool, true, false}
-use Rattle.std.specs.List.{All, Any}
 use Rattle.std.proofs.lemmas.List.{take_more, length-map, get_or-map, map_more}
 use Rattle.std.proofs.lemmas.List.Elements.{All-push}
 use Rattle.debug_records.specs.declared.change.PassName.{PassName}
@@ -34,9 +33,13 @@ module _ {P : Type 0} (named : P → PassName) where
       subst (λ some. AreHandedIn named passes some) (sym (map_more letters names i d within))
       (All-push (IsHandedIn named passes) (map letters (take i names)) (letters (get_or names i d)) others one)
 
-  -- where one name is not handed in, not all are
-  pub not_handed : (passes : List P) (names : List PassName) (i : ℕ) (d : PassName) → i < length names → ¬ IsHandedIn named passes (letters (get_or names i d)) → AreHandedIn named passes (map letters names) → ⊥
-  not_handed passes names i d within none all =
+  -- each of the names is some pass's
+  pub handed_at : (passes : List P) (names : List PassName) (i : ℕ) (d : PassName) → i < length names → AreHandedIn named passes (map letters names) → IsHandedIn named passes (letters (get_or names i d))
+  handed_at passes names i d within all =
       let long : i < length (map letters names) = subst (λ k. i < k) (sym (length-map names letters)) within in
       let one : IsHandedIn named passes (get_or (map letters names) i (letters d)) = all i (letters d) long in
-      none (subst (IsHandedIn named passes) (get_or-map letters names i d (letters d) within) one)
+      subst (IsHandedIn named passes) (get_or-map letters names i d (letters d) within) one
+
+  -- where one name is not handed in, not all are
+  pub not_handed : (passes : List P) (names : List PassName) (i : ℕ) (d : PassName) → i < length names → ¬ IsHandedIn named passes (letters (get_or names i d)) → AreHandedIn named passes (map letters names) → ⊥
+  not_handed passes names i d within none all = none (handed_at passes names i d within all)

@@ -24,6 +24,12 @@ module _ {P : Type 0} (named : P → PassName) where
         let differs : letters (named q) ≢ name = All-head (λ r. letters (named r) ≢ name) q (take i all) others in
         some_behind q all differs (slice_get all i) (found_first all i p (omega arith) is same (All-tail (λ r. letters (named r) ≢ name) q (take i all) others))
 
+    -- the first pass of a name has it, so that the name is some pass's
+    pub first_is_some : (all : List P) (p : P) → IsFirst named name p all → IsNoPass named all name → ⊥
+    first_is_some [] p first none = elim first [ ]
+    first_is_some (q ∷ all) p (here same) none = All-head (λ r. letters (named r) ≢ name) q all none same
+    first_is_some (q ∷ all) p (behind differs first) none = first_is_some all p first (All-tail (λ r. letters (named r) ≢ name) q all none)
+
     -- the pass at the index of the first is the first
     pub first_at : (all : List P) (k : ℕ) (p : P) → k < length all → p ≡ get_or all k p → IsSomeAnd (slice_get all k) (λ q. IsFirst named name q all) → IsFirst named name p all
     first_at all k p within is found = subst (λ o. IsSomeAnd o (λ q. IsFirst named name q all)) (slice_get-get_or all k p within ∙ ap Some (sym is)) found

@@ -1,7 +1,5 @@
 pub mod Keeping
-pub mod FirstPasses
 pub mod KeptTrails
-pub mod NamesSame
 pub mod Inversions
 pub mod WorkedValid
 pub mod WorkedBuilt
@@ -26,3 +24,4 @@ pub mod Shape
 pub mod LogsLittle
 pub mod FewCases
 pub mod LoggedWell
+pub mod LogLonger

@@ -1,10 +1,9 @@
 -- What keeps a unit's shape keeps it along a list of passes.
-use Rattle.std.proofs.Common.{◌≡◌, List, [], ◌∷◌, refl, ◌∙◌}
-use Rattle.std.specs.Prelude.{IfOk, IfSome, Option, Some, None, Result, Ok, Err}
+use Rattle.std.proofs.Common.{◌≡◌, List, [], ◌∷◌, refl, sym, subst, ap, ◌∙◌}
+use Rattle.std.specs.Prelude.{IfOk, Result, Ok, Err}
 use Rattle.graph_core.specs.declared.unit.Unit as declared-unit
-use Rattle.graph_core.specs.Graphs.{Graph, UnitForm, unit_view}
-use Rattle.pass_law.specs.Kept.{EachFunction, KeepsAllButBlocks, KeepsFunction, ShareTheSame}
-use Rattle.pass_law.specs.PassRunsKept.{KeepsShape}
+use Rattle.graph_core.specs.Graphs.{Graph, Logged, UnitForm, unit_view}
+use Rattle.pass_law.specs.Kept.{EachFunction, KeepsAllButBlocks, KeepsFunction, KeepsShape, ShareTheSame}
 
 function_itself : (g : Graph) → KeepsFunction g g
 function_itself g = record { entry = refl; parameters = refl; scalars = refl; objects = refl; first_moved = refl }
@@ -44,6 +43,12 @@ shape_itself u = record {
   functions = functions_themselves u.graphs;
 }
 
+-- and where its log alone is another
+pub shape_logged : (u v w : UnitForm) (log : List Logged) → v ≡ u → w ≡ record v { log = log } → KeepsShape u w
+shape_logged u v w log same grown =
+    let to : UnitForm → UnitForm = λ (x : UnitForm). record x { log = log } in
+    subst (KeepsShape u) (sym (grown ∙ ap to same)) (record { shared = record { main = refl; statics = refl; array_bytes = refl; steps = refl; assignments = refl; room = refl }; functions = functions_themselves u.graphs })
+
 -- what is kept twice is kept
 pub shape_twice : (u v w : UnitForm) → KeepsShape u v → KeepsShape v w → KeepsShape u w
 shape_twice u v w first then = record {
@@ -59,15 +64,13 @@ shape_twice u v w first then = record {
 }
 
 -- A pass whose unit shares what the given one has, and keeps its functions, keeps its shape.
-pub kept_by : {E : Type 0} (u : UnitForm) (made : Result (Option declared-unit.Unit) E) → IfOk made (λ o. IfSome o (λ v. ShareTheSame u (unit_view v)))
-    → IfOk made (λ o. IfSome o (λ v. EachFunction KeepsFunction u.graphs (unit_view v).graphs)) → IfOk made (λ o. IfSome o (λ v. KeepsShape u (unit_view v)))
-kept_by u (Ok (Some v)) shared functions = record { shared = shared; functions = functions }
-kept_by u (Ok None) shared functions = tt
+pub kept_by : {E : Type 0} (u : UnitForm) (made : Result declared-unit.Unit E) → IfOk made (λ v. ShareTheSame u (unit_view v))
+    → IfOk made (λ v. EachFunction KeepsFunction u.graphs (unit_view v).graphs) → IfOk made (λ v. KeepsShape u (unit_view v))
+kept_by u (Ok v) shared functions = record { shared = shared; functions = functions }
 kept_by u (Err e) shared functions = tt
 
 -- the same where it keeps all of its functions but blocks
-pub kept_but_blocks : {E : Type 0} (u : UnitForm) (made : Result (Option declared-unit.Unit) E) → IfOk made (λ o. IfSome o (λ v. ShareTheSame u (unit_view v)))
-    → IfOk made (λ o. IfSome o (λ v. EachFunction KeepsAllButBlocks u.graphs (unit_view v).graphs)) → IfOk made (λ o. IfSome o (λ v. KeepsShape u (unit_view v)))
-kept_but_blocks u (Ok (Some v)) shared functions = record { shared = shared; functions = of_functions u.graphs (unit_view v).graphs functions }
-kept_but_blocks u (Ok None) shared functions = tt
+pub kept_but_blocks : {E : Type 0} (u : UnitForm) (made : Result declared-unit.Unit E) → IfOk made (λ v. ShareTheSame u (unit_view v))
+    → IfOk made (λ v. EachFunction KeepsAllButBlocks u.graphs (unit_view v).graphs) → IfOk made (λ v. KeepsShape u (unit_view v))
+kept_but_blocks u (Ok v) shared functions = record { shared = shared; functions = of_functions u.graphs (unit_view v).graphs functions }
 kept_but_blocks u (Err e) shared functions = tt

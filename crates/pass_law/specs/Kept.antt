@@ -45,3 +45,9 @@ pub record AddsChanges (pass : PassName) (kind : declared-kind.Kind) (u v : Unit
   pub added : List Logged
   pub log : v.log ≡ u.log ++ added
   pub changes : AllByRecursion (IsChangeOf pass kind) added
+
+-- There are the same functions, each with its entry, its parameters and its variables, and what functions share is the same: `main`, static storage, the steps of the program's flow,
+-- which place assigns which variable, and the room.
+pub record KeepsShape (u v : UnitForm) : Type 0 where
+  pub shared : ShareTheSame u v
+  pub functions : EachFunction KeepsFunction u.graphs v.graphs

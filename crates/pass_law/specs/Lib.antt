@@ -9,5 +9,4 @@ pub mod Cases
 pub mod Changes
 pub mod Kept
 pub mod HandedIn
-pub mod PassRunsKept
 pub mod Leading

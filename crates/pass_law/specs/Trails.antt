@@ -1,32 +1,25 @@
 -- Lists of passes: which pass a name means, what a list of names makes of a unit, and why a list is not run.
-use Rattle.std.specs.Prelude.{◌≡◌, ◌≢◌, ℕ, ◌<◌, List, [], ◌∷◌, Some, slice_get, ⊤}
-use Rattle.std.specs.List.{All}
+use Rattle.std.specs.Prelude.{◌≡◌, ℕ, ◌<◌, List, [], ◌∷◌, Some, slice_get, ⊤}
+use Rattle.debug_records.specs.Change.{letters}
 use Rattle.debug_records.specs.declared.change.PassName.{PassName}
 use Rattle.graph_core.specs.Graphs.{UnitForm}
 use Rattle.pass_law.specs.declared.list.RunErr.{RunErr}
 use Rattle.pass_law.specs.declared.list.RunErr.TheVariants.{Unknown, NoMemory}
+use Rattle.pass_law.specs.HandedIn.{IsNoPass}
+use Rattle.pass_law.specs.Leading.{IsFirst}
 use Rattle.pass_law.specs.Relations.{PassRelation}
-
--- A pass is the first of a name.
-pub data IsFirst {P : Type 0} (named : P → PassName) (name : PassName) (p : P) : List P → Type 0 where
-  here : {more : List P} → named p ≡ name → IsFirst named name p (p ∷ more)
-  behind : {other : P} {more : List P} → named other ≢ name → IsFirst named name p more → IsFirst named name p (other ∷ more)
-
--- The name is no pass's.
-abbrev pub IsNoPass : {P : Type 0} → (P → PassName) → List P → PassName → Type 0
-IsNoPass named passes name = All (λ p. named p ≢ name) passes
 
 -- The units of a trail: for each name, in order, a step of the first pass of that name leads from one unit to the next.
 pub data IsTrail {P : Type 0} (named : P → PassName) (steps : P → PassRelation) (passes : List P) : List PassName → List UnitForm → Type 0 where
   ends : {u : UnitForm} → IsTrail named steps passes [] (u ∷ [])
-  goes_on : {name : PassName} {names : List PassName} {u v : UnitForm} {units : List UnitForm} (p : P) → IsFirst named name p passes → (steps p).leads u v → IsTrail named steps passes names (v ∷ units) → IsTrail named steps passes (name ∷ names) (u ∷ v ∷ units)
+  goes_on : {name : PassName} {names : List PassName} {u v : UnitForm} {units : List UnitForm} (p : P) → IsFirst named (letters name) p passes → (steps p).leads u v → IsTrail named steps passes names (v ∷ units) → IsTrail named steps passes (name ∷ names) (u ∷ v ∷ units)
 
 -- A name stands at an index, is no pass's, and is the first such name: each one before it is some pass's.
 pub record IsFirstUnknown {P : Type 0} (named : P → PassName) (passes : List P) (names : List PassName) (index : ℕ) : Type 0 where
   pub name : PassName
   pub stands : slice_get names index ≡ Some name
-  pub unknown : IsNoPass named passes name
-  pub others : (k : ℕ) (other : PassName) → k < index → slice_get names k ≡ Some other → IsNoPass named passes other → ⊥
+  pub unknown : IsNoPass named passes (letters name)
+  pub others : (k : ℕ) (other : PassName) → k < index → slice_get names k ≡ Some other → IsNoPass named passes (letters other) → ⊥
 
 -- Why a list is not run: by its first unknown name, or since memory was refused.
 abbrev pub IsReason : {P : Type 0} → (P → PassName) → List P → List PassName → RunErr → Type 0

@@ -6,13 +6,9 @@ mod laws;
 mod list;
 mod names;
 mod pass;
-mod pass_runs_list;
-mod pass_runs_pass;
 
 pub use cases::{Case, log_cases};
 pub use laws::{changes_are_borne_out, definitions_are_met, keeping_composes, logs_are_bounded};
-pub use list::{MAX_LIST_LENGTH, RunErr, Trail, run_list};
+pub use list::{MAX_LIST_LENGTH, RunErr, Trail, are_handed_in, run_list, run_passes};
 pub use names::name_of;
 pub use pass::Pass;
-pub use pass_runs_list::{are_handed_in, run_passes};
-pub use pass_runs_pass::UnitPass;

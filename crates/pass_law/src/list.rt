@@ -1,11 +1,16 @@
 //! Lists of passes.
 
-ghost use Rattle.std.specs.Prelude.{◌≡◌, ◌≤◌, ◌<◌, ◌^◌, ◌++◌, [], ◌∷◌, AllPairs, IfErr, IfOk, IfSome, IsSomeAnd, MatchOption, OnOk, Some, length, map, slice_get};
+ghost use Rattle.std.specs.Prelude.{◌≡◌, ◌≤◌, ◌<◌, ◌^◌, ◌*◌, ◌++◌, ◌↔◌, [], ◌∷◌, AllPairs, IfErr, IfOk, IfSome, IsSomeAnd, IsTrue, MatchOption, OnOk, Some, length, map, slice_get};
+ghost use Rattle.debug_records.specs.Change.{letters};
 ghost use Rattle.graph_core.specs.Graphs.{unit_view};
-ghost use Rattle.pass_law.specs.Keeps.{Keeps};
-ghost use Rattle.pass_law.specs.Logs.{LogsWell};
+ghost use Rattle.graph_core.specs.Validity.{IsValid};
 ghost use Rattle.graph_core.specs.WellMarked.{AreWellMarked};
-ghost use Rattle.pass_law.specs.Trails.{IsFirst, IsNoPass, IsReason, IsTrail};
+ghost use Rattle.pass_law.specs.HandedIn.{AreHandedIn, IsHandedIn, IsNoPass};
+ghost use Rattle.pass_law.specs.Keeps.{Keeps};
+ghost use Rattle.pass_law.specs.Kept.{KeepsShape};
+ghost use Rattle.pass_law.specs.Leading.{IsFirst, IsLawfulStep, Lead};
+ghost use Rattle.pass_law.specs.Logs.{LogsWell, most_changes};
+ghost use Rattle.pass_law.specs.Trails.{IsReason, IsTrail};
 
 use crate::pass::Pass;
 use debug_records::PassName;
@@ -43,35 +48,74 @@ impl From<AllocError> for RunErr {
     }
 }
 
-/// The name of a pass.
-fn name_of(pass: &Box<dyn Pass>) -> PassName
-    ensures { result ≡ named pass.now }
+/// Whether a pass has a name of the same letters.
+fn is_called(pass: &Box<dyn Pass>, name: &PassName) -> bool
+    ensures { IsTrue result ↔ (letters (named pass.now) ≡ letters name.now) }
 {
-    pass.name()
+    let own = pass.name();
+    own.letters() == name.letters()
+}
+
+/// The index of the first pass of a name, if one has it.
+fn find_pass(passes: &[Box<dyn Pass>], name: &PassName) -> Option<usize>
+    ensures found { MatchOption result (IsNoPass (λ p. named p) passes.now (letters name.now))
+        (λ _. IsHandedIn (λ p. named p) passes.now (letters name.now)) }
+    ensures within { IfSome result (λ i. i < length passes.now) }
+    ensures first { IfSome result (λ i. IsSomeAnd (slice_get passes.now i)
+        (λ p. IsFirst (λ q. named q) (letters name.now) p passes.now)) }
+{
+    for (i, pass) in passes.iter().enumerate() {
+        if is_called(pass, name) {
+            return Some(i);
+        }
+    }
+    None
+}
+
+/// Whether a name is the name of a pass.
+fn is_handed_in(passes: &[Box<dyn Pass>], name: &PassName) -> bool
+    ensures { IsTrue result ↔ IsHandedIn (λ p. named p) passes.now (letters name.now) }
+{
+    match find_pass(passes, name) {
+        Some(_i) => true,
+        None => false,
+    }
+}
+
+/// Whether each of these names is the name of a pass.
+pub fn are_handed_in(passes: &[Box<dyn Pass>], names: &[PassName]) -> bool
+    ensures { IsTrue result ↔ AreHandedIn (λ p. named p) passes.now (map letters names.now) }
+{
+    for name in names {
+        if !is_handed_in(passes, name) {
+            return false;
+        }
+    }
+    true
+}
+
+/// The index of the first pass of a name that is some pass's.
+fn index_of(passes: &[Box<dyn Pass>], name: &PassName) -> usize
+    requires { IsHandedIn (λ p. named p) passes.now (letters name.now) }
+    ensures within { result < length passes.now }
+    ensures first { IsSomeAnd (slice_get passes.now result)
+        (λ p. IsFirst (λ q. named q) (letters name.now) p passes.now) }
+{
+    match find_pass(passes, name) {
+        Some(i) => i,
+        None => unreachable!(),
+    }
 }
 
 /// A step of a pass.
 fn apply_one(alloc: Global, pass: &Box<dyn Pass>, unit: &Unit) -> Result<Unit, AllocError>
     requires marked { AreWellMarked (unit_view unit.now) }
     requires room { length (unit_view unit.now).log < 2 ^ 31 }
+    ensures kept { IfOk result (λ v. KeepsShape (unit_view unit.now) (unit_view v)) }
     ensures step { IfOk result (λ v. (steps pass.now).leads (unit_view unit.now) (unit_view v)) }
     ensures logs { IfOk result (λ v. LogsWell (named pass.now) (unit_view unit.now) (unit_view v)) }
 {
     pass.apply(alloc, unit)
-}
-
-/// The index of the first pass of a name, if one has it.
-fn find_pass(passes: &[Box<dyn Pass>], name: PassName) -> Option<usize>
-    ensures found { MatchOption result (IsNoPass (λ p. named p) passes.now name) (λ i.
-        IsSomeAnd (slice_get passes.now i) (λ p. IsFirst (λ q. named q) name p passes.now)) }
-    ensures within { IfSome result (λ i. i < length passes.now) }
-{
-    for (i, pass) in passes.iter().enumerate() {
-        if name_of(pass) == name {
-            return Some(i);
-        }
-    }
-    None
 }
 
 /// Appends a unit.
@@ -103,11 +147,47 @@ pub fn run_list(
     let mut units = Vec::new(alloc);
     push_unit(&mut units, unit)?;
     for (i, name) in names.iter().enumerate() {
-        let Some(k) = find_pass(passes, *name) else {
+        let Some(k) = find_pass(passes, name) else {
             return Err(RunErr::Unknown(i));
         };
         let next = apply_one(alloc, &passes[k], &units[i])?;
         push_unit(&mut units, next)?;
     }
     Ok(Trail { units })
+}
+
+/// Runs the passes of these names on a well marked unit without changes, in order, each by one step; of two passes of
+/// one
+/// name the first is taken. What is made of it keeps what the unit does, and so does what each step makes of the unit
+/// before it, with no more in the log than its pass may log. No names give the unit back. `AllocError` where memory was
+/// refused.
+pub fn run_passes(
+    alloc: Global,
+    passes: &[Box<dyn Pass>],
+    names: &[PassName],
+    unit: Unit,
+) -> Result<Unit, AllocError>
+    requires few { length names.now ≤ MAX_LIST_LENGTH }
+    requires handed_in { AreHandedIn (λ p. named p) passes.now (map letters names.now) }
+    requires marked { AreWellMarked (unit_view unit) }
+    requires unchanged { (unit_view unit).log ≡ [] }
+    ensures made { IfOk result (λ v. IsValid (unit_view v)) }
+    ensures kept { IfOk result (λ v. KeepsShape (unit_view unit) (unit_view v)) }
+    ensures led { IfOk result (λ v.
+        Lead (λ p. named p) (λ p. (steps p).leads) passes.now (map letters names.now) (unit_view unit) (unit_view v)) }
+    ensures lawful { IfOk result (λ v.
+        Lead (λ p. named p) (λ p. IsLawfulStep (named p) (steps p).leads) passes.now (map letters names.now)
+        (unit_view unit) (unit_view v)) }
+    ensures keeps { IfOk result (λ v. Keeps (unit_view unit) (unit_view v)) }
+    ensures few_changes { IfOk result (λ v.
+        length (unit_view v).log ≤ most_changes (unit_view unit).room * length names.now) }
+    ensures nothing { names.now ≡ [] → IfOk result (λ v. v ≡ unit) }
+{
+    let mut last = unit;
+    for name in names {
+        let i = index_of(passes, name);
+        let next = apply_one(alloc, &passes[i], &last)?;
+        last = next;
+    }
+    Ok(last)
 }

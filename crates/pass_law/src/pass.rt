@@ -4,6 +4,7 @@ ghost use Rattle.std.specs.Prelude.{◌≡◌, ◌<◌, ◌^◌, IfOk, length};
 ghost use Rattle.debug_records.specs.declared.change.PassName.{PassName};
 ghost use Rattle.graph_core.specs.Graphs.{unit_view};
 ghost use Rattle.graph_core.specs.WellMarked.{AreWellMarked};
+ghost use Rattle.pass_law.specs.Kept.{KeepsShape};
 ghost use Rattle.pass_law.specs.Logs.{LogsWell};
 ghost use Rattle.pass_law.specs.Relations.{PassRelation};
 
@@ -23,11 +24,12 @@ pub trait Pass: Drop {
     fn name(&self) -> PassName
         ensures { result ≡ named self.now };
 
-    /// What the pass makes of a well marked unit, whose log has fewer than 2^31 changes: by a step of the pass, which
-    /// logs what a pass may. `AllocError` where memory was refused.
+    /// What the pass makes of a well marked unit, whose log has fewer than 2^31 changes: a unit of the same shape, by a
+    /// step of the pass, which logs what a pass may. `AllocError` where memory was refused.
     fn apply(&self, alloc: Global, unit: &Unit) -> Result<Unit, AllocError>
         requires marked { AreWellMarked (unit_view unit.now) }
         requires room { length (unit_view unit.now).log < 2 ^ 31 }
+        ensures kept { IfOk result (λ v. KeepsShape (unit_view unit.now) (unit_view v)) }
         ensures step { IfOk result (λ v. (steps self.now).leads (unit_view unit.now) (unit_view v)) }
         ensures logs { IfOk result (λ v. LogsWell (named self.now) (unit_view unit.now) (unit_view v)) };
 }

@@ -7,3 +7,4 @@ pub mod Completeness
 pub mod Lines
 pub mod Compiled
 pub mod Behind
+pub mod Named

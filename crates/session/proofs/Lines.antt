@@ -1,5 +1,5 @@
 -- Lines of changes, and what jobs print that save nothing.
-use Rattle.std.proofs.Common.{◌≡◌, ℕ, ap, refl, subst, List, [], map}
+use Rattle.std.proofs.Common.{◌≡◌, ℕ, ap, inl, refl, subst, List, [], map}
 use Rattle.std.specs.Prelude.{Vec, Ok}
 use Rattle.std.specs.Global.{Global}
 use Rattle.std.specs.List.{flat_map}
@@ -41,7 +41,7 @@ sweep_within held given = record { first = tt; script = tt; input = tt }
 
 -- why the source of a list of changes was refused
 pub list_refused : (status : Status) (code : Code) (at : ℕ) (source : List ℕ) (held : Held) (given : PassesGiven) → status ≡ SourceRefused code at → ListFails status source → Loads (held given.source) 1048576 source → TextIsRefused held (passes given) code at
-list_refused status code at source held given e ends loads = source_held ⊥ code at (held given.source) source loads (subst (λ s. ListFails s source) e ends)
+list_refused status code at source held given e ends loads = source_held (Unit {0}) code at (held given.source) source loads (inl (subst (λ s. ListFails s source) e ends))
 
 -- the sources of these jobs are accepted
 pub list_accepted : (source : List ℕ) (held : Held) (given : PassesGiven) → HasProgram source → Loads (held given.source) 1048576 source → AreAccepted held (passes given)

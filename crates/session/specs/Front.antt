@@ -13,12 +13,12 @@ pub record IsPlain (names : List Text) (mode : Mode) : Type 0 where
   pub no_pass : names ≡ []
   pub slots : mode ≡ Slots
 
--- it is proved that the job compiles each program
+-- it is proved that the job compiles each program, or lists its changes
 abbrev pub IsPromised : JobGiven → Type 0
 IsPromised (debug given) = IsPlain given.passes given.mode
 IsPromised (compile given) = IsPlain given.passes given.mode
 IsPromised (attach given) = ⊥
-IsPromised (passes given) = ⊥
+IsPromised (passes given) = Unit {0}
 IsPromised (sweep given) = ⊥
 
 -- A text of a program may be left out where nothing is promised, as one that is not compiled so far: E11 and line 1.

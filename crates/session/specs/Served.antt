@@ -1,5 +1,5 @@
 -- The jobs that the program serves: all of the command line, where the passes that they need are handed in.
-use Rattle.std.specs.Prelude.{◌≡◌, Option, Some, None, List, [], ◌∷◌, codes}
+use Rattle.std.specs.Prelude.{◌≡◌, ◌≤◌, Option, Some, None, List, [], ◌∷◌, codes, length}
 use Rattle.command_line.specs.Words.{Text}
 use Rattle.command_line.specs.Grammar.{IsJob}
 use Rattle.command_line.specs.Job.{JobGiven, attach, compile, debug, passes, sweep}
@@ -18,6 +18,11 @@ needed (compile given) = given.passes
 needed (attach given) = []
 needed (passes given) = given.passes
 needed (sweep given) = default_names
+
+-- The passes of these names can be run one after the other: there are at most 32 names, each of a pass that is handed in.
+pub record CanRun {P : Type 0} (named : P → PassName) (handed_in : List P) (names : List Text) : Type 0 where
+  pub few : length names ≤ 32
+  pub handed_in : AreHandedIn named handed_in names
 
 -- The words are a job, and each pass that it needs is handed in.
 pub record AreServed {P : Type 0} (named : P → PassName) (handed_in : List P) (words : List Text) (job : JobGiven) : Type 0 where

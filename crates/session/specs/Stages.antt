@@ -80,9 +80,9 @@ MakeFails (SourceRefused code line) source names mode = IsRefusedSource (IsPlain
 MakeFails NoMemory source names mode = Unit {0}
 MakeFails _ source names mode = ⊥
 
--- a source whose changes are listed is refused, or memory was wanting
+-- a source whose changes are listed breaks this rule of C first, or memory was wanting
 abbrev pub ListFails : Status → (source : List ℕ) → Type 0
-ListFails (SourceRefused code line) source = IsRefusedSource ⊥ source code line
+ListFails (SourceRefused code line) source = program_of_source source ≡ Err (code, line)
 ListFails NoMemory source = Unit {0}
 ListFails _ source = ⊥
 

@@ -10,7 +10,7 @@ ghost use Rattle.session.specs.Stages.{AskEnds, CheckEnds};
 use command_line::{Job, job_of};
 use debug_records::PassName;
 use line_form::Status;
-use pass_law::{UnitPass, are_handed_in, name_of};
+use pass_law::{Pass, are_handed_in, name_of};
 use std::alloc::{AllocError, Global};
 
 /// The names of the passes that a `sweep` runs.
@@ -25,7 +25,7 @@ pub fn default_names(alloc: Global) -> Result<Vec<PassName>, AllocError>
 }
 
 /// Whether each pass that a job needs is handed in.
-fn has_passes(alloc: Global, job: &Job, passes: &[Box<dyn UnitPass>]) -> Result<bool, AllocError>
+fn has_passes(alloc: Global, job: &Job, passes: &[Box<dyn Pass>]) -> Result<bool, AllocError>
     ensures { IfOk result (λ has. IsTrue has ↔ AreHandedIn (λ p. named p) passes.now (needed (job_given job.now))) }
 {
     match job {
@@ -41,7 +41,7 @@ fn has_passes(alloc: Global, job: &Job, passes: &[Box<dyn UnitPass>]) -> Result<
 }
 
 /// A job, where each pass that it needs is handed in; else `Usage`.
-fn checked(alloc: Global, job: Job, passes: &[Box<dyn UnitPass>]) -> Result<Job, Status>
+fn checked(alloc: Global, job: Job, passes: &[Box<dyn Pass>]) -> Result<Job, Status>
     ensures { CheckEnds (λ p. named p) passes.now result job }
 {
     match has_passes(alloc, &job, passes) {
@@ -52,7 +52,7 @@ fn checked(alloc: Global, job: Job, passes: &[Box<dyn UnitPass>]) -> Result<Job,
 }
 
 /// The job that the words are. `Usage` where they are none, or one that needs a pass that is not handed in, and `NoMemory` where memory was wanting.
-pub fn asked(alloc: Global, words: &[String], passes: &[Box<dyn UnitPass>]) -> Result<Job, Status>
+pub fn asked(alloc: Global, words: &[String], passes: &[Box<dyn Pass>]) -> Result<Job, Status>
     ensures { AskEnds (λ p. named p) passes.now result (map string_bytes words.now) }
 {
     let Ok(found) = job_of(alloc, words) else {

@@ -3,6 +3,7 @@
 ghost use Rattle.std.specs.Prelude.{ℕ, Bool, List};
 ghost use Rattle.command_line.specs.Job as given;
 ghost use Rattle.session.specs.Ending.{Ends};
+ghost use Rattle.session.specs.Served.{CanRun};
 ghost use Rattle.session.specs.Stages.{MakeEnds};
 
 use crate::loading::{load_source, save_image};
@@ -11,18 +12,19 @@ use crate::preparing::Made;
 use command_line::Compile;
 use line_form::Status;
 use outside::Shelf;
-use pass_law::UnitPass;
+use pass_law::Pass;
 use std::alloc::Global;
 
 /// The image of the source of a job, and its bytes.
 fn make(
     alloc: Global,
     source: &[u8],
-    passes: &[Box<dyn UnitPass>],
+    passes: &[Box<dyn Pass>],
     job: &Compile,
 ) -> Result<Made, Status>
-    ensures { MakeEnds (λ p. named p) (λ p. steps p) passes.now result source.now (given.compile_given job.now).passes
-        job.now.mode }
+    requires { CanRun (λ p. named p) passes.now (given.compile_given job.now).passes }
+    ensures { MakeEnds (λ p. named p) (λ p. (steps p).leads) passes.now result source.now
+        (given.compile_given job.now).passes job.now.mode }
 {
     preparing::make(alloc, source, passes, &job.passes, job.mode)
 }
@@ -31,11 +33,12 @@ fn make(
 pub fn compile<S: Shelf>(
     alloc: Global,
     job: &Compile,
-    passes: &[Box<dyn UnitPass>],
+    passes: &[Box<dyn Pass>],
     shelf: &mut S,
 ) -> Status
+    requires { CanRun (λ p. named p) passes.now (given.compile_given job.now).passes }
     ensures { (puts : ℕ) (sink_tells : Bool) (taken : List ℕ) →
-        Ends (λ p. named p) (λ p. steps p) passes.now (given.compile (given.compile_given job.now))
+        Ends (λ p. named p) (λ p. (steps p).leads) passes.now (given.compile (given.compile_given job.now))
         (record {
           loads = S.load_count shelf.old;
           saves = S.save_count shelf.old;

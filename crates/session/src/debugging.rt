@@ -2,6 +2,7 @@
 
 ghost use Rattle.command_line.specs.Job as given;
 ghost use Rattle.session.specs.Ending.{Ends};
+ghost use Rattle.session.specs.Served.{CanRun};
 ghost use Rattle.session.specs.Stages.{MakeEnds};
 
 use crate::loading::{load_texts, save_image};
@@ -12,18 +13,14 @@ use command_line::Debug;
 use image_form::View;
 use line_form::Status;
 use outside::{Shelf, Sink};
-use pass_law::UnitPass;
+use pass_law::Pass;
 use std::alloc::Global;
 
 /// The image of the source of a job, and its bytes.
-fn make(
-    alloc: Global,
-    source: &[u8],
-    passes: &[Box<dyn UnitPass>],
-    job: &Debug,
-) -> Result<Made, Status>
-    ensures { MakeEnds (λ p. named p) (λ p. steps p) passes.now result source.now (given.debug_given job.now).passes
-        job.now.mode }
+fn make(alloc: Global, source: &[u8], passes: &[Box<dyn Pass>], job: &Debug) -> Result<Made, Status>
+    requires { CanRun (λ p. named p) passes.now (given.debug_given job.now).passes }
+    ensures { MakeEnds (λ p. named p) (λ p. (steps p).leads) passes.now result source.now
+        (given.debug_given job.now).passes job.now.mode }
 {
     preparing::make(alloc, source, passes, &job.passes, job.mode)
 }
@@ -32,11 +29,12 @@ fn make(
 pub fn debug<S: Shelf, K: Sink>(
     alloc: Global,
     job: &Debug,
-    passes: &[Box<dyn UnitPass>],
+    passes: &[Box<dyn Pass>],
     shelf: &mut S,
     sink: &mut K,
 ) -> Status
-    ensures { Ends (λ p. named p) (λ p. steps p) passes.now (given.debug (given.debug_given job.now))
+    requires { CanRun (λ p. named p) passes.now (given.debug_given job.now).passes }
+    ensures { Ends (λ p. named p) (λ p. (steps p).leads) passes.now (given.debug (given.debug_given job.now))
         (record {
           loads = S.load_count shelf.old;
           saves = S.save_count shelf.old;

@@ -2,6 +2,7 @@
 
 ghost use Rattle.command_line.specs.Job as given;
 ghost use Rattle.session.specs.Ending.{Ends};
+ghost use Rattle.session.specs.Served.{CanRun};
 
 use crate::loading::load_source;
 use crate::playing::put_lines;
@@ -9,18 +10,19 @@ use crate::preparing::list;
 use command_line::Passes;
 use line_form::Status;
 use outside::{Shelf, Sink};
-use pass_law::UnitPass;
+use pass_law::Pass;
 use std::alloc::Global;
 
 /// Loads a source, and puts out a line for each change that the passes make in it.
 pub fn list_changes<S: Shelf, K: Sink>(
     alloc: Global,
     job: &Passes,
-    passes: &[Box<dyn UnitPass>],
+    passes: &[Box<dyn Pass>],
     shelf: &mut S,
     sink: &mut K,
 ) -> Status
-    ensures { Ends (λ p. named p) (λ p. steps p) passes.now (given.passes (given.passes_given job.now))
+    requires { CanRun (λ p. named p) passes.now (given.passes_given job.now).passes }
+    ensures { Ends (λ p. named p) (λ p. (steps p).leads) passes.now (given.passes (given.passes_given job.now))
         (record {
           loads = S.load_count shelf.old;
           saves = S.save_count shelf.old;

@@ -18,6 +18,7 @@ ghost use Rattle.image_build.specs.Tables.{HasTablesOf};
 ghost use Rattle.session.specs.Behind.{ComesOfProgram};
 ghost use Rattle.session.specs.Front.{IsPlain};
 ghost use Rattle.session.specs.Listed.{AreLinesOf};
+ghost use Rattle.session.specs.Served.{CanRun};
 ghost use Rattle.session.specs.Stages.{FrontEnds, ImageEnds, ListEnds, MakeEnds, ScriptEnds};
 
 use c_tree::Program;
@@ -25,7 +26,7 @@ use debug_records::{Code, Mode, PassName, SourceErr};
 use image_build::{image_of_program, unit_of};
 use image_form::{Image, ImageErr, View};
 use line_form::Status;
-use pass_law::UnitPass;
+use pass_law::Pass;
 use script_form::{Command, ScriptErr};
 use session_lines::change_lines;
 use std::alloc::{AllocError, Global};
@@ -41,7 +42,7 @@ pub struct Made {
 fn image_for(
     alloc: Global,
     program: Program,
-    passes: &[Box<dyn UnitPass>],
+    passes: &[Box<dyn Pass>],
     names: &[PassName],
     mode: Mode,
 ) -> Result<Option<Made>, AllocError>
@@ -49,6 +50,7 @@ fn image_for(
     requires fits { Fits32 (program_view program) }
     requires names { HasNames (program_view program) }
     requires spots { HasSpots (program_view program) }
+    requires run { CanRun (λ p. named p) passes.now (map letters names.now) }
     ensures image { IfOk result (λ o. IfSome o (λ made. IsImage (form made.image))) }
     ensures bytes { IfOk result (λ o. IfSome o (λ made. made.bytes.items ≡ spelling (form made.image))) }
     ensures runs { IfOk result (λ o. IfSome o (λ made. RunsTrue (program_view program) (form made.image))) }
@@ -56,8 +58,8 @@ fn image_for(
         → IfOk result (λ o. IfSome o (λ made. ShowsAll (form made.image))) }
     ensures tables { IfOk result (λ o. IfSome o (λ made. HasTablesOf (program_view program) (form made.image))) }
     ensures comes { IfOk result (λ o. IfSome o (λ made.
-        ComesOfProgram (λ p. named p) (λ p. steps p) passes.now (program_view program) (map letters names.now) mode
-        (form made.image))) }
+        ComesOfProgram (λ p. named p) (λ p. (steps p).leads) passes.now (program_view program)
+        (map letters names.now) mode (form made.image))) }
     ensures left_out { IfOk result (λ o. IfNone o (¬ IsPlain (map letters names.now) mode)) }
 {
     match image_of_program(alloc, program, passes, names, mode)? {
@@ -90,11 +92,13 @@ fn understood(alloc: Global, source: &[u8]) -> Result<Program, Status>
 pub fn make(
     alloc: Global,
     source: &[u8],
-    passes: &[Box<dyn UnitPass>],
+    passes: &[Box<dyn Pass>],
     names: &[PassName],
     mode: Mode,
 ) -> Result<Made, Status>
-    ensures { MakeEnds (λ p. named p) (λ p. steps p) passes.now result source.now (map letters names.now) mode }
+    requires { CanRun (λ p. named p) passes.now (map letters names.now) }
+    ensures { MakeEnds (λ p. named p) (λ p. (steps p).leads) passes.now result source.now
+        (map letters names.now) mode }
 {
     let program = understood(alloc, source)?;
     match image_for(alloc, program, passes, names, mode) {
@@ -104,39 +108,39 @@ pub fn make(
     }
 }
 
-/// The lines of all changes that the passes of these names make in a program. None where a pass makes no unit.
+/// The lines of all changes that the passes of these names make in a program.
 fn lines_for(
     alloc: Global,
     program: &Program,
-    passes: &[Box<dyn UnitPass>],
+    passes: &[Box<dyn Pass>],
     names: &[PassName],
-) -> Result<Option<Vec<Vec<u8>>>, AllocError>
+) -> Result<Vec<Vec<u8>>, AllocError>
     requires laws { IsWellFormed (program_view program.now) }
     requires fits { Fits32 (program_view program.now) }
-    ensures { IfOk result (λ o. IfSome o (λ lines.
-        AreLinesOf (λ p. named p) (λ p. steps p) passes.now (program_view program.now) (map letters names.now)
-        (map (λ line. line.items) lines.items))) }
+    requires run { CanRun (λ p. named p) passes.now (map letters names.now) }
+    ensures { IfOk result (λ lines.
+        AreLinesOf (λ p. named p) (λ p. (steps p).leads) passes.now (program_view program.now) (map letters names.now)
+        (map (λ line. line.items) lines.items)) }
 {
-    let Some(unit) = unit_of(alloc, program, passes, names)? else {
-        return Ok(None);
-    };
+    let unit = unit_of(alloc, program, passes, names)?;
     let lines = change_lines(alloc, program, unit.log.changes())?;
-    Ok(Some(lines))
+    Ok(lines)
 }
 
-/// The lines of the changes that the passes of these names make in a source. Refused as the source is.
+/// The lines of the changes that the passes of these names make in a source, which else is refused for the first rule of
+/// C that it breaks.
 pub fn list(
     alloc: Global,
     source: &[u8],
-    passes: &[Box<dyn UnitPass>],
+    passes: &[Box<dyn Pass>],
     names: &[PassName],
 ) -> Result<Vec<Vec<u8>>, Status>
-    ensures { ListEnds (λ p. named p) (λ p. steps p) passes.now result source.now (map letters names.now) }
+    requires { CanRun (λ p. named p) passes.now (map letters names.now) }
+    ensures { ListEnds (λ p. named p) (λ p. (steps p).leads) passes.now result source.now (map letters names.now) }
 {
     let program = understood(alloc, source)?;
     match lines_for(alloc, &program, passes, names) {
-        Ok(Some(lines)) => Ok(lines),
-        Ok(None) => Err(Status::SourceRefused(Code::UNEXPECTED_KEYWORD, 1)),
+        Ok(lines) => Ok(lines),
         Err(_) => Err(Status::NoMemory),
     }
 }

@@ -3,6 +3,7 @@
 ghost use Rattle.std.specs.Prelude.{◌≡◌, ℕ, Bool, List, Option, IfOk, map};
 ghost use Rattle.command_line.specs.Job as given;
 ghost use Rattle.session.specs.Ending.{Ends};
+ghost use Rattle.session.specs.Served.{CanRun, default_names};
 ghost use Rattle.session.specs.Stages.{SweepEnds};
 ghost use Rattle.session.specs.Summing.{ending_line, summary_lines, sweep_limit};
 
@@ -14,7 +15,7 @@ use debug_records::Mode;
 use image_form::View;
 use line_form::{Status, depth_line, exit_line, fault_line, limit_line};
 use outside::Sink;
-use pass_law::UnitPass;
+use pass_law::Pass;
 use session_lines::{Summary, out_count_line, pairs_line, seed_line, stops_line, summarize};
 use std::alloc::{AllocError, Global};
 use stop_engine::Halt;
@@ -57,8 +58,9 @@ fn summary_lines(alloc: Global, job: &Sweep, summary: &Summary) -> Result<Vec<Ve
 }
 
 /// The summary of the run of the generated program, with the passes and the homes that are the default.
-fn swept(alloc: Global, job: &Sweep, passes: &[Box<dyn UnitPass>]) -> Result<Summary, Status>
-    ensures { SweepEnds (λ p. named p) (λ p. steps p) passes.now result (given.sweep_given job.now) }
+fn swept(alloc: Global, job: &Sweep, passes: &[Box<dyn Pass>]) -> Result<Summary, Status>
+    requires { CanRun (λ p. named p) passes.now default_names }
+    ensures { SweepEnds (λ p. named p) (λ p. (steps p).leads) passes.now result (given.sweep_given job.now) }
 {
     let Ok(text) = source(alloc, job.seed, job.size) else {
         return Err(Status::NoMemory);
@@ -75,14 +77,10 @@ fn swept(alloc: Global, job: &Sweep, passes: &[Box<dyn UnitPass>]) -> Result<Sum
 }
 
 /// Generates a program, compiles it, steps its run to the end, and puts out the summary. Nothing is loaded or saved, whatever a shelf holds.
-pub fn sweep<K: Sink>(
-    alloc: Global,
-    job: &Sweep,
-    passes: &[Box<dyn UnitPass>],
-    sink: &mut K,
-) -> Status
+pub fn sweep<K: Sink>(alloc: Global, job: &Sweep, passes: &[Box<dyn Pass>], sink: &mut K) -> Status
+    requires { CanRun (λ p. named p) passes.now default_names }
     ensures { (loads saves : ℕ) (shelf_tells : Bool) (held : List ℕ → Option (List ℕ)) →
-        Ends (λ p. named p) (λ p. steps p) passes.now (given.sweep (given.sweep_given job.now))
+        Ends (λ p. named p) (λ p. (steps p).leads) passes.now (given.sweep (given.sweep_given job.now))
         (record {
           loads = loads;
           saves = saves;

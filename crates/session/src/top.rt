@@ -6,7 +6,7 @@ ghost use Rattle.outside.specs.Counts.{RoseOrStands};
 ghost use Rattle.line_form.specs.declared.status.Status.TheVariants.{Done, Usage, SourceRefused, ScriptRefused, ReadFault, WriteFault, NoMemory, ImageRefused, TooLong, AuditFailed};
 ghost use Rattle.debug_records.specs.declared.code.Code.{Code};
 ghost use Rattle.command_line.specs.Job.{JobGiven, job_given};
-ghost use Rattle.session.specs.Served.{AreNotServed, AreServed, SavesTo};
+ghost use Rattle.session.specs.Served.{AreNotServed, AreServed, CanRun, SavesTo, needed};
 ghost use Rattle.session.specs.Limits.{AreWithin, IsTooLong};
 ghost use Rattle.session.specs.Causes.{SourceIsRefused, ImageIsRefused, ScriptIsRefused, AreAccepted, HasLoaded, IsEarly, IsCut, IsLeftOut};
 ghost use Rattle.session.specs.Ending.{Ends};
@@ -21,18 +21,19 @@ use crate::sweeping::sweep;
 use command_line::Job;
 use line_form::Status;
 use outside::{Shelf, Sink};
-use pass_law::UnitPass;
+use pass_law::Pass;
 use std::alloc::Global;
 
 // Carries out a job that the program serves.
 fn serve<S: Shelf, K: Sink>(
     alloc: Global,
     job: &Job,
-    passes: &[Box<dyn UnitPass>],
+    passes: &[Box<dyn Pass>],
     shelf: &mut S,
     sink: &mut K,
 ) -> Status
-    ensures { Ends (λ p. named p) (λ p. steps p) passes.now (job_given job.now)
+    requires { CanRun (λ p. named p) passes.now (needed (job_given job.now)) }
+    ensures { Ends (λ p. named p) (λ p. (steps p).leads) passes.now (job_given job.now)
         (record {
           loads = S.load_count shelf.old;
           saves = S.save_count shelf.old;
@@ -79,7 +80,7 @@ fn serve<S: Shelf, K: Sink>(
 pub fn session<S: Shelf, K: Sink>(
     alloc: Global,
     words: &[String],
-    passes: &[Box<dyn UnitPass>],
+    passes: &[Box<dyn Pass>],
     shelf: &mut S,
     sink: &mut K,
 ) -> Status
@@ -136,14 +137,14 @@ pub fn session<S: Shelf, K: Sink>(
     // optimal.
     ensures saved { (asked : JobGiven) → AreServed (λ p. named p) passes.now (map string_bytes words.now) asked
         → result ≡ Done → S.tells shelf.old ≡ true
-        → HasSaved (λ p. named p) (λ p. steps p) passes.now (S.held shelf.old) (S.held shelf.new) asked }
+        → HasSaved (λ p. named p) (λ p. (steps p).leads) passes.now (S.held shelf.old) (S.held shelf.new) asked }
     ensures whole { (asked : JobGiven) → AreServed (λ p. named p) passes.now (map string_bytes words.now) asked
         → result ≡ WriteFault → ¬ RoseOrStands (S.save_count shelf.old) (S.save_count shelf.new)
         → S.tells shelf.old ≡ true
-        → HasSaved (λ p. named p) (λ p. steps p) passes.now (S.held shelf.old) (S.held shelf.new) asked }
+        → HasSaved (λ p. named p) (λ p. (steps p).leads) passes.now (S.held shelf.old) (S.held shelf.new) asked }
     ensures left { (asked : JobGiven) → AreServed (λ p. named p) passes.now (map string_bytes words.now) asked
         → IsCut result → S.tells shelf.old ≡ true
-        → HasLeft (λ p. named p) (λ p. steps p) passes.now (S.held shelf.old) (S.held shelf.new) asked }
+        → HasLeft (λ p. named p) (λ p. (steps p).leads) passes.now (S.held shelf.old) (S.held shelf.new) asked }
 
     // A session that is cut off has put out the first part of what its job prints; one that is done all of it: the
     // transcript of the image, which is the one that a `debug` saved; the lines of all changes that the passes of a
@@ -151,11 +152,11 @@ pub fn session<S: Shelf, K: Sink>(
     // passes.
     ensures part { (asked : JobGiven) → AreServed (λ p. named p) passes.now (map string_bytes words.now) asked
         → IsCut result → S.tells shelf.old ≡ true → K.tells sink.old ≡ true
-        → TookPart (λ p. named p) (λ p. steps p) passes.now (S.held shelf.old) (S.held shelf.new) asked
+        → TookPart (λ p. named p) (λ p. (steps p).leads) passes.now (S.held shelf.old) (S.held shelf.new) asked
         (K.taken sink.old) (K.taken sink.new) }
     ensures done { (asked : JobGiven) → AreServed (λ p. named p) passes.now (map string_bytes words.now) asked
         → result ≡ Done → S.tells shelf.old ≡ true → K.tells sink.old ≡ true
-        → IsDone (λ p. named p) (λ p. steps p) passes.now (S.held shelf.old) (S.held shelf.new) asked
+        → IsDone (λ p. named p) (λ p. (steps p).leads) passes.now (S.held shelf.old) (S.held shelf.new) asked
         (K.taken sink.old) (K.taken sink.new) }
 {
     match asked(alloc, words, passes) {

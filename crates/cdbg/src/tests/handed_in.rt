@@ -1,6 +1,7 @@
 //! Sessions to which passes of the test's own are handed in.
 
 ghost use Rattle.std.specs.Prelude.{◌≡◌};
+ghost use Rattle.pass_law.specs.Relations.{kept_steps};
 
 use super::sessions::{image_of, shelf};
 use super::split;
@@ -9,7 +10,7 @@ use debug_records::PassName;
 use graph_core::Unit;
 use line_form::Status;
 use outside::{MemShelf, MemSink};
-use pass_law::{UnitPass, name_of};
+use pass_law::{Pass, name_of};
 use session::session;
 use std::alloc::{AllocError, Global};
 use std::process::Abort;
@@ -21,17 +22,17 @@ struct Same {
     name: PassName,
 }
 
-impl UnitPass for Same {
+impl Pass for Same {
     ghost named = { λ pass. pass.name };
 
-    ghost steps = { λ pass u v. v ≡ u };
+    ghost steps = { λ pass. kept_steps (λ u v. v ≡ u) };
 
     fn name(&self) -> PassName {
         self.name
     }
 
-    fn apply(&self, alloc: Global, unit: &Unit) -> Result<Option<Unit>, AllocError> {
-        Ok(Some(unit.duplicate(alloc)?))
+    fn apply(&self, alloc: Global, unit: &Unit) -> Result<Unit, AllocError> {
+        unit.duplicate(alloc)
     }
 }
 
@@ -46,7 +47,7 @@ fn run_with(
     words: &[String],
     shelf: &mut MemShelf,
 ) -> Result<Status, AllocError> {
-    let mut passes: Vec<Box<dyn UnitPass>> = Vec::new(alloc);
+    let mut passes: Vec<Box<dyn Pass>> = Vec::new(alloc);
     passes.push(Box::new(alloc, Same { name: own })?)?;
     passes.push(Box::new(alloc, CopyPropagation::new())?)?;
     let mut sink = MemSink::new(alloc, [].as_slice())?;

@@ -21,17 +21,17 @@ use Rattle.image_build.proofs.building.image_of_program.Goals as goal
 pub draft_of-requires-clause-shape : goal.draft_of-requires-clause-shape
 draft_of-requires-clause-shape g c =
     let p = program_view c.args.program in
-    let unit = unit_view c.in-Some.unit in
+    let unit = unit_view c.in_ok-unit.unit in
     log_only p unit (unit_view c.in_ok-homed.homed.unit) c.in_ok-homed.ensures.unit
-    (subst (λ o. IfSome o (λ u. HasShapeOf p (unit_view u))) c.in-Some.is c.in_ok-unit.ensures.shape)
+    c.in_ok-unit.ensures.shape
 
 pub returns-clause-tables : goal.returns-clause-tables
 returns-clause-tables g c =
     let p = program_view c.args.program in
-    tables_again p (form c.in-Some-2.draft) (form c.in-Some-3.spelled.image)
-    (subst (λ o. IfSome o (λ s. IsImage (form s.image))) c.in-Some-3.is c.in_ok-spelled.ensures.image)
-    (subst (λ o. IfSome o (λ s. SaysTheSame (form c.in-Some-2.draft) (form s.image))) c.in-Some-3.is c.in_ok-spelled.ensures.same)
-    (subst (λ o. IfSome o (λ m. HasTablesOf p (form m))) c.in-Some-2.is c.in_ok-draft.ensures.tables)
+    tables_again p (form c.in-Some.draft) (form c.in-Some-2.spelled.image)
+    (subst (λ o. IfSome o (λ s. IsImage (form s.image))) c.in-Some-2.is c.in_ok-spelled.ensures.image)
+    (subst (λ o. IfSome o (λ s. SaysTheSame (form c.in-Some.draft) (form s.image))) c.in-Some-2.is c.in_ok-spelled.ensures.same)
+    (subst (λ o. IfSome o (λ m. HasTablesOf p (form m))) c.in-Some.is c.in_ok-draft.ensures.tables)
 
 pub unit_of-requires-clause-fits : goal.unit_of-requires-clause-fits
 unit_of-requires-clause-fits g c = c.requires.fits
@@ -49,10 +49,10 @@ pub returns-clause-made : goal.returns-clause-made
 returns-clause-made g c =
     let p = program_view c.args.program in
     let h = homed_view c.in_ok-homed.homed in
-    made_again p h (form c.in-Some-2.draft) (form c.in-Some-3.spelled.image)
-    (subst (λ o. IfSome o (λ s. IsImage (form s.image))) c.in-Some-3.is c.in_ok-spelled.ensures.image)
-    (subst (λ o. IfSome o (λ s. SaysTheSame (form c.in-Some-2.draft) (form s.image))) c.in-Some-3.is c.in_ok-spelled.ensures.same)
-    (subst (λ o. IfSome o (λ m. length m.nodes.items < 2 ^ 32 → IsMadeOf p h (form m))) c.in-Some-2.is c.in_ok-draft.ensures.made)
+    made_again p h (form c.in-Some.draft) (form c.in-Some-2.spelled.image)
+    (subst (λ o. IfSome o (λ s. IsImage (form s.image))) c.in-Some-2.is c.in_ok-spelled.ensures.image)
+    (subst (λ o. IfSome o (λ s. SaysTheSame (form c.in-Some.draft) (form s.image))) c.in-Some-2.is c.in_ok-spelled.ensures.same)
+    (subst (λ o. IfSome o (λ m. length m.nodes.items < 2 ^ 32 → IsMadeOf p h (form m))) c.in-Some.is c.in_ok-draft.ensures.made)
 
 pub returns-clause-homed : goal.returns-clause-homed
 returns-clause-homed g c =
@@ -68,24 +68,30 @@ draft_of-requires-clause-spots g c = c.requires.spots
 pub draft_of-requires-clause-plain : goal.draft_of-requires-clause-plain
 draft_of-requires-clause-plain g c =
     let p = program_view c.args.program in
-    let unit = unit_view c.in-Some.unit in
+    let unit = unit_view c.in_ok-unit.unit in
     let is = c.in_ok-homed.ensures in
     λ plain.
     let both = c.is_plain.ensures.plain plain in
-    plain_of p unit (homed_view c.in_ok-homed.homed) (subst (λ o. IfSome o (λ u. IsBuilt p (unit_view u))) c.in-Some.is (c.in_ok-unit.ensures.built both.0)) is.unit is.changes (is.slots both.1)
+    plain_of p unit (homed_view c.in_ok-homed.homed) (c.in_ok-unit.ensures.built both.0) is.unit is.changes (is.slots both.1)
 
 pub returns-clause-shows : goal.returns-clause-shows
 returns-clause-shows g c = λ none slots.
-    shows_again (form c.in-Some-2.draft) (form c.in-Some-3.spelled.image)
-    (subst (λ o. IfSome o (λ s. SaysTheSame (form c.in-Some-2.draft) (form s.image))) c.in-Some-3.is c.in_ok-spelled.ensures.same)
-    (subst (λ o. IfSome o (λ m. ShowsAll (form m))) c.in-Some-2.is (c.in_ok-draft.ensures.shows (c.is_plain.ensures.so none slots)))
+    shows_again (form c.in-Some.draft) (form c.in-Some-2.spelled.image)
+    (subst (λ o. IfSome o (λ s. SaysTheSame (form c.in-Some.draft) (form s.image))) c.in-Some-2.is c.in_ok-spelled.ensures.same)
+    (subst (λ o. IfSome o (λ m. ShowsAll (form m))) c.in-Some.is (c.in_ok-draft.ensures.shows (c.is_plain.ensures.so none slots)))
 
 pub returns-clause-comes : goal.returns-clause-comes
 returns-clause-comes g c =
     let is = c.in_ok-homed.ensures in
     record {
-      unit = unit_view c.in-Some.unit;
-      comes = subst (λ o. IfSome o (λ u. ComesOf (λ p. (goal.UnitPass-dyn g (p.vtable, p.value)).named p.value) (λ p. (goal.UnitPass-dyn g (p.vtable, p.value)).steps p.value) c.args.passes.now (map letters c.args.names.now) (program_view c.args.program) (unit_view u))) c.in-Some.is c.in_ok-unit.ensures.comes;
+      unit = unit_view c.in_ok-unit.unit;
+      comes = c.in_ok-unit.ensures.comes;
       same = is.unit;
       changes = is.changes;
     }
+
+pub unit_of-requires-clause-few : goal.unit_of-requires-clause-few
+unit_of-requires-clause-few g c = c.requires.few
+
+pub unit_of-requires-clause-handed_in : goal.unit_of-requires-clause-handed_in
+unit_of-requires-clause-handed_in g c = c.requires.handed_in

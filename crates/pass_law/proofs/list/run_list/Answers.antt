@@ -4,7 +4,8 @@ use Rattle.std.proofs.lemmas.Option.{slice_get-get_or}
 use Rattle.debug_records.specs.Change.{changes}
 use Rattle.graph_core.specs.Graphs.{UnitForm, unit_view, logged}
 use Rattle.pass_law.specs.Trails.{IsTrail, ends}
-use Rattle.pass_law.proofs.KeptTrails.{IsReady, keeps_all, trail_step, first_at, ready_more, known_more, first_stays, unit_at, last_ready, push_ready}
+use Rattle.pass_law.proofs.KeptTrails.{IsReady, keeps_all, trail_step, ready_more, known_more, first_stays, unit_at, last_ready, push_ready}
+use Rattle.pass_law.proofs.Leading.{first_at}
 use Rattle.pass_law.proofs.list.run_list.Goals as goal
 
 pub loop-i-init : goal.loop-i-init
@@ -45,8 +46,7 @@ pub loop-i-preserved : goal.loop-i-preserved
 loop-i-preserved g c =
     let new : map unit_view c.push_unit-in-loop-i.new.units.items ≡ map unit_view c.loop-i.units.items ++ unit_view c.in_ok-next.next ∷ [] = ap (map unit_view) c.in_ok-push_unit-2.ensures ∙ map_push unit_view c.loop-i.units.items c.in_ok-next.next in
     let within : c.loop-i.i < length c.loop-i.units.items = omega (arith, c.loop-i.invariant.count) in
-    let stands = slice_get-get_or c.args.passes.now c.in-Some.k c.index-passes-k.result c.in-Some.ensures.within ∙ ap Some (sym c.index-passes-k.is) in
-    let first = first_at (λ p. (goal.Pass-dyn g (p.vtable, p.value)).named p.value) (λ p. (goal.Pass-dyn g (p.vtable, p.value)).steps p.value) c.args.passes.now _ c.in-Some.k c.index-passes-k.result c.in-Some.ensures.found stands in
+    let first = first_at (λ p. (goal.Pass-dyn g (p.vtable, p.value)).named p.value) _ c.args.passes.now c.in-Some.k c.index-passes-k.result c.in-Some.ensures.within c.index-passes-k.is c.in-Some.ensures.first in
     let now = unit_at c.loop-i.units.items c.loop-i.i c.index.result.now within c.index.ensures in
     let ready = ready_more (λ p. (goal.Pass-dyn g (p.vtable, p.value)).named p.value) (λ p. (goal.Pass-dyn g (p.vtable, p.value)).steps p.value) c.args.passes.now c.index-passes-k.result (unit_view c.index.result.now) (unit_view c.in_ok-next.next) c.loop-i.i (c.loop-i.invariant.last (unit_view c.index.result.now) now) c.in_ok-next.ensures.step c.in_ok-next.ensures.logs in
     record {

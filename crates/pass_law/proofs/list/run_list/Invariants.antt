@@ -2,7 +2,9 @@ use Rattle.std.proofs.Common.{◌≡◌, ℕ, ◌<◌, ◌+◌, map, take, Some,
 use Rattle.std.specs.Prelude.{slice_get}
 use Rattle.debug_records.specs.declared.change.PassName.{PassName}
 use Rattle.graph_core.specs.Graphs.{UnitForm, unit_view}
-use Rattle.pass_law.specs.Trails.{IsNoPass, IsTrail}
+use Rattle.debug_records.specs.Change.{letters}
+use Rattle.pass_law.specs.HandedIn.{IsNoPass}
+use Rattle.pass_law.specs.Trails.{IsTrail}
 use Rattle.pass_law.proofs.KeptTrails.{IsReady}
 use Rattle.pass_law.proofs.list.run_list.Given as goal
 
@@ -12,5 +14,5 @@ invariant-loop-i g l = record {
   first : slice_get (map unit_view l.units.items) 0 ≡ Some (unit_view l.fn.unit);
   count : length l.units.items ≡ l.i + 1;
   last : (u : UnitForm) → slice_get (map unit_view l.units.items) l.i ≡ Some u → IsReady u l.i;
-  known : (k : ℕ) → k < l.i → (name : PassName) → slice_get l.names k ≡ Some name → IsNoPass (λ p. (goal.Pass-dyn g (p.vtable, p.value)).named p.value) l.passes name → ⊥;
+  known : (k : ℕ) → k < l.i → (name : PassName) → slice_get l.names k ≡ Some name → IsNoPass (λ p. (goal.Pass-dyn g (p.vtable, p.value)).named p.value) l.passes (letters name) → ⊥;
 }

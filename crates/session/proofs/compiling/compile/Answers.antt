@@ -31,7 +31,7 @@ returns-in-Err-make g c = λ puts tells taken. record {
   image = record {
     saved = search rules;
     whole = search rules;
-    left = λ cut told. nothing_left (λ p. (goal.UnitPass-dyn g (p.vtable, p.value)).named p.value) (λ p. (goal.UnitPass-dyn g (p.vtable, p.value)).steps p.value) c.args.passes.now (g.S.Shelf.held c.args.shelf.now) (g.S.Shelf.held c.load_source.new.shelf) (compile (compile_given c.args.job.now)) (λ n. c.load_source.ensures.same n told);
+    left = λ cut told. nothing_left (λ p. (goal.Pass-dyn g (p.vtable, p.value)).named p.value) (λ p. ((goal.Pass-dyn g (p.vtable, p.value)).steps p.value).leads) c.args.passes.now (g.S.Shelf.held c.args.shelf.now) (g.S.Shelf.held c.load_source.new.shelf) (compile (compile_given c.args.job.now)) (λ n. c.load_source.ensures.same n told);
   };
   transcript = search rules;
 }
@@ -105,3 +105,6 @@ returns g c = λ puts tells taken. record {
   };
   transcript = search rules;
 }
+
+pub make-requires : goal.make-requires
+make-requires g c = c.requires

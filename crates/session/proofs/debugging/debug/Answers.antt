@@ -21,7 +21,7 @@ returns-in-Err g c = record {
   image = record {
     saved = search rules;
     whole = search rules;
-    left = λ cut told. nothing_left (λ p. (goal.UnitPass-dyn g (p.vtable, p.value)).named p.value) (λ p. (goal.UnitPass-dyn g (p.vtable, p.value)).steps p.value) c.args.passes.now (g.S.Shelf.held c.args.shelf.now) (g.S.Shelf.held c.load_texts.new.shelf) (debug (debug_given c.args.job.now)) (λ n. c.load_texts.ensures.same n told);
+    left = λ cut told. nothing_left (λ p. (goal.Pass-dyn g (p.vtable, p.value)).named p.value) (λ p. ((goal.Pass-dyn g (p.vtable, p.value)).steps p.value).leads) c.args.passes.now (g.S.Shelf.held c.args.shelf.now) (g.S.Shelf.held c.load_texts.new.shelf) (debug (debug_given c.args.job.now)) (λ n. c.load_texts.ensures.same n told);
   };
   transcript = search rules;
 }
@@ -48,7 +48,7 @@ returns-in-Err-make g c = record {
   image = record {
     saved = search rules;
     whole = search rules;
-    left = λ cut told. nothing_left (λ p. (goal.UnitPass-dyn g (p.vtable, p.value)).named p.value) (λ p. (goal.UnitPass-dyn g (p.vtable, p.value)).steps p.value) c.args.passes.now (g.S.Shelf.held c.args.shelf.now) (g.S.Shelf.held c.load_texts.new.shelf) (debug (debug_given c.args.job.now)) (λ n. c.load_texts.ensures.same n told);
+    left = λ cut told. nothing_left (λ p. (goal.Pass-dyn g (p.vtable, p.value)).named p.value) (λ p. ((goal.Pass-dyn g (p.vtable, p.value)).steps p.value).leads) c.args.passes.now (g.S.Shelf.held c.args.shelf.now) (g.S.Shelf.held c.load_texts.new.shelf) (debug (debug_given c.args.job.now)) (λ n. c.load_texts.ensures.same n told);
   };
   transcript = search rules;
 }
@@ -76,7 +76,7 @@ returns-in-Err-read_script g c = record {
   image = record {
     saved = search rules;
     whole = search rules;
-    left = λ cut told. nothing_left (λ p. (goal.UnitPass-dyn g (p.vtable, p.value)).named p.value) (λ p. (goal.UnitPass-dyn g (p.vtable, p.value)).steps p.value) c.args.passes.now (g.S.Shelf.held c.args.shelf.now) (g.S.Shelf.held c.load_texts.new.shelf) (debug (debug_given c.args.job.now)) (λ n. c.load_texts.ensures.same n told);
+    left = λ cut told. nothing_left (λ p. (goal.Pass-dyn g (p.vtable, p.value)).named p.value) (λ p. ((goal.Pass-dyn g (p.vtable, p.value)).steps p.value).leads) c.args.passes.now (g.S.Shelf.held c.args.shelf.now) (g.S.Shelf.held c.load_texts.new.shelf) (debug (debug_given c.args.job.now)) (λ n. c.load_texts.ensures.same n told);
   };
   transcript = search rules;
 }
@@ -238,3 +238,6 @@ returns g c = record {
     done = search rules;
   };
 }
+
+pub make-requires : goal.make-requires
+make-requires g c = c.requires

@@ -4,10 +4,14 @@ use Rattle.line_form.specs.Lines.{line}
 use Rattle.outside.specs.Held.{Loads}
 use Rattle.command_line.specs.Job.{passes_given}
 use Rattle.session.specs.Limits.{IsThere}
+use Rattle.session.specs.Served.{CanRun}
 use Rattle.debug_records.specs.Change.{letters}
 use Rattle.session.specs.Listed.{AreLinesFor}
 use Rattle.session.proofs.Lines.{changes_listed, list_accepted, list_refused, list_within}
 use Rattle.session.proofs.listing.list_changes.Goals as goal
+
+pub list-requires : goal.list-requires
+list-requires g c = subst (λ names. CanRun (λ p. (goal.Pass-dyn g (p.vtable, p.value)).named p.value) c.args.passes.now (map letters names)) (sym c.deref-2.ensures.value) c.requires
 
 pub returns-in-Err-list : goal.returns-in-Err-list
 returns-in-Err-list g c = record {
@@ -65,8 +69,8 @@ returns-in-Ok-put_lines g c = record {
         let loads = subst (λ n. Loads (g.S.Shelf.held c.args.shelf.now n) 1048576 c.deref.result.now) name (subst (Loads (g.S.Shelf.held c.args.shelf.now c.as_str.result.now) 1048576) (sym c.deref.ensures.value) (c.in-Ok.ensures.value told)) in
         record {
           printed = flat_map line (map (λ l. l.items) c.deref-3.result.now);
-          prints = changes_listed c.deref.result.now (g.S.Shelf.held c.args.shelf.now) (passes_given c.args.job.now) (map (λ l. l.items) c.deref-3.result.now) (subst (λ ls. AreLinesFor (λ p. (goal.UnitPass-dyn g (p.vtable, p.value)).named p.value) (λ p. (goal.UnitPass-dyn g (p.vtable, p.value)).steps p.value) c.args.passes.now c.deref.result.now (passes_given c.args.job.now).passes (map (λ l. l.items) ls)) (sym c.deref-3.ensures.value)
-              (subst (λ ps. AreLinesFor (λ p. (goal.UnitPass-dyn g (p.vtable, p.value)).named p.value) (λ p. (goal.UnitPass-dyn g (p.vtable, p.value)).steps p.value) c.args.passes.now c.deref.result.now (map letters ps) (map (λ l. l.items) c.in-Ok-list.lines.items)) c.deref-2.ensures.value c.in-Ok-list.ensures)) loads;
+          prints = changes_listed c.deref.result.now (g.S.Shelf.held c.args.shelf.now) (passes_given c.args.job.now) (map (λ l. l.items) c.deref-3.result.now) (subst (λ ls. AreLinesFor (λ p. (goal.Pass-dyn g (p.vtable, p.value)).named p.value) (λ p. ((goal.Pass-dyn g (p.vtable, p.value)).steps p.value).leads) c.args.passes.now c.deref.result.now (passes_given c.args.job.now).passes (map (λ l. l.items) ls)) (sym c.deref-3.ensures.value)
+              (subst (λ ps. AreLinesFor (λ p. (goal.Pass-dyn g (p.vtable, p.value)).named p.value) (λ p. ((goal.Pass-dyn g (p.vtable, p.value)).steps p.value).leads) c.args.passes.now c.deref.result.now (map letters ps) (map (λ l. l.items) c.in-Ok-list.lines.items)) c.deref-2.ensures.value c.in-Ok-list.ensures)) loads;
           whole = c.in-Ok-put_lines.ensures.whole told_sink;
         };
   };
@@ -101,8 +105,8 @@ returns g c = record {
         let loads = subst (λ n. Loads (g.S.Shelf.held c.args.shelf.now n) 1048576 c.deref.result.now) name (subst (Loads (g.S.Shelf.held c.args.shelf.now c.as_str.result.now) 1048576) (sym c.deref.ensures.value) (c.in-Ok.ensures.value told)) in
         inr (record {
           printed = flat_map line (map (λ l. l.items) c.deref-3.result.now);
-          prints = changes_listed c.deref.result.now (g.S.Shelf.held c.args.shelf.now) (passes_given c.args.job.now) (map (λ l. l.items) c.deref-3.result.now) (subst (λ ls. AreLinesFor (λ p. (goal.UnitPass-dyn g (p.vtable, p.value)).named p.value) (λ p. (goal.UnitPass-dyn g (p.vtable, p.value)).steps p.value) c.args.passes.now c.deref.result.now (passes_given c.args.job.now).passes (map (λ l. l.items) ls)) (sym c.deref-3.ensures.value)
-              (subst (λ ps. AreLinesFor (λ p. (goal.UnitPass-dyn g (p.vtable, p.value)).named p.value) (λ p. (goal.UnitPass-dyn g (p.vtable, p.value)).steps p.value) c.args.passes.now c.deref.result.now (map letters ps) (map (λ l. l.items) c.in-Ok-list.lines.items)) c.deref-2.ensures.value c.in-Ok-list.ensures)) loads;
+          prints = changes_listed c.deref.result.now (g.S.Shelf.held c.args.shelf.now) (passes_given c.args.job.now) (map (λ l. l.items) c.deref-3.result.now) (subst (λ ls. AreLinesFor (λ p. (goal.Pass-dyn g (p.vtable, p.value)).named p.value) (λ p. ((goal.Pass-dyn g (p.vtable, p.value)).steps p.value).leads) c.args.passes.now c.deref.result.now (passes_given c.args.job.now).passes (map (λ l. l.items) ls)) (sym c.deref-3.ensures.value)
+              (subst (λ ps. AreLinesFor (λ p. (goal.Pass-dyn g (p.vtable, p.value)).named p.value) (λ p. ((goal.Pass-dyn g (p.vtable, p.value)).steps p.value).leads) c.args.passes.now c.deref.result.now (map letters ps) (map (λ l. l.items) c.in-Ok-list.lines.items)) c.deref-2.ensures.value c.in-Ok-list.ensures)) loads;
           part = c.in-Err-put_lines.ensures.part told_sink;
         });
     done = search rules;

@@ -1,4 +1,5 @@
-use Rattle.std.proofs.Common.{map, subst}
+use Rattle.std.proofs.Common.{◌≤◌, map, subst}
+use Rattle.std.proofs.lemmas.List.{length-map}
 use Rattle.debug_records.specs.Change.{letters}
 use Rattle.std.specs.Prelude.{IfSome}
 use Rattle.c_tree.specs.Programs.{program_view}
@@ -27,6 +28,12 @@ image_of_program-requires-clause-names g c = c.requires.names
 pub image_of_program-requires-clause-spots : goal.image_of_program-requires-clause-spots
 image_of_program-requires-clause-spots g c = c.requires.spots
 
+pub image_of_program-requires-clause-few : goal.image_of_program-requires-clause-few
+image_of_program-requires-clause-few g c = subst (λ n. n ≤ 32) (length-map c.args.names.now letters) c.requires.run.few
+
+pub image_of_program-requires-clause-handed_in : goal.image_of_program-requires-clause-handed_in
+image_of_program-requires-clause-handed_in g c = c.requires.run.handed_in
+
 pub returns-in-Some-clause-shows : goal.returns-in-Some-clause-shows
 returns-in-Some-clause-shows g c = λ none slots. subst (λ o. IfSome o (λ b. ShowsAll (form b.image))) c.in-Some.is (c.in_ok-build.ensures.shows (none_named c.args.names.now none) slots)
 
@@ -40,7 +47,7 @@ returns-in-Some-clause-comes g c =
       homed = h;
       homes = subst (λ o. IfSome o (λ b. IsHomed c.args.mode (homed_view b.homed))) c.in-Some.is is.homed;
       made = made;
-      comes = subst (λ o. IfSome o (λ b. ComesHomed (λ p. (goal.UnitPass-dyn g (p.vtable, p.value)).named p.value) (λ p. (goal.UnitPass-dyn g (p.vtable, p.value)).steps p.value) c.args.passes.now (map letters c.args.names.now) p (homed_view b.homed))) c.in-Some.is is.comes;
+      comes = subst (λ o. IfSome o (λ b. ComesHomed (λ p. (goal.Pass-dyn g (p.vtable, p.value)).named p.value) (λ p. ((goal.Pass-dyn g (p.vtable, p.value)).steps p.value).leads) c.args.passes.now (map letters c.args.names.now) p (homed_view b.homed))) c.in-Some.is is.comes;
       explains = explains_all p h (form c.in-Some.build.image) made (subst (λ o. IfSome o (λ b. IsImage (form b.image))) c.in-Some.is is.image);
     }
 
@@ -54,5 +61,5 @@ returns-in-Some-clause-runs g c =
     runs_true c.args.mode p h (form c.in-Some.build.image) c.requires.laws comes.homes comes.made
     (subst (λ o. IfSome o (λ b. HasTablesOf p (form b.image))) c.in-Some.is is.tables)
     (subst (λ o. IfSome o (λ b. IsImage (form b.image))) c.in-Some.is is.image)
-    (kept_behind (λ p. (goal.UnitPass-dyn g (p.vtable, p.value)).named p.value) (λ p. (goal.UnitPass-dyn g (p.vtable, p.value)).steps p.value) c.args.passes.now (map letters c.args.names.now) p h comes.comes)
+    (kept_behind (λ p. (goal.Pass-dyn g (p.vtable, p.value)).named p.value) (λ p. ((goal.Pass-dyn g (p.vtable, p.value)).steps p.value).leads) c.args.passes.now (map letters c.args.names.now) p h comes.comes)
     c.requires.names

@@ -16,6 +16,9 @@ image_for-requires-clause-names g c = c.in_ok-program.ensures.names
 pub image_for-requires-clause-spots : goal.image_for-requires-clause-spots
 image_for-requires-clause-spots g c = c.in_ok-program.ensures.spots
 
+pub image_for-requires-clause-run : goal.image_for-requires-clause-run
+image_for-requires-clause-run g c = c.requires
+
 pub returns-in-Ok-Some : goal.returns-in-Ok-Some
 returns-in-Ok-Some g c =
     let is = c.image_for.ensures in

@@ -60,3 +60,6 @@ returns g c = λ loads saves tells held. record {
     done = search rules;
   };
 }
+
+pub swept-requires : goal.swept-requires
+swept-requires g c = c.requires

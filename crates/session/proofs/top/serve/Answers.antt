@@ -1,5 +1,6 @@
-use Rattle.std.proofs.Common.{sym, ap}
+use Rattle.std.proofs.Common.{sym, subst, ap}
 use Rattle.command_line.specs.Job.{job_given}
+use Rattle.session.specs.Served.{CanRun, needed}
 use Rattle.session.proofs.AskedLemmas.{attach_ends, same_ends}
 use Rattle.session.proofs.top.serve.Goals as goal
 
@@ -17,3 +18,15 @@ returns-in-Passes g c = same_ends _ _ _ _ _ (ap job_given (sym c.in-Passes.is)) 
 
 pub returns-in-Sweep : goal.returns-in-Sweep
 returns-in-Sweep g c = same_ends _ _ _ _ _ (ap job_given (sym c.in-Sweep.is)) (c.sweep.ensures _ _ _ _)
+
+pub debug-requires : goal.debug-requires
+debug-requires g c = subst (λ j. CanRun (λ p. (goal.Pass-dyn g (p.vtable, p.value)).named p.value) c.args.passes.now (needed (job_given j))) c.in-Debug.is c.requires
+
+pub compile-requires : goal.compile-requires
+compile-requires g c = subst (λ j. CanRun (λ p. (goal.Pass-dyn g (p.vtable, p.value)).named p.value) c.args.passes.now (needed (job_given j))) c.in-Compile.is c.requires
+
+pub list_changes-requires : goal.list_changes-requires
+list_changes-requires g c = subst (λ j. CanRun (λ p. (goal.Pass-dyn g (p.vtable, p.value)).named p.value) c.args.passes.now (needed (job_given j))) c.in-Passes.is c.requires
+
+pub sweep-requires : goal.sweep-requires
+sweep-requires g c = subst (λ j. CanRun (λ p. (goal.Pass-dyn g (p.vtable, p.value)).named p.value) c.args.passes.now (needed (job_given j))) c.in-Sweep.is c.requires

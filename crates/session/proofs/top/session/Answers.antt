@@ -7,37 +7,38 @@ use Rattle.session.specs.Causes.{ImageIsRefused, TextIsRefused, ScriptIsRefused,
 use Rattle.session.specs.Outcome.{HasLeft, HasSaved, IsDone, TookPart}
 use Rattle.session.proofs.AskedLemmas.{one_asked, refused_is_complete}
 use Rattle.session.proofs.Completeness.{complete, source_refused}
+use Rattle.session.proofs.Named.{served_runs}
 use Rattle.session.proofs.Sessions.{nothing_left}
 use Rattle.session.proofs.top.session.Goals as goal
 
 pub returns-in-Ok-clause-too_long : goal.returns-in-Ok-clause-too_long
 returns-in-Ok-clause-too_long g c = λ asked name served e told.
-    subst (λ a. IsTooLong (g.S.Shelf.held c.args.shelf.now) a (string_bytes name)) (one_asked (λ p. (goal.UnitPass-dyn g (p.vtable, p.value)).named p.value) c.args.passes.now (map string_bytes c.args.words.now) (job_given c.in-Ok.job) asked c.in-Ok.ensures served) (c.serve.ensures.caused.too_long name e told)
+    subst (λ a. IsTooLong (g.S.Shelf.held c.args.shelf.now) a (string_bytes name)) (one_asked (λ p. (goal.Pass-dyn g (p.vtable, p.value)).named p.value) c.args.passes.now (map string_bytes c.args.words.now) (job_given c.in-Ok.job) asked c.in-Ok.ensures served) (c.serve.ensures.caused.too_long name e told)
 
 pub returns-in-Ok-clause-within : goal.returns-in-Ok-clause-within
 returns-in-Ok-clause-within g c = λ asked served loaded told.
-    subst (λ a. AreWithin (g.S.Shelf.held c.args.shelf.now) a) (one_asked (λ p. (goal.UnitPass-dyn g (p.vtable, p.value)).named p.value) c.args.passes.now (map string_bytes c.args.words.now) (job_given c.in-Ok.job) asked c.in-Ok.ensures served) (c.serve.ensures.caused.within loaded told)
+    subst (λ a. AreWithin (g.S.Shelf.held c.args.shelf.now) a) (one_asked (λ p. (goal.Pass-dyn g (p.vtable, p.value)).named p.value) c.args.passes.now (map string_bytes c.args.words.now) (job_given c.in-Ok.job) asked c.in-Ok.ensures served) (c.serve.ensures.caused.within loaded told)
 
 pub returns-in-Ok-clause-source : goal.returns-in-Ok-clause-source
 returns-in-Ok-clause-source g c = λ asked code line served e told.
     source_refused (map string_bytes c.args.words.now) asked (g.S.Shelf.held c.args.shelf.now) code line served.words_are
-    (subst (λ (a : JobGiven). TextIsRefused (g.S.Shelf.held c.args.shelf.now) a code line) (one_asked (λ p. (goal.UnitPass-dyn g (p.vtable, p.value)).named p.value) c.args.passes.now (map string_bytes c.args.words.now) (job_given c.in-Ok.job) asked c.in-Ok.ensures served) (c.serve.ensures.caused.source code line e told))
+    (subst (λ (a : JobGiven). TextIsRefused (g.S.Shelf.held c.args.shelf.now) a code line) (one_asked (λ p. (goal.Pass-dyn g (p.vtable, p.value)).named p.value) c.args.passes.now (map string_bytes c.args.words.now) (job_given c.in-Ok.job) asked c.in-Ok.ensures served) (c.serve.ensures.caused.source code line e told))
 
 pub returns-in-Ok-clause-image : goal.returns-in-Ok-clause-image
 returns-in-Ok-clause-image g c = λ asked code offset served e told.
-    subst (λ (a : JobGiven). ImageIsRefused (g.S.Shelf.held c.args.shelf.now) a code offset) (one_asked (λ p. (goal.UnitPass-dyn g (p.vtable, p.value)).named p.value) c.args.passes.now (map string_bytes c.args.words.now) (job_given c.in-Ok.job) asked c.in-Ok.ensures served) (c.serve.ensures.caused.image code offset e told)
+    subst (λ (a : JobGiven). ImageIsRefused (g.S.Shelf.held c.args.shelf.now) a code offset) (one_asked (λ p. (goal.Pass-dyn g (p.vtable, p.value)).named p.value) c.args.passes.now (map string_bytes c.args.words.now) (job_given c.in-Ok.job) asked c.in-Ok.ensures served) (c.serve.ensures.caused.image code offset e told)
 
 pub returns-in-Ok-clause-script : goal.returns-in-Ok-clause-script
 returns-in-Ok-clause-script g c = λ asked code line served e told.
-    subst (λ (a : JobGiven). ScriptIsRefused (g.S.Shelf.held c.args.shelf.now) a code line) (one_asked (λ p. (goal.UnitPass-dyn g (p.vtable, p.value)).named p.value) c.args.passes.now (map string_bytes c.args.words.now) (job_given c.in-Ok.job) asked c.in-Ok.ensures served) (c.serve.ensures.caused.script code line e told)
+    subst (λ (a : JobGiven). ScriptIsRefused (g.S.Shelf.held c.args.shelf.now) a code line) (one_asked (λ p. (goal.Pass-dyn g (p.vtable, p.value)).named p.value) c.args.passes.now (map string_bytes c.args.words.now) (job_given c.in-Ok.job) asked c.in-Ok.ensures served) (c.serve.ensures.caused.script code line e told)
 
 pub returns-in-Ok-clause-accepted : goal.returns-in-Ok-clause-accepted
 returns-in-Ok-clause-accepted g c = λ asked served e told.
-    subst (λ (a : JobGiven). AreAccepted (g.S.Shelf.held c.args.shelf.now) a) (one_asked (λ p. (goal.UnitPass-dyn g (p.vtable, p.value)).named p.value) c.args.passes.now (map string_bytes c.args.words.now) (job_given c.in-Ok.job) asked c.in-Ok.ensures served) (c.serve.ensures.caused.accepted e told)
+    subst (λ (a : JobGiven). AreAccepted (g.S.Shelf.held c.args.shelf.now) a) (one_asked (λ p. (goal.Pass-dyn g (p.vtable, p.value)).named p.value) c.args.passes.now (map string_bytes c.args.words.now) (job_given c.in-Ok.job) asked c.in-Ok.ensures served) (c.serve.ensures.caused.accepted e told)
 
 pub returns-in-Ok-clause-others : goal.returns-in-Ok-clause-others
 returns-in-Ok-clause-others g c = λ asked served told n other.
-    let same = one_asked (λ p. (goal.UnitPass-dyn g (p.vtable, p.value)).named p.value) c.args.passes.now (map string_bytes c.args.words.now) (job_given c.in-Ok.job) asked c.in-Ok.ensures served in
+    let same = one_asked (λ p. (goal.Pass-dyn g (p.vtable, p.value)).named p.value) c.args.passes.now (map string_bytes c.args.words.now) (job_given c.in-Ok.job) asked c.in-Ok.ensures served in
     c.serve.ensures.stays.others told n (λ saves. other (subst (λ a. SavesTo a n) same saves))
 
 pub returns-in-Ok-clause-unasked : goal.returns-in-Ok-clause-unasked
@@ -48,30 +49,30 @@ returns-in-Ok-clause-silent g c = λ none told. absurd (none (job_given c.in-Ok.
 
 pub returns-in-Ok-clause-saved : goal.returns-in-Ok-clause-saved
 returns-in-Ok-clause-saved g c = λ asked served e told.
-    subst (λ (a : JobGiven). HasSaved (λ p. (goal.UnitPass-dyn g (p.vtable, p.value)).named p.value) (λ p. (goal.UnitPass-dyn g (p.vtable, p.value)).steps p.value) c.args.passes.now (g.S.Shelf.held c.args.shelf.now) (g.S.Shelf.held c.serve.new.shelf) a) (one_asked (λ p. (goal.UnitPass-dyn g (p.vtable, p.value)).named p.value) c.args.passes.now (map string_bytes c.args.words.now) (job_given c.in-Ok.job) asked c.in-Ok.ensures served) (c.serve.ensures.image.saved e told)
+    subst (λ (a : JobGiven). HasSaved (λ p. (goal.Pass-dyn g (p.vtable, p.value)).named p.value) (λ p. ((goal.Pass-dyn g (p.vtable, p.value)).steps p.value).leads) c.args.passes.now (g.S.Shelf.held c.args.shelf.now) (g.S.Shelf.held c.serve.new.shelf) a) (one_asked (λ p. (goal.Pass-dyn g (p.vtable, p.value)).named p.value) c.args.passes.now (map string_bytes c.args.words.now) (job_given c.in-Ok.job) asked c.in-Ok.ensures served) (c.serve.ensures.image.saved e told)
 
 pub returns-in-Ok-clause-whole : goal.returns-in-Ok-clause-whole
 returns-in-Ok-clause-whole g c = λ asked served e saves told.
-    subst (λ (a : JobGiven). HasSaved (λ p. (goal.UnitPass-dyn g (p.vtable, p.value)).named p.value) (λ p. (goal.UnitPass-dyn g (p.vtable, p.value)).steps p.value) c.args.passes.now (g.S.Shelf.held c.args.shelf.now) (g.S.Shelf.held c.serve.new.shelf) a) (one_asked (λ p. (goal.UnitPass-dyn g (p.vtable, p.value)).named p.value) c.args.passes.now (map string_bytes c.args.words.now) (job_given c.in-Ok.job) asked c.in-Ok.ensures served) (c.serve.ensures.image.whole e saves told)
+    subst (λ (a : JobGiven). HasSaved (λ p. (goal.Pass-dyn g (p.vtable, p.value)).named p.value) (λ p. ((goal.Pass-dyn g (p.vtable, p.value)).steps p.value).leads) c.args.passes.now (g.S.Shelf.held c.args.shelf.now) (g.S.Shelf.held c.serve.new.shelf) a) (one_asked (λ p. (goal.Pass-dyn g (p.vtable, p.value)).named p.value) c.args.passes.now (map string_bytes c.args.words.now) (job_given c.in-Ok.job) asked c.in-Ok.ensures served) (c.serve.ensures.image.whole e saves told)
 
 pub returns-in-Ok-clause-left : goal.returns-in-Ok-clause-left
 returns-in-Ok-clause-left g c = λ asked served cut told.
-    subst (λ (a : JobGiven). HasLeft (λ p. (goal.UnitPass-dyn g (p.vtable, p.value)).named p.value) (λ p. (goal.UnitPass-dyn g (p.vtable, p.value)).steps p.value) c.args.passes.now (g.S.Shelf.held c.args.shelf.now) (g.S.Shelf.held c.serve.new.shelf) a) (one_asked (λ p. (goal.UnitPass-dyn g (p.vtable, p.value)).named p.value) c.args.passes.now (map string_bytes c.args.words.now) (job_given c.in-Ok.job) asked c.in-Ok.ensures served) (c.serve.ensures.image.left cut told)
+    subst (λ (a : JobGiven). HasLeft (λ p. (goal.Pass-dyn g (p.vtable, p.value)).named p.value) (λ p. ((goal.Pass-dyn g (p.vtable, p.value)).steps p.value).leads) c.args.passes.now (g.S.Shelf.held c.args.shelf.now) (g.S.Shelf.held c.serve.new.shelf) a) (one_asked (λ p. (goal.Pass-dyn g (p.vtable, p.value)).named p.value) c.args.passes.now (map string_bytes c.args.words.now) (job_given c.in-Ok.job) asked c.in-Ok.ensures served) (c.serve.ensures.image.left cut told)
 
 pub returns-in-Err-clause-left : goal.returns-in-Err-clause-left
-returns-in-Err-clause-left g c = λ asked served cut told. nothing_left (λ p. (goal.UnitPass-dyn g (p.vtable, p.value)).named p.value) (λ p. (goal.UnitPass-dyn g (p.vtable, p.value)).steps p.value) c.args.passes.now (g.S.Shelf.held c.args.shelf.now) (g.S.Shelf.held c.args.shelf.now) asked (λ n. refl)
+returns-in-Err-clause-left g c = λ asked served cut told. nothing_left (λ p. (goal.Pass-dyn g (p.vtable, p.value)).named p.value) (λ p. ((goal.Pass-dyn g (p.vtable, p.value)).steps p.value).leads) c.args.passes.now (g.S.Shelf.held c.args.shelf.now) (g.S.Shelf.held c.args.shelf.now) asked (λ n. refl)
 
 pub returns-in-Ok-clause-part : goal.returns-in-Ok-clause-part
 returns-in-Ok-clause-part g c = λ asked served cut told told_sink.
-    subst (λ (a : JobGiven). TookPart (λ p. (goal.UnitPass-dyn g (p.vtable, p.value)).named p.value) (λ p. (goal.UnitPass-dyn g (p.vtable, p.value)).steps p.value) c.args.passes.now (g.S.Shelf.held c.args.shelf.now) (g.S.Shelf.held c.serve.new.shelf) a (g.K.Sink.taken c.args.sink.now) (g.K.Sink.taken c.serve.new.sink)) (one_asked (λ p. (goal.UnitPass-dyn g (p.vtable, p.value)).named p.value) c.args.passes.now (map string_bytes c.args.words.now) (job_given c.in-Ok.job) asked c.in-Ok.ensures served) (c.serve.ensures.transcript.part cut told told_sink)
+    subst (λ (a : JobGiven). TookPart (λ p. (goal.Pass-dyn g (p.vtable, p.value)).named p.value) (λ p. ((goal.Pass-dyn g (p.vtable, p.value)).steps p.value).leads) c.args.passes.now (g.S.Shelf.held c.args.shelf.now) (g.S.Shelf.held c.serve.new.shelf) a (g.K.Sink.taken c.args.sink.now) (g.K.Sink.taken c.serve.new.sink)) (one_asked (λ p. (goal.Pass-dyn g (p.vtable, p.value)).named p.value) c.args.passes.now (map string_bytes c.args.words.now) (job_given c.in-Ok.job) asked c.in-Ok.ensures served) (c.serve.ensures.transcript.part cut told told_sink)
 
 pub returns-in-Ok-clause-done : goal.returns-in-Ok-clause-done
 returns-in-Ok-clause-done g c = λ asked served e told told_sink.
-    subst (λ (a : JobGiven). IsDone (λ p. (goal.UnitPass-dyn g (p.vtable, p.value)).named p.value) (λ p. (goal.UnitPass-dyn g (p.vtable, p.value)).steps p.value) c.args.passes.now (g.S.Shelf.held c.args.shelf.now) (g.S.Shelf.held c.serve.new.shelf) a (g.K.Sink.taken c.args.sink.now) (g.K.Sink.taken c.serve.new.sink)) (one_asked (λ p. (goal.UnitPass-dyn g (p.vtable, p.value)).named p.value) c.args.passes.now (map string_bytes c.args.words.now) (job_given c.in-Ok.job) asked c.in-Ok.ensures served) (c.serve.ensures.transcript.done e told told_sink)
+    subst (λ (a : JobGiven). IsDone (λ p. (goal.Pass-dyn g (p.vtable, p.value)).named p.value) (λ p. ((goal.Pass-dyn g (p.vtable, p.value)).steps p.value).leads) c.args.passes.now (g.S.Shelf.held c.args.shelf.now) (g.S.Shelf.held c.serve.new.shelf) a (g.K.Sink.taken c.args.sink.now) (g.K.Sink.taken c.serve.new.sink)) (one_asked (λ p. (goal.Pass-dyn g (p.vtable, p.value)).named p.value) c.args.passes.now (map string_bytes c.args.words.now) (job_given c.in-Ok.job) asked c.in-Ok.ensures served) (c.serve.ensures.transcript.done e told told_sink)
 
 pub returns-in-Ok-clause-complete : goal.returns-in-Ok-clause-complete
 returns-in-Ok-clause-complete g c = λ asked served told within accepted no_load no_save no_line.
-    let same = one_asked (λ p. (goal.UnitPass-dyn g (p.vtable, p.value)).named p.value) c.args.passes.now (map string_bytes c.args.words.now) (job_given c.in-Ok.job) asked c.in-Ok.ensures served in
+    let same = one_asked (λ p. (goal.Pass-dyn g (p.vtable, p.value)).named p.value) c.args.passes.now (map string_bytes c.args.words.now) (job_given c.in-Ok.job) asked c.in-Ok.ensures served in
     subst (λ (a : JobGiven). (c.serve.result ≡ Done) ⊎ ((c.serve.result ≡ NoMemory) ⊎ IsLeftOut (g.S.Shelf.held c.args.shelf.now) a c.serve.result)) same
     (complete (map string_bytes c.args.words.now) (job_given c.in-Ok.job) _ c.serve.result _
     c.in-Ok.ensures.words_are c.serve.ensures.caused told
@@ -80,7 +81,10 @@ returns-in-Ok-clause-complete g c = λ asked served told within accepted no_load
     no_load no_save no_line)
 
 pub returns-in-Err-clause-complete : goal.returns-in-Err-clause-complete
-returns-in-Err-clause-complete g c = λ asked served told within accepted no_load no_save no_line. refused_is_complete (λ p. (goal.UnitPass-dyn g (p.vtable, p.value)).named p.value) c.args.passes.now (map string_bytes c.args.words.now) _ c.in-Err.status asked c.in-Err.ensures served
+returns-in-Err-clause-complete g c = λ asked served told within accepted no_load no_save no_line. refused_is_complete (λ p. (goal.Pass-dyn g (p.vtable, p.value)).named p.value) c.args.passes.now (map string_bytes c.args.words.now) _ c.in-Err.status asked c.in-Err.ensures served
 
 pub returns-in-Ok-clause-usage_only : goal.returns-in-Ok-clause-usage_only
 returns-in-Ok-clause-usage_only g c = λ none. absurd (none (job_given c.in-Ok.job) c.in-Ok.ensures)
+
+pub serve-requires : goal.serve-requires
+serve-requires g c = served_runs (λ p. (goal.Pass-dyn g (p.vtable, p.value)).named p.value) c.args.passes.now (map string_bytes c.args.words.now) (job_given c.in-Ok.job) c.in-Ok.ensures

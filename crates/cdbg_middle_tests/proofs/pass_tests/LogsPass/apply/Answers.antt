@@ -1,11 +1,19 @@
-use Rattle.std.proofs.Common.{ap, sym, slice_get, ◌∙◌}
+use Rattle.std.proofs.Common.{ap, map, sym, slice_get, ◌∙◌}
 use Rattle.graph_core.specs.declared.unit.Unit as declared-unit
-use Rattle.graph_core.specs.Graphs.{UnitForm, unit_view}
+use Rattle.graph_core.specs.Graphs.{UnitForm, logged, unit_view}
 use Rattle.debug_records.specs.Change.{changes}
 use Rattle.pass_law.proofs.LogsLittle.{logs_nothing}
+use Rattle.pass_law.proofs.Shape.{shape_logged}
 use Rattle.cdbg_middle_tests.proofs.LogsOne.{logs_one}
 use Rattle.cdbg_middle_tests.proofs.pass_tests.LogsPass.apply.Goals as goal
 use Rattle.cdbg_middle_tests.proofs.pass_tests.LogsPass.apply.Goals.{in-Some-first+in_ok-push, in_default-first}
+
+pub returns-clause-kept : goal.returns-clause-kept
+returns-clause-kept c =
+    elim c.match-first-2.branch [
+      | in-Some-first+in_ok-push w ↦ shape_logged (unit_view c.args.unit.now) (unit_view c.in_ok-next.next) (unit_view c.match-first-2.next) (map logged (changes w.push.new.self)) c.in_ok-next.ensures (ap unit_view w.next-is)
+      | in_default-first w ↦ shape_logged (unit_view c.args.unit.now) (unit_view c.in_ok-next.next) (unit_view c.match-first-2.next) (unit_view c.in_ok-next.next).log c.in_ok-next.ensures (ap unit_view w.next-is)
+    ]
 
 pub returns-clause-logs : goal.returns-clause-logs
 returns-clause-logs c =

@@ -1,10 +1,17 @@
-use Rattle.std.proofs.Common.{ap}
+use Rattle.std.proofs.Common.{ap, subst, sym}
 use Rattle.std.proofs.lemmas.Result.{IfOk-weaker}
 use Rattle.graph_core.specs.declared.unit.Unit as declared-unit
 use Rattle.graph_core.specs.Graphs.{UnitForm, unit_view}
+use Rattle.pass_law.specs.Kept.{KeepsShape}
 use Rattle.pass_law.specs.Logs.{LogsWell}
 use Rattle.pass_law.proofs.LogsLittle.{logs_nothing}
+use Rattle.pass_law.proofs.Shape.{shape_itself}
 use Rattle.cdbg_middle_tests.proofs.pass_tests.SamePass.apply.Goals as goal
+
+pub returns-clause-kept : goal.returns-clause-kept
+returns-clause-kept c =
+    let u = unit_view c.args.unit.now in
+    IfOk-weaker c.duplicate.result _ (λ (v : declared-unit.Unit). KeepsShape u (unit_view v)) (λ v same. subst (KeepsShape u) (sym same) (shape_itself u)) c.duplicate.ensures
 
 pub returns-clause-logs : goal.returns-clause-logs
 returns-clause-logs c =
