@@ -6,7 +6,7 @@ use Rattle.dead_pass_rule.specs.Free.{AreNamed}
 use Rattle.base_laws.proofs.Lists.{all_there, there}
 use Rattle.dead_pass.proofs.pass.idle_graphs.Goals as goal
 
-pub new-requires-clause-few : goal.new-idle-requires-clause-few
+pub new-requires-clause-few : goal.new-requires-clause-few
 new-requires-clause-few c =
     let xs = c.args.graphs.now in
     let k = c.loop-graph.graph-index in
@@ -16,7 +16,7 @@ new-requires-clause-few c =
     let size = length-map one.blocks.items block_view in
     omega (arith, few, size)
 
-pub new-requires-clause-named : goal.new-idle-requires-clause-named
+pub new-requires-clause-named : goal.new-requires-clause-named
 new-requires-clause-named c =
     let xs = c.args.graphs.now in
     let k = c.loop-graph.graph-index in

@@ -24,12 +24,12 @@ use Rattle.dead_pass.proofs.Bounded.{all_named, cases_of, few_blocks, few_rooms,
 use Rattle.dead_pass.proofs.ByRule.{each_keeps, each_left}
 use Rattle.dead_pass.proofs.pass.remove_dead.Goals as goal
 
-pub idle_graphs-requires-clause-few : goal.idle_graphs-idle-requires-clause-few
+pub idle_graphs-requires-clause-few : goal.idle_graphs-requires-clause-few
 idle_graphs-requires-clause-few c =
     let u = unit_view c.args.unit.now in
     subst (λ gs. AllByRecursion (λ (g : Graph). length g.blocks + 2 < 2 ^ 32) (map graph_view gs)) (sym c.deref.ensures.value) (few_blocks u.graphs _ c.requires.valid.blocks (few_rooms u.room).0)
 
-pub idle_graphs-requires-clause-named : goal.idle_graphs-idle-requires-clause-named
+pub idle_graphs-requires-clause-named : goal.idle_graphs-requires-clause-named
 idle_graphs-requires-clause-named c =
     let u = unit_view c.args.unit.now in
     subst (λ gs. AllByRecursion (λ (g : Graph). AreNamed g.blocks g.name_count) (map graph_view gs)) (sym c.deref.ensures.value) (all_named u u.graphs c.requires.valid.graphs)
