@@ -18,11 +18,11 @@ use Rattle.motion_pass_points.proofs.Keys.{it_does}
 use Rattle.motion_pass_placement.specs.Moves.{IsMovedAssignment, IsReadingAssignment}
 use Rattle.motion_pass.specs.Amounts.{AreBounded}
 
-first_or : Instruction → List Instruction → Instruction
+abbrev first_or : Instruction → List Instruction → Instruction
 first_or i [] = i
 first_or i (j ∷ rest) = j
 
-tail_of : List Instruction → List Instruction
+abbrev tail_of : List Instruction → List Instruction
 tail_of [] = []
 tail_of (j ∷ rest) = rest
 

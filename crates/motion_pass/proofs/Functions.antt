@@ -123,9 +123,9 @@ operand_named u g (StaticAddress object offset) is = tt
 
 -- an instruction computes of names of its graph
 made_named : (u : UnitForm) (g : Graph) (i : Instruction) (more : List Computation) → IsInstruction u g i → AreNamed g.name_count more → AreNamed g.name_count (with_some (computed_by i) more)
-made_named u g (Operate x o a b) more is rest = (both_all (λ y. y < g.name_count) (names_of a) (names_of b) (operand_named u g a is.1.0) (operand_named u g b is.1.1), rest)
+made_named u g (Operate x o a b) more is rest = (both_all (λ y. y < g.name_count) (names_of a) (names_of b) (operand_named u g a is.1) (operand_named u g b is.2), rest)
 made_named u g (Truncate x t a) more is rest = (operand_named u g a is.1, rest)
-made_named u g (Same x a b) more is rest = (both_all (λ y. y < g.name_count) (names_of a) (names_of b) (operand_named u g a is.1.0) (operand_named u g b is.1.1), rest)
+made_named u g (Same x a b) more is rest = (both_all (λ y. y < g.name_count) (names_of a) (names_of b) (operand_named u g a is.1) (operand_named u g b is.2), rest)
 made_named u g _ more is rest = rest
 
 all_named : (u : UnitForm) (g : Graph) (all : List Instruction) → AllByRecursion (IsInstruction u g) all → AreNamed g.name_count (computed_along all)
