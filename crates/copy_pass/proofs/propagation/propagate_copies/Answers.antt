@@ -17,12 +17,13 @@ use Rattle.copy_pass.proofs.LogsWell.{few_cases}
 use Rattle.copy_pass.proofs.propagation.propagate_copies.Goals as goal
 
 pub graphs_after-requires : goal.graphs_after-requires
-graphs_after-requires c =
-    subst (λ (gs : List declared-graph.Graph). AllByRecursion IsCountable (map graph_view gs)) (sym c.deref.ensures.value)
-    (each_countable (unit_view c.args.unit.now) c.requires.valid)
+graphs_after-requires c = record {
+  countable = subst (λ (gs : List declared-graph.Graph). AllByRecursion IsCountable (map graph_view gs)) (sym c.deref.ensures.value)
+      (each_countable (unit_view c.args.unit.now) c.requires.valid);
+}
 
-pub log_cases-requires-few : goal.log_cases-requires-few
-log_cases-requires-few c =
+pub log_cases-requires-clause-few : goal.log_cases-requires-clause-few
+log_cases-requires-clause-few c =
     let before = map graph_view c.args.unit.now.graphs.items in
     let after = map graph_view c.in_ok-graphs.graphs.items in
     let are = subst (λ ys. AreCasesOf IsReplacedRead before (map graph_view ys) c.in_ok-cases.cases.items) c.deref-3.ensures.value

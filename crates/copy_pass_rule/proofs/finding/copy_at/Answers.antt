@@ -2,12 +2,14 @@ use Rattle.std.proofs.Common.{◌≡◌, ℕ, suc, ◌<◌, Bool, List, length, 
 use Rattle.std.specs.Prelude.{IfSome}
 use Rattle.std.proofs.lemmas.List.{length-map}
 use Rattle.std.proofs.lemmas.Option.{slice_get_within}
-use Rattle.graph_core.specs.Graphs.{Instruction, Move, Name, block_view, graph_view, instruction_view}
+use Rattle.graph_core.specs.Graphs.{Instruction, Move, Name, block_view, graph_view, instruction_view, scalar_view}
 use Rattle.graph_paths.specs.PathMarksTable.{bits_of}
 use Rattle.graph_paths.proofs.Leading.{block_there}
 use Rattle.copy_pass_rule.specs.declared.copies.CopyAt.{CopyAt}
 use Rattle.copy_pass_rule.specs.Along.{IsPoint, IsReadBy}
+use Rattle.copy_pass_rule.specs.Copying.{AreOfOneType}
 use Rattle.copy_pass_rule.specs.Flow.{AreFound, line_of, lines_of, missing_in, missing_where}
+use Rattle.copy_pass_rule.specs.Known.{IsNoCopy}
 use Rattle.copy_pass_rule.proofs.Pointed.{read_at}
 use Rattle.copy_pass_rule.proofs.finding.copy_at.Goals as goal
 
@@ -31,7 +33,9 @@ returns-in-Some-copy_of c =
     let read : IsReadBy g n point.block i point.rest copies made =
     read_at g n c.args.left i point copies bits found missing (block_view b) (block_there block_view all n b lt c.index-block.ensures)
     (λ k d at. c.walk_to.ensures.walked k d at ∙ ap (missing_where d n (suc c.args.left) (line_of (block_view b)).writes) (c.copy_from.ensures.there (suc k))) made (sym c.in-Some-copy_of.ensures.0 ∙ c.in_ok-made.ensures) in
-    record { point = point; read = subst (λ (xs : List CopyAt). IsReadBy g n point.block i point.rest xs made) same read; typed = c.in-Some-copy_of.ensures.1; in_block = refl; there = refl }
+    let typed = subst (λ ss. AreOfOneType (map scalar_view ss) c.in-Some-copy_of.target c.in-Some-copy_of.source) c.deref-2.ensures.value
+    c.in-Some-copy_of.ensures.1 in
+    record { point = point; read = subst (λ (xs : List CopyAt). IsReadBy g n point.block i point.rest xs made) same read; typed = typed; in_block = refl; there = refl }
 
 pub returns : goal.returns
 returns c =
@@ -53,4 +57,5 @@ returns c =
     let read : IsReadBy g n point.block i point.rest copies made =
     read_at g n c.args.left i point copies bits found missing (block_view b) (block_there block_view all n b lt c.index-block.ensures)
     (λ k d at. c.walk_to.ensures.walked k d at ∙ ap (missing_where d n (suc c.args.left) (line_of (block_view b)).writes) (c.copy_from.ensures.there (suc k))) made c.in_ok-made.ensures in
-    record { point = point; made = made; read = subst (λ (xs : List CopyAt). IsReadBy g n point.block i point.rest xs made) same read; never = c.in-None.ensures }
+    let never = subst (λ ss. IsNoCopy (map scalar_view ss) made) c.deref-2.ensures.value c.in-None.ensures in
+    record { point = point; made = made; read = subst (λ (xs : List CopyAt). IsReadBy g n point.block i point.rest xs made) same read; never = never }
