@@ -80,4 +80,4 @@ few_needed words job is =
 
 -- The passes that a job which is served needs can be run.
 pub served_runs : {P : Type 0} (named : P → PassName) (handed_in : List P) (words : List Text) (job : JobGiven) → AreServed named handed_in words job → CanRun named handed_in (needed job)
-served_runs named handed_in words job is = record { few = few_needed words job is.words_are; handed_in = is.passes_are }
+served_runs named handed_in words job is = record { few = few_needed words job is.words_are; are_handed_in = is.passes_are }

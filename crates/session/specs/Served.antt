@@ -22,7 +22,7 @@ needed (sweep given) = default_names
 -- The passes of these names can be run one after the other: there are at most 32 names, each of a pass that is handed in.
 pub record CanRun {P : Type 0} (named : P → PassName) (handed_in : List P) (names : List Text) : Type 0 where
   pub few : length names ≤ 32
-  pub handed_in : AreHandedIn named handed_in names
+  pub are_handed_in : AreHandedIn named handed_in names
 
 -- The words are a job, and each pass that it needs is handed in.
 pub record AreServed {P : Type 0} (named : P → PassName) (handed_in : List P) (words : List Text) (job : JobGiven) : Type 0 where

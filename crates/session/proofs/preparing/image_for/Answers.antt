@@ -32,7 +32,7 @@ pub image_of_program-requires-clause-few : goal.image_of_program-requires-clause
 image_of_program-requires-clause-few g c = subst (λ n. n ≤ 32) (length-map c.args.names.now letters) c.requires.run.few
 
 pub image_of_program-requires-clause-handed_in : goal.image_of_program-requires-clause-handed_in
-image_of_program-requires-clause-handed_in g c = c.requires.run.handed_in
+image_of_program-requires-clause-handed_in g c = c.requires.run.are_handed_in
 
 pub returns-in-Some-clause-shows : goal.returns-in-Some-clause-shows
 returns-in-Some-clause-shows g c = λ none slots. subst (λ o. IfSome o (λ b. ShowsAll (form b.image))) c.in-Some.is (c.in_ok-build.ensures.shows (none_named c.args.names.now none) slots)

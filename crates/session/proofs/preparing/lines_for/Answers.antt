@@ -17,7 +17,7 @@ pub unit_of-requires-clause-few : goal.unit_of-requires-clause-few
 unit_of-requires-clause-few g c = subst (λ n. n ≤ 32) (length-map c.args.names.now letters) c.requires.run.few
 
 pub unit_of-requires-clause-handed_in : goal.unit_of-requires-clause-handed_in
-unit_of-requires-clause-handed_in g c = c.requires.run.handed_in
+unit_of-requires-clause-handed_in g c = c.requires.run.are_handed_in
 
 pub returns : goal.returns
 returns g c =
