@@ -1,11 +1,12 @@
 -- A change at the entry of the first function, of its first scalar, is one that a pass may log.
-use Rattle.std.proofs.Common.{◌≡◌, ℕ, List, [], ◌∷◌, ◌++◌, map, refl, ap, ◌∙◌, slice_get}
+use Rattle.std.proofs.Common.{◌≡◌, ◌≢◌, ℕ, List, [], ◌∷◌, ◌++◌, map, refl, ap, ◌∙◌, slice_get}
 use Rattle.std.specs.Prelude.{Option, Some, None, option_map}
 use Rattle.std.proofs.lemmas.List.{map_push}
 use Rattle.std.proofs.lemmas.Option.{slice_get-map}
 use Rattle.debug_records.specs.Change.{changes}
 use Rattle.debug_records.specs.declared.change.Change.{Change}
 use Rattle.debug_records.specs.declared.change.Kind.{Kind}
+use Rattle.debug_records.specs.declared.change.Kind.TheVariants.{Sunk}
 use Rattle.debug_records.specs.declared.change.PassName.{PassName}
 use Rattle.graph_core.specs.declared.graph.Graph as declared-graph
 use Rattle.graph_core.specs.declared.graph.Scalar as declared-scalar
@@ -35,9 +36,9 @@ module _ (pass : PassName) (kind : Kind) (unit copy after : declared-unit.Unit) 
   change number = record { number = number; pass = pass; kind = kind; place = g.entry; var = s.var }
 
   -- That change alone, behind the log of a copy of a well marked unit.
-  pub logs_one : (number : ℕ) → AreWellMarked (unit_view unit) → slice_get unit.graphs.items 0 ≡ Some g → slice_get g.scalars.items 0 ≡ Some s → unit_view copy ≡ unit_view unit → changes after.log ≡ changes copy.log ++ change number ∷ []
+  pub logs_one : (number : ℕ) → kind ≢ Sunk → AreWellMarked (unit_view unit) → slice_get unit.graphs.items 0 ≡ Some g → slice_get g.scalars.items 0 ≡ Some s → unit_view copy ≡ unit_view unit → changes after.log ≡ changes copy.log ++ change number ∷ []
       → LogsWell pass (unit_view unit) (unit_view after)
-  logs_one number marked graph scalar same grown =
+  logs_one number unsunk marked graph scalar same grown =
       let is : slice_get (unit_view unit).graphs 0 ≡ Some (graph_view g) = slice_get-map graph_view unit.graphs.items 0 ∙ ap (option_map graph_view) graph in
       let first : slice_get (graph_view g).scalars 0 ≡ Some (scalar_view s) = slice_get-map scalar_view g.scalars.items 0 ∙ ap (option_map scalar_view) scalar in
       record {
@@ -45,6 +46,7 @@ module _ (pass : PassName) (kind : Kind) (unit copy after : declared-unit.Unit) 
         log = ap (map logged) grown ∙ map_push logged (changes copy.log) (change number) ∙ ap (λ (u : UnitForm). u.log ++ logged (change number) ∷ []) same;
         few = one_few unit.room;
         by = (refl, tt);
+        kinds = (unsunk, tt);
         at = (entry_begins (unit_view unit) (graph_view g) marked is, tt);
         of = (record { function = 0; graph = graph_view g; x = 0; is = is; of = ap (option_map (λ (x : Scalar). x.variable)) first }, tt);
       }

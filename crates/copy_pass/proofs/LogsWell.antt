@@ -255,6 +255,6 @@ module _ (u : UnitForm) (hs : List Graph) (valid : IsValid u) where
 
 -- WHAT COPY PROPAGATION LOGS IS LOGGED WELL.
 pub copy_logs_well : (u v : UnitForm) (pass : PassName) → AreWellMarked u → AddsChangesOf pass Replaced IsReplacedRead u v → LogsWell pass u v
-copy_logs_well u v pass marked changes = logged_well pass Replaced IsReplacedRead u v changes (few u v.graphs marked.valid)
+copy_logs_well u v pass marked changes = logged_well pass Replaced IsReplacedRead u v changes (λ e. absurd cc) (few u v.graphs marked.valid)
     (λ c is. place_marked u marked c.0 is.before is.stood c.1.place.0 c.1.block is.case.rest is.case.end is.case.stood)
     (λ c is. record { function = c.0; graph = is.before; x = is.case.x; is = is.stood; of = is.case.variable })

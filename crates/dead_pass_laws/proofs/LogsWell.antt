@@ -36,6 +36,6 @@ module _ (u v : UnitForm) (pass : PassName) (marked : AreWellMarked u) (changes 
 
   -- WHAT THE REMOVAL OF DEAD ASSIGNMENTS LOGS IS LOGGED WELL.
   pub dead_logs_well : LogsWell pass u v
-  dead_logs_well = logged_well pass Removed (λ before after. IsRemovedWrite u.assignments before) u v changes few
+  dead_logs_well = logged_well pass Removed (λ before after. IsRemovedWrite u.assignments before) u v changes (λ e. absurd cc) few
       (λ c is. place_marked u marked c.0 is.before is.stood c.1.place.0 c.1.block (is.case.instruction ∷ is.case.rest) is.case.end is.case.stood)
       (λ c is. record { function = c.0; graph = is.before; x = is.case.x; is = is.stood; of = is.case.variable })

@@ -141,6 +141,6 @@ module _ (u v : UnitForm) (pass : PassName) (marked : AreWellMarked u) (changes 
 
   -- WHAT LAZY CODE MOTION LOGS IS LOGGED WELL.
   pub motion_logs_well : LogsWell pass u v
-  motion_logs_well = logged_well pass Moved IsMovedAssignment u v changes few
+  motion_logs_well = logged_well pass Moved IsMovedAssignment u v changes (λ e. absurd cc) few
       (λ c is. place_marked u marked c.0 is.before is.stood c.1.place.0 c.1.block (is.case.assignment.instruction ∷ is.case.assignment.rest) is.case.assignment.end is.case.assignment.stood)
       (λ c is. record { function = c.0; graph = is.before; x = is.case.assignment.x; is = is.stood; of = is.case.assignment.variable })

@@ -1,7 +1,7 @@
 -- Functions that are gone through one by one.
 use Rattle.std.proofs.Common.{◌≡◌, ◌-◌, ◌<◌, ◌≤◌, List, [], ◌∷◌, ◌++◌, length, sym, subst, arith, append_assoc, get_or, map, take, drop}
 use Rattle.graph_core.specs.Graphs.{Graph}
-use Rattle.pass_law.specs.Kept.{EachFunction, KeepsAllButBlocks}
+use Rattle.pass_law.specs.Kept.{EachFunction}
 use Rattle.base_laws.proofs.Lists.{append_nil, rest_is}
 
 -- What is left of the functions, behind those that stand in their new form.

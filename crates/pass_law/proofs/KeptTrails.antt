@@ -15,18 +15,15 @@ use Rattle.graph_core.specs.Graphs.{UnitForm, unit_view}
 use Rattle.pass_law.specs.Keeps.{Keeps}
 use Rattle.graph_core.specs.WellMarked.{AreWellMarked}
 use Rattle.pass_law.proofs.Inversions.{some_same}
-use Rattle.pass_law.proofs.Keeping.{keeps_through}
+use Rattle.pass_law.proofs.Keeping.{keeps_itself, keeps_through}
+use Rattle.pass_law.proofs.Shape.{shape_itself, shape_twice}
+use Rattle.pass_law.specs.Kept.{KeepsShape}
 use Rattle.pass_law.specs.Logs.{most_changes, LogsWell}
 use Rattle.pass_law.specs.Relations.{PassRelation}
 use Rattle.pass_law.specs.HandedIn.{IsNoPass}
-use Rattle.pass_law.specs.Leading.{IsFirst}
-use Rattle.pass_law.specs.Trails.{IsTrail, ends, goes_on}
-use Rattle.pass_law.proofs.Leading.{first_is_some}
-
--- what a pass may log in some room it may log in the larger
-at_most_large : (r : Room) (n : ℕ) → n ≤ most_changes r → n ≤ 1000000
-at_most_large Small n few = let most : n ≤ 100000 = few in omega arith
-at_most_large Large n few = few
+use Rattle.pass_law.specs.Leading.{IsFirst, IsLawfulStep, Lead}
+use Rattle.pass_law.specs.Trails.{IsTrail, OfLast, ends, goes_on}
+use Rattle.pass_law.proofs.Leading.{first_is_some, lead_on}
 
 -- by one more pass the log has no more changes than one more pass may log
 pub few_more : (r : Room) (changes added passes : ℕ) → changes ≤ most_changes r * passes → added ≤ most_changes r → changes + added ≤ most_changes r * (passes + 1)
@@ -51,10 +48,44 @@ one_longer names i within =
     let then : length (take (i + 1) names) ≡ i + 1 = simp length-take (omega arith) in
     omega (arith, now, then)
 
--- What a unit is known to be behind so many passes.
-pub record IsReady (u : UnitForm) (passes : ℕ) : Type 0 where
-  pub marked : AreWellMarked u
-  pub changes : length u.log ≤ 1000000 * passes
+module _ {P : Type 0} (named : P → PassName) (steps : P → PassRelation) (passes : List P) (first : UnitForm) where
+  -- What a unit is known to be after the passes of these names.
+  pub record IsAfter (names : List PassName) (u : UnitForm) : Type 0 where
+    pub kept : KeepsShape first u
+    pub led : Lead named (λ p. (steps p).leads) passes (map letters names) first u
+    pub lawful : Lead named (λ p. IsLawfulStep (named p) (steps p).leads) passes (map letters names) first u
+    pub keeps : Keeps first u
+    pub few : length u.log ≤ most_changes first.room * length names
+
+  -- a unit without changes is so after no pass
+  pub after_none : AreWellMarked first → first.log ≡ [] → IsAfter [] first
+  after_none marked unchanged = record {
+    kept = shape_itself first;
+    led = refl;
+    lawful = refl;
+    keeps = keeps_itself first marked;
+    few = let none : length first.log ≡ 0 = ap length unchanged in omega (arith, none);
+  }
+
+  -- after fewer than 32 passes there is room for what one more logs
+  pub after_room : (names : List PassName) (i : ℕ) (u : UnitForm) → i < length names → length names ≤ 32 → IsAfter (take i names) u → length u.log < 2 ^ 31
+  after_room names i u within few after =
+      let count : length (take i names) ≡ i = simp length-take (omega arith) in
+      room_left first.room (length u.log) (length (take i names)) after.few (omega (arith, few, within, count))
+
+  -- so it is with what a lawful step of the pass of one more name makes
+  pub after_more : (names : List PassName) (i : ℕ) (d : PassName) (p : P) (u v : UnitForm) → i < length names → IsFirst named (letters (get_or names i d)) p passes
+      → IsAfter (take i names) u → KeepsShape u v → (steps p).leads u v → LogsWell (named p) u v → IsAfter (take (i + 1) names) v
+  after_more names i d p u v within found after kept step logs =
+      let keeps = (steps p).keeps u v step in
+      record {
+        kept = shape_twice first u v after.kept kept;
+        led = lead_on named (λ q. (steps q).leads) passes names i d p first u v within after.led found step;
+        lawful = lead_on named (λ q. IsLawfulStep (named q) (steps q).leads) passes names i d p first u v within after.lawful found (record { step = step; keeps = keeps; logs = logs });
+        keeps = keeps_through first u v after.keeps keeps;
+        few = subst (λ n. length v.log ≤ most_changes first.room * n) (one_longer names i within)
+            (few_all first u v (named p) (length (take i names)) after.keeps.program.room after.few logs);
+      }
 
 module _ {P : Type 0} (named : P → PassName) (steps : P → PassRelation) (passes : List P) where
   -- the first unit is kept by all behind it
@@ -90,13 +121,6 @@ module _ {P : Type 0} (named : P → PassName) (steps : P → PassRelation) (pas
       let here : slice_get units (length (take i names)) ≡ Some u = ap (slice_get units) count ∙ at in
       subst (λ all. IsTrail named steps passes all (units ++ v ∷ [])) (sym (take_more names i d within)) (trail_more (take i names) units (get_or names i d) p u v trail here first step)
 
-  -- a step keeps a unit ready
-  pub ready_more : (p : P) (u v : UnitForm) (i : ℕ) → IsReady u i → (steps p).leads u v → LogsWell (named p) u v → IsReady v (i + 1)
-  ready_more p u v i ready step logs =
-      let more : length v.log ≡ length u.log + length logs.added = ap length logs.log ∙ length-append u.log logs.added in
-      let few : length logs.added ≤ 1000000 = at_most_large u.room (length logs.added) logs.few in
-      record { marked = ((steps p).keeps u v step).still_marked; changes = omega (arith, more, few, ready.changes) }
-
   -- a name that has a pass is some pass's
   pub known_more : (names : List PassName) (i : ℕ) (d : PassName) (p : P) → i < length names → IsFirst named (letters (get_or names i d)) p passes → ((k : ℕ) → k < i → (name : PassName) → slice_get names k ≡ Some name → IsNoPass named passes (letters name) → ⊥) → (k : ℕ) → k < i + 1 → (name : PassName) → slice_get names k ≡ Some name → IsNoPass named passes (letters name) → ⊥
   known_more names i d p within first known =
@@ -121,10 +145,19 @@ last_is [] v i count = let none : i ≡ 0 = omega arith in subst (λ k. slice_ge
 last_is (u ∷ units) v zero count = absurd (omega arith)
 last_is (u ∷ units) v (suc i) count = last_is units v i (omega arith)
 
-pub last_ready : (units : List UnitForm) (v : UnitForm) (i : ℕ) → length units ≡ i → IsReady v i → (w : UnitForm) → slice_get (units ++ v ∷ []) i ≡ Some w → IsReady w i
-last_ready units v i count ready w at =
-    let same : v ≡ w = some_same (sym (last_is units v i count) ∙ at) in subst (λ x. IsReady x i) same ready
+-- an index within a list has an element
+there : (P : UnitForm → Type 0) (units : List UnitForm) (i : ℕ) → i < length units → ((u : UnitForm) → slice_get units i ≡ Some u → P u) → OfLast units i P
+there P [] i within said = absurd (omega arith)
+there P (u ∷ units) zero within said = said u refl
+there P (u ∷ units) (suc i) within said = there P units i (omega arith) said
 
--- behind one more unit the last one is ready
-pub push_ready : (units : List unit.Unit) (v : unit.Unit) (i : ℕ) → length units ≡ i → IsReady (unit_view v) i → (w : UnitForm) → slice_get (map unit_view units ++ unit_view v ∷ []) i ≡ Some w → IsReady w i
-push_ready units v i count = last_ready (map unit_view units) (unit_view v) i (length-map units unit_view ∙ count)
+-- behind one more unit all that is said of the last one is said of it
+pub push_last : (P : UnitForm → Type 0) (units : List unit.Unit) (v : unit.Unit) (i : ℕ) → length units ≡ i → P (unit_view v) → (w : UnitForm) → slice_get (map unit_view units ++ unit_view v ∷ []) i ≡ Some w → P w
+push_last P units v i count holds w at =
+    let last = last_is (map unit_view units) (unit_view v) i (length-map units unit_view ∙ count) in
+    let same : unit_view v ≡ w = some_same (sym last ∙ at) in
+    subst P same holds
+
+-- what is said of the unit at an index is said of one that is there
+pub of_last : (P : UnitForm → Type 0) (units : List unit.Unit) (i : ℕ) → i < length units → ((u : UnitForm) → slice_get (map unit_view units) i ≡ Some u → P u) → OfLast (map unit_view units) i P
+of_last P units i within said = there P (map unit_view units) i (simp length-map within) said

@@ -1,11 +1,12 @@
 -- What is logged for the cases of a well marked unit.
-use Rattle.std.proofs.Common.{◌≡◌, inl, inr, ℕ, zero, suc, ◌≤◌, Option, Some, None, List, [], ◌∷◌, ◌++◌, length, map, refl, sym, ap, ◌∙◌, subst, arith}
+use Rattle.std.proofs.Common.{◌≡◌, ◌≢◌, inl, inr, ℕ, zero, suc, ◌≤◌, Option, Some, None, List, [], ◌∷◌, ◌++◌, length, map, refl, sym, ap, ◌∙◌, subst, arith}
 use Rattle.std.specs.Prelude.{slice_get}
 use Rattle.std.specs.List.{AllByRecursion}
 use Rattle.std.proofs.lemmas.List.{length-map}
 use Rattle.std.proofs.lemmas.Option.{none-some, same_Some}
 use Rattle.debug_records.specs.declared.change.PassName.{PassName}
 use Rattle.debug_records.specs.declared.change.Kind as declared-kind
+use Rattle.debug_records.specs.declared.change.Kind.TheVariants.{Sunk}
 use Rattle.graph_core.specs.Graphs.{Instruction, Marker, End, Block, Graph, Logged, UnitForm}
 use Rattle.graph_core.specs.Paths.{Among, front, behind}
 use Rattle.graph_core.specs.Points.{StandsWith}
@@ -85,10 +86,10 @@ module _ (pass : PassName) (kind : declared-kind.Kind) (IsCase : (before after :
       (subst (λ all. AllByRecursion (λ c. P (logged_as pass kind c)) all) (sym changes.all.are)
       (all_map (λ (c : ℕ × Case). c.1) (λ c. P (logged_as pass kind c)) changes.all.of (all_so IsOfUnit (λ c. P (logged_as pass kind c.1)) so changes.all.of are)))
 
-  -- WHAT IS LOGGED FOR CASES IS LOGGED WELL, where there are few, each in a place that a marker begins, of a variable that is a scalar.
-  pub logged_well : ((cases : List (ℕ × Case)) → AllByRecursion IsOfUnit cases → AreApart cases → length cases ≤ most_changes u.room)
+  -- WHAT IS LOGGED FOR CASES IS LOGGED WELL, where the kind is not Sunk and there are few, each in a place that a marker begins, of a variable that is a scalar.
+  pub logged_well : kind ≢ Sunk → ((cases : List (ℕ × Case)) → AllByRecursion IsOfUnit cases → AreApart cases → length cases ≤ most_changes u.room)
       → ((c : ℕ × Case) → IsOfUnit c → Among c.1.place.0 (markers_of u.graphs)) → ((c : ℕ × Case) → IsOfUnit c → IsScalarIn u c.1.var.0) → LogsWell pass u v
-  logged_well few at of =
+  logged_well unsunk few at of =
       let all = all_apart IsOfUnit changes.all.of changes.all.all in
       let most = few changes.all.of all.0 all.1 in
       let mapped = length-map changes.cases (logged_as pass kind) in
@@ -98,6 +99,7 @@ module _ (pass : PassName) (kind : declared-kind.Kind) (IsCase : (before after :
         log = changes.log;
         few = omega (arith, most, mapped, same);
         by = changes_so (λ (c : Logged). c.pass ≡ pass) (λ c is. refl);
+        kinds = changes_so (λ (c : Logged). c.kind ≢ Sunk) (λ c is. unsunk);
         at = changes_so (λ (c : Logged). Among c.place (markers_of u.graphs)) at;
         of = changes_so (λ (c : Logged). IsScalarIn u c.variable) of;
       }

@@ -4,11 +4,12 @@ use Rattle.std.specs.Prelude.{Some, option_map}
 use Rattle.std.specs.List.{AllByRecursion}
 use Rattle.memory_map.specs.declared.map.Room.TheVariants.{Small}
 use Rattle.debug_records.specs.declared.change.PassName.{PassName}
+use Rattle.debug_records.specs.declared.change.Kind.TheVariants.{Sunk}
 use Rattle.graph_core.specs.Graphs.{Graph, Logged, Scalar}
 use Rattle.graph_core.specs.Paths.{Among, front, behind}
 use Rattle.graph_core.specs.Validity.{markers_of}
 use Rattle.pass_law.specs.Logs.{most_changes, IsScalarIn, LogsWell}
-use Rattle.pass_law.specs.Worked.{assigning, built, logging, reduced, removal, removal_in, NoPassLogs}
+use Rattle.pass_law.specs.Worked.{assigning, built, logging, reduced, removal, removal_in, sinking, NoPassLogs}
 use Rattle.pass_law.proofs.Inversions.{some_same, none_is_some, apart, only_scalar}
 
 -- no marker begins the place 0
@@ -29,6 +30,7 @@ module _ (pass : PassName) where
     log = refl;
     few = lit≤ tt;
     by = (refl, tt);
+    kinds = ((λ e. absurd cc), tt);
     at = (behind front, tt);
     of = (record { function = 0; graph = assigning; x = 0; is = refl; of = refl }, tt);
   }
@@ -44,6 +46,9 @@ module _ (pass : PassName) where
   by_another : (other : PassName) → other ≢ pass → LogsWell pass built (logging (removal_in other 2 0 ∷ [])) → ⊥
   by_another other differs w = differs (subst (λ log. AllByRecursion (λ (c : Logged). c.pass ≡ pass) log) (sym w.log) w.by).0
 
+  sunk : LogsWell pass built (logging (sinking pass ∷ [])) → ⊥
+  sunk w = (subst (λ log. AllByRecursion (λ (c : Logged). c.kind ≢ Sunk) log) (sym w.log) w.kinds).0 refl
+
   too_many : (log : List Logged) → most_changes Small < length log → LogsWell pass built (logging log) → ⊥
   too_many log many w =
       let few : length w.added ≤ 100000 = w.few in
@@ -51,4 +56,4 @@ module _ (pass : PassName) where
       absurd (omega (arith, many, few, same))
 
 pub no_pass_logs : (pass : PassName) → NoPassLogs pass
-no_pass_logs pass = record { placeless = placeless pass; no_scalar = of_none pass; by_another = by_another pass; too_many = too_many pass }
+no_pass_logs pass = record { placeless = placeless pass; no_scalar = of_none pass; by_another = by_another pass; sunk = sunk pass; too_many = too_many pass }

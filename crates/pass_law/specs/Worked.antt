@@ -2,7 +2,7 @@
 -- The program is `int main(void) { int x = 2; return x; }`. Place 1 is the entry, 2 the declarator and 3 the return.
 use Rattle.std.specs.Prelude.{◌≢◌, ℕ, ◌<◌, List, [], ◌∷◌, length, Option, Some, None}
 use Rattle.debug_records.specs.declared.change.PassName.{PassName}
-use Rattle.debug_records.specs.declared.change.Kind.TheVariants.{Removed}
+use Rattle.debug_records.specs.declared.change.Kind.TheVariants.{Removed, Sunk}
 use Rattle.memory_map.specs.declared.map.Room.TheVariants.{Small}
 use Rattle.places.specs.declared.flow.FlowStep.{FlowStep}
 use Rattle.places.specs.declared.flow.Assignment.{Assignment}
@@ -107,6 +107,10 @@ removal_in pass place variable = record { pass = pass; kind = Removed; place = p
 abbrev pub removal : PassName → Logged
 removal pass = removal_in pass 2 0
 
+-- the change by which a pass would have sunk the assignment
+abbrev pub sinking : PassName → Logged
+sinking pass = record { pass = pass; kind = Sunk; place = 2; variable = 0 }
+
 -- the unit without the assignment
 abbrev pub reduced : PassName → UnitForm
 reduced pass = unit_of noting (removal pass ∷ [])
@@ -132,11 +136,12 @@ abbrev pub logging : List Logged → UnitForm
 logging log = unit_of assigning log
 
 -- What no pass of a name logs, though the graphs stay as they are: a change of the place 0, which no marker begins; a change of a variable that is no scalar; one by
--- another name; and more changes than a unit of the smaller room may get.
+-- another name; one of the kind Sunk; and more changes than a unit of the smaller room may get.
 pub record NoPassLogs (pass : PassName) : Type 0 where
   pub placeless : LogsWell pass built (logging (removal_in pass 0 0 ∷ [])) → ⊥
   pub no_scalar : LogsWell pass built (logging (removal_in pass 2 1 ∷ [])) → ⊥
   pub by_another : (other : PassName) → other ≢ pass → LogsWell pass built (logging (removal_in other 2 0 ∷ [])) → ⊥
+  pub sunk : LogsWell pass built (logging (sinking pass ∷ [])) → ⊥
   pub too_many : (log : List Logged) → most_changes Small < length log → LogsWell pass built (logging log) → ⊥
 
 -- What is no such pass. A removal that is not logged leaves a unit that is not well marked, and is not earned. Nor is a unit well marked where a note is of the scalar itself

@@ -1,6 +1,6 @@
 //! Lists of passes.
 
-ghost use Rattle.std.specs.Prelude.{◌≡◌, ◌≤◌, ◌<◌, ◌^◌, ◌*◌, ◌++◌, ◌↔◌, [], ◌∷◌, AllPairs, IfErr, IfOk, IfSome, IsSomeAnd, IsTrue, MatchOption, OnOk, Some, length, map, slice_get};
+ghost use Rattle.std.specs.Prelude.{◌≡◌, ◌≤◌, ◌<◌, ◌^◌, ◌*◌, ◌+◌, ◌++◌, ◌↔◌, [], ◌∷◌, AllPairs, IfErr, IfOk, IfSome, IsSomeAnd, IsTrue, MatchOption, OnOk, Some, length, map, slice_get};
 ghost use Rattle.debug_records.specs.Change.{letters};
 ghost use Rattle.graph_core.specs.Graphs.{unit_view};
 ghost use Rattle.graph_core.specs.Validity.{IsValid};
@@ -10,7 +10,7 @@ ghost use Rattle.pass_law.specs.Keeps.{Keeps};
 ghost use Rattle.pass_law.specs.Kept.{KeepsShape};
 ghost use Rattle.pass_law.specs.Leading.{IsFirst, IsLawfulStep, Lead};
 ghost use Rattle.pass_law.specs.Logs.{LogsWell, most_changes};
-ghost use Rattle.pass_law.specs.Trails.{IsReason, IsTrail};
+ghost use Rattle.pass_law.specs.Trails.{IsReason, IsTrail, OfLast};
 
 use crate::pass::Pass;
 use debug_records::PassName;
@@ -126,9 +126,10 @@ fn push_unit(units: &mut Vec<Unit>, unit: Unit) -> Result<(), AllocError>
     Ok(())
 }
 
-/// Runs the passes of these names on a unit, in order. Of two passes of one name the first is taken. The error tells
-/// the first
-/// name that is no pass's, or that memory was refused.
+/// Runs the passes of these names on a well marked unit without changes, in order, each by one step, and keeps the
+/// units
+/// before and after each. Of two passes of one name the first is taken. Of the last unit all is said that `run_passes`
+/// says of what it gives. The error tells the first name that is no pass's, or that memory was refused.
 pub fn run_list(
     alloc: Global,
     passes: &[Box<dyn Pass>],
@@ -142,6 +143,14 @@ pub fn run_list(
     ensures trail { IfOk result
         (λ t. IsTrail (λ p. named p) (λ p. steps p) passes.now names.now (map unit_view t.units.items)) }
     ensures keeps { IfOk result (λ t. AllPairs Keeps (map unit_view t.units.items)) }
+    ensures count { IfOk result (λ t. length t.units.items ≡ length names.now + 1) }
+    ensures kept { IfOk result
+        (λ t. OfLast (map unit_view t.units.items) (length names.now) (λ v. KeepsShape (unit_view unit) v)) }
+    ensures lawful { IfOk result (λ t. OfLast (map unit_view t.units.items) (length names.now) (λ v.
+        Lead (λ p. named p) (λ p. IsLawfulStep (named p) (steps p).leads) passes.now (map letters names.now)
+        (unit_view unit) v)) }
+    ensures few_changes { IfOk result (λ t. OfLast (map unit_view t.units.items) (length names.now) (λ v.
+        length v.log ≤ most_changes (unit_view unit).room * length names.now)) }
     ensures reason { IfErr result (λ e. IsReason (λ p. named p) passes.now names.now e) }
 {
     let mut units = Vec::new(alloc);
@@ -157,10 +166,10 @@ pub fn run_list(
 }
 
 /// Runs the passes of these names on a well marked unit without changes, in order, each by one step; of two passes of
-/// one
-/// name the first is taken. What is made of it keeps what the unit does, and so does what each step makes of the unit
-/// before it, with no more in the log than its pass may log. No names give the unit back. `AllocError` where memory was
-/// refused.
+/// one name the first is taken. What is made of it keeps what the unit does, and so does what each step makes of the
+/// unit before it, with no more in the log than its pass may log. No names give the unit back. `AllocError` where
+/// memory
+/// was refused.
 pub fn run_passes(
     alloc: Global,
     passes: &[Box<dyn Pass>],

@@ -1,10 +1,15 @@
-use Rattle.std.proofs.Common.{◌≡◌, ◌++◌, ◌∷◌, [], ◌<◌, ◌≤◌, ◌+◌, ◌*◌, map, take, Some, slice_get, length, length-append, refl, arith, ap, sym, ◌∙◌, subst}
+use Rattle.std.proofs.Common.{◌≡◌, ℕ, ◌++◌, ◌∷◌, [], ◌<◌, ◌≤◌, ◌+◌, ◌*◌, map, take, Some, slice_get, length, length-append, refl, arith, ap, sym, ◌∙◌, subst}
 use Rattle.std.proofs.lemmas.List.{map_push, take_all, length-map}
 use Rattle.std.proofs.lemmas.Option.{slice_get-get_or}
-use Rattle.debug_records.specs.Change.{changes}
-use Rattle.graph_core.specs.Graphs.{UnitForm, unit_view, logged}
+use Rattle.graph_core.specs.Graphs.{UnitForm, unit_view}
 use Rattle.pass_law.specs.Trails.{IsTrail, ends}
-use Rattle.pass_law.proofs.KeptTrails.{IsReady, keeps_all, trail_step, ready_more, known_more, first_stays, unit_at, last_ready, push_ready}
+use Rattle.pass_law.proofs.KeptTrails.{IsAfter, after_more, after_none, after_room, first_stays, keeps_all, known_more, of_last, push_last, trail_step, unit_at}
+use Rattle.debug_records.specs.Change.{letters}
+use Rattle.pass_law.specs.Kept.{KeepsShape}
+use Rattle.pass_law.specs.Leading.{IsLawfulStep, Lead}
+use Rattle.pass_law.specs.Logs.{most_changes}
+use Rattle.pass_law.specs.Trails.{OfLast}
+use Rattle.pass_law.proofs.Inversions.{some_same}
 use Rattle.pass_law.proofs.Leading.{first_at}
 use Rattle.pass_law.proofs.list.run_list.Goals as goal
 
@@ -12,12 +17,13 @@ pub loop-i-init : goal.loop-i-init
 loop-i-init g c =
     let new = ap (map unit_view) c.in_ok-push_unit.ensures in
     let one : map unit_view c.push_unit.new.units.items ≡ unit_view c.args.unit ∷ [] = new ∙ ap (map unit_view) (ap (λ all. all ++ c.args.unit ∷ []) c.new-units.ensures.items) in
-    let none : length (unit_view c.args.unit).log ≡ 0 = ap length c.requires.unchanged in
     record {
       trail = subst (λ us. IsTrail (λ p. (goal.Pass-dyn g (p.vtable, p.value)).named p.value) (λ p. (goal.Pass-dyn g (p.vtable, p.value)).steps p.value) c.args.passes.now [] us) (sym one) ends;
       first = subst (λ us. slice_get us 0 ≡ Some (unit_view c.args.unit)) (sym one) refl;
       count = sym (length-map c.push_unit.new.units.items unit_view) ∙ ap length one;
-      last = subst (λ us. (u : UnitForm) → slice_get us 0 ≡ Some u → IsReady u 0) (sym one) (last_ready [] (unit_view c.args.unit) 0 refl (record { marked = c.requires.marked; changes = omega arith }));
+      within = omega arith;
+      last = subst (λ us. (u : UnitForm) → slice_get us 0 ≡ Some u → IsAfter (λ p. (goal.Pass-dyn g (p.vtable, p.value)).named p.value) (λ p. (goal.Pass-dyn g (p.vtable, p.value)).steps p.value) c.args.passes.now (unit_view c.args.unit) [] u) (sym one)
+          (λ u at. subst (IsAfter (λ p. (goal.Pass-dyn g (p.vtable, p.value)).named p.value) (λ p. (goal.Pass-dyn g (p.vtable, p.value)).steps p.value) c.args.passes.now (unit_view c.args.unit) []) (some_same at) (after_none (λ p. (goal.Pass-dyn g (p.vtable, p.value)).named p.value) (λ p. (goal.Pass-dyn g (p.vtable, p.value)).steps p.value) c.args.passes.now (unit_view c.args.unit) c.requires.marked c.requires.unchanged));
       known = λ k below. absurd (omega arith);
     }
 
@@ -32,15 +38,13 @@ returns-in_default-clause-reason g c = record {
 pub apply_one-requires-clause-marked : goal.apply_one-requires-clause-marked
 apply_one-requires-clause-marked g c =
     let within : c.loop-i.i < length c.loop-i.units.items = omega (arith, c.loop-i.invariant.count) in
-    (c.loop-i.invariant.last (unit_view c.index.result.now) (unit_at c.loop-i.units.items c.loop-i.i c.index.result.now within c.index.ensures)).marked
+    (c.loop-i.invariant.last (unit_view c.index.result.now) (unit_at c.loop-i.units.items c.loop-i.i c.index.result.now within c.index.ensures)).keeps.still_marked
 
 pub apply_one-requires-clause-room : goal.apply_one-requires-clause-room
 apply_one-requires-clause-room g c =
     let within : c.loop-i.i < length c.loop-i.units.items = omega (arith, c.loop-i.invariant.count) in
-    let most : length (map logged (changes c.index.result.now.log)) ≤ 1000000 * c.loop-i.i = (c.loop-i.invariant.last (unit_view c.index.result.now) (unit_at c.loop-i.units.items c.loop-i.i c.index.result.now within c.index.ensures)).changes in
-    let few : length c.args.names.now ≤ 32 = c.requires.few in
-    let below : c.loop-i.i < length c.args.names.now = c.loop-i-test.true in
-    omega (arith, most, few, below)
+    after_room (λ p. (goal.Pass-dyn g (p.vtable, p.value)).named p.value) (λ p. (goal.Pass-dyn g (p.vtable, p.value)).steps p.value) c.args.passes.now (unit_view c.args.unit) c.args.names.now c.loop-i.i (unit_view c.index.result.now) c.loop-i-test.true c.requires.few
+    (c.loop-i.invariant.last (unit_view c.index.result.now) (unit_at c.loop-i.units.items c.loop-i.i c.index.result.now within c.index.ensures))
 
 pub loop-i-preserved : goal.loop-i-preserved
 loop-i-preserved g c =
@@ -48,13 +52,16 @@ loop-i-preserved g c =
     let within : c.loop-i.i < length c.loop-i.units.items = omega (arith, c.loop-i.invariant.count) in
     let first = first_at (λ p. (goal.Pass-dyn g (p.vtable, p.value)).named p.value) _ c.args.passes.now c.in-Some.k c.index-passes-k.result c.in-Some.ensures.within c.index-passes-k.is c.in-Some.ensures.first in
     let now = unit_at c.loop-i.units.items c.loop-i.i c.index.result.now within c.index.ensures in
-    let ready = ready_more (λ p. (goal.Pass-dyn g (p.vtable, p.value)).named p.value) (λ p. (goal.Pass-dyn g (p.vtable, p.value)).steps p.value) c.args.passes.now c.index-passes-k.result (unit_view c.index.result.now) (unit_view c.in_ok-next.next) c.loop-i.i (c.loop-i.invariant.last (unit_view c.index.result.now) now) c.in_ok-next.ensures.step c.in_ok-next.ensures.logs in
+    let after = after_more (λ p. (goal.Pass-dyn g (p.vtable, p.value)).named p.value) (λ p. (goal.Pass-dyn g (p.vtable, p.value)).steps p.value) c.args.passes.now (unit_view c.args.unit) c.args.names.now c.loop-i.i _ c.index-passes-k.result (unit_view c.index.result.now) (unit_view c.in_ok-next.next) c.loop-i-test.true first
+    (c.loop-i.invariant.last (unit_view c.index.result.now) now) c.in_ok-next.ensures.kept c.in_ok-next.ensures.step c.in_ok-next.ensures.logs in
     record {
       trail = subst (λ us. IsTrail (λ p. (goal.Pass-dyn g (p.vtable, p.value)).named p.value) (λ p. (goal.Pass-dyn g (p.vtable, p.value)).steps p.value) c.args.passes.now (take (c.loop-i.i + 1) c.args.names.now) us) (sym new)
           (trail_step (λ p. (goal.Pass-dyn g (p.vtable, p.value)).named p.value) (λ p. (goal.Pass-dyn g (p.vtable, p.value)).steps p.value) c.args.passes.now c.args.names.now _ c.loop-i.i _ c.index-passes-k.result _ _ c.loop-i-test.true c.loop-i.invariant.trail now first c.in_ok-next.ensures.step);
       first = subst (λ us. slice_get us 0 ≡ Some (unit_view c.args.unit)) (sym new) (first_stays _ _ _ c.loop-i.invariant.first);
       count = ap length c.in_ok-push_unit-2.ensures ∙ length-append c.loop-i.units.items (c.in_ok-next.next ∷ []) ∙ ap (λ n. n + 1) c.loop-i.invariant.count;
-      last = subst (λ us. (u : UnitForm) → slice_get us (c.loop-i.i + 1) ≡ Some u → IsReady u (c.loop-i.i + 1)) (sym new) (push_ready c.loop-i.units.items c.in_ok-next.next (c.loop-i.i + 1) c.loop-i.invariant.count ready);
+      within = let below : c.loop-i.i < length c.args.names.now = c.loop-i-test.true in omega (arith, below);
+      last = subst (λ us. (u : UnitForm) → slice_get us (c.loop-i.i + 1) ≡ Some u → IsAfter (λ p. (goal.Pass-dyn g (p.vtable, p.value)).named p.value) (λ p. (goal.Pass-dyn g (p.vtable, p.value)).steps p.value) c.args.passes.now (unit_view c.args.unit) (take (c.loop-i.i + 1) c.args.names.now) u) (sym new)
+          (push_last (IsAfter (λ p. (goal.Pass-dyn g (p.vtable, p.value)).named p.value) (λ p. (goal.Pass-dyn g (p.vtable, p.value)).steps p.value) c.args.passes.now (unit_view c.args.unit) (take (c.loop-i.i + 1) c.args.names.now)) c.loop-i.units.items c.in_ok-next.next (c.loop-i.i + 1) c.loop-i.invariant.count after);
       known = known_more (λ p. (goal.Pass-dyn g (p.vtable, p.value)).named p.value) (λ p. (goal.Pass-dyn g (p.vtable, p.value)).steps p.value) c.args.passes.now c.args.names.now c.loop-i.i _ c.index-passes-k.result c.loop-i-test.true first c.loop-i.invariant.known;
     }
 
@@ -64,3 +71,31 @@ returns-clause-trail g c =
 
 pub returns-clause-keeps : goal.returns-clause-keeps
 returns-clause-keeps g c = keeps_all (λ p. (goal.Pass-dyn g (p.vtable, p.value)).named p.value) (λ p. (goal.Pass-dyn g (p.vtable, p.value)).steps p.value) c.args.passes.now _ _ c.loop-i.invariant.trail
+
+-- the index of the last unit is the number of names
+all_names : (i n : ℕ) → i ≤ n → n ≤ i → i ≡ n
+all_names i n within none = omega (arith, within, none)
+
+pub returns-clause-count : goal.returns-clause-count
+returns-clause-count g c = c.loop-i.invariant.count ∙ ap (λ n. n + 1) (all_names c.loop-i.i (length c.args.names.now) c.loop-i.invariant.within c.loop-i-test.false)
+
+pub returns-clause-kept : goal.returns-clause-kept
+returns-clause-kept g c =
+    let all = all_names c.loop-i.i (length c.args.names.now) c.loop-i.invariant.within c.loop-i-test.false in
+    subst (λ n. OfLast (map unit_view c.loop-i.units.items) n (λ v. KeepsShape (unit_view c.args.unit) v)) all
+    (of_last (λ v. KeepsShape (unit_view c.args.unit) v) c.loop-i.units.items c.loop-i.i (omega (arith, c.loop-i.invariant.count))
+    (λ u at. (subst (λ names. IsAfter (λ p. (goal.Pass-dyn g (p.vtable, p.value)).named p.value) (λ p. (goal.Pass-dyn g (p.vtable, p.value)).steps p.value) c.args.passes.now (unit_view c.args.unit) names u) (take_all c.loop-i.i c.args.names.now c.loop-i-test.false) (c.loop-i.invariant.last u at)).kept))
+
+pub returns-clause-lawful : goal.returns-clause-lawful
+returns-clause-lawful g c =
+    let all = all_names c.loop-i.i (length c.args.names.now) c.loop-i.invariant.within c.loop-i-test.false in
+    subst (λ n. OfLast (map unit_view c.loop-i.units.items) n (λ v. Lead (λ p. (goal.Pass-dyn g (p.vtable, p.value)).named p.value) (λ p. IsLawfulStep ((goal.Pass-dyn g (p.vtable, p.value)).named p.value) ((goal.Pass-dyn g (p.vtable, p.value)).steps p.value).leads) c.args.passes.now (map letters c.args.names.now) (unit_view c.args.unit) v)) all
+    (of_last (λ v. Lead (λ p. (goal.Pass-dyn g (p.vtable, p.value)).named p.value) (λ p. IsLawfulStep ((goal.Pass-dyn g (p.vtable, p.value)).named p.value) ((goal.Pass-dyn g (p.vtable, p.value)).steps p.value).leads) c.args.passes.now (map letters c.args.names.now) (unit_view c.args.unit) v) c.loop-i.units.items c.loop-i.i (omega (arith, c.loop-i.invariant.count))
+    (λ u at. (subst (λ names. IsAfter (λ p. (goal.Pass-dyn g (p.vtable, p.value)).named p.value) (λ p. (goal.Pass-dyn g (p.vtable, p.value)).steps p.value) c.args.passes.now (unit_view c.args.unit) names u) (take_all c.loop-i.i c.args.names.now c.loop-i-test.false) (c.loop-i.invariant.last u at)).lawful))
+
+pub returns-clause-few_changes : goal.returns-clause-few_changes
+returns-clause-few_changes g c =
+    let all = all_names c.loop-i.i (length c.args.names.now) c.loop-i.invariant.within c.loop-i-test.false in
+    subst (λ n. OfLast (map unit_view c.loop-i.units.items) n (λ v. length v.log ≤ most_changes (unit_view c.args.unit).room * length c.args.names.now)) all
+    (of_last (λ v. length v.log ≤ most_changes (unit_view c.args.unit).room * length c.args.names.now) c.loop-i.units.items c.loop-i.i (omega (arith, c.loop-i.invariant.count))
+    (λ u at. (subst (λ names. IsAfter (λ p. (goal.Pass-dyn g (p.vtable, p.value)).named p.value) (λ p. (goal.Pass-dyn g (p.vtable, p.value)).steps p.value) c.args.passes.now (unit_view c.args.unit) names u) (take_all c.loop-i.i c.args.names.now c.loop-i-test.false) (c.loop-i.invariant.last u at)).few))

@@ -18,7 +18,7 @@ returns-clause-kept c =
 pub returns-clause-logs : goal.returns-clause-logs
 returns-clause-logs c =
     elim c.match-first-2.branch [
-      | in-Some-first+in_ok-push w ↦ logs_one c.args.self.now.name _ c.args.unit.now c.in_ok-next.next c.match-first-2.next c.in-Some.graph.now w.in-Some-first.scalar.now _ c.requires.marked
+      | in-Some-first+in_ok-push w ↦ logs_one c.args.self.now.name _ c.args.unit.now c.in_ok-next.next c.match-first-2.next c.in-Some.graph.now w.in-Some-first.scalar.now _ (λ e. absurd cc) c.requires.marked
           (sym (c.in-Some.ensures.value ∙ ap (λ all. slice_get all 0) c.deref.ensures.value)) (sym (w.in-Some-first.ensures.value ∙ ap (λ all. slice_get all 0) c.deref-2.ensures.value)) c.in_ok-next.ensures
           (ap (λ (u : declared-unit.Unit). changes u.log) w.next-is ∙ w.in_ok-push.ensures.appended)
       | in_default-first w ↦ logs_nothing c.args.self.now.name (unit_view c.args.unit.now) (unit_view c.match-first-2.next)
