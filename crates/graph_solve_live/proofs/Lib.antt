@@ -1,4 +1,6 @@
+pub mod Before
 pub mod Living
 pub mod Unread
 pub mod Walking
-pub mod LiveRows
+pub mod Flowing
+pub mod Copying

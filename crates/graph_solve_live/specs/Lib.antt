@@ -1,4 +1,5 @@
 pub mod Live
 pub mod Inside
 pub mod Unread
-pub mod LiveLaws
+pub mod Flowing
+pub mod LiveRows

@@ -1,7 +1,7 @@
 -- Names that are read later, before they are written (Hennessy 1982).
-use Rattle.std.specs.Prelude.{◌≡◌, ℕ, ◌<◌, ◌==◌, ◌↔◌, Bool, true, false, if◌then◌else◌, nat_lt, not, Option, Some, None, List, [], ◌∷◌, length, slice_get}
+use Rattle.std.specs.Prelude.{◌≡◌, ℕ, ◌<◌, ◌==◌, ◌↔◌, Bool, true, false, if◌then◌else◌, nat_lt, Option, Some, None, List, [], ◌∷◌, length, slice_get}
 use Rattle.std.specs.List.{Contains, list_any}
-use Rattle.std.specs.FinSet.{contains, empty, insert, remove}
+use Rattle.std.specs.FinSet.{contains, insert, remove}
 use Rattle.graph_core.specs.Graphs.{Instruction, End, Block, Graph}
 use Rattle.graph_core.specs.Uses.{reads_of, reads_of_end, target_of, targets_of}
 use Rattle.graph_core.specs.Paths.{reads, writes}
@@ -47,11 +47,6 @@ abbrev pub without : Option ℕ → Numbers → Numbers
 without None live = live
 without (Some x) live = remove live x
 
--- without what instructions write
-abbrev pub without_all : List Instruction → Numbers → Numbers
-without_all [] live = live
-without_all (i ∷ more) live = without_all more (without (target_of i) live)
-
 -- the names that are live before an instruction, from those behind it
 abbrev pub before_one : (width : ℕ) → Instruction → Numbers → Numbers
 before_one width i live = with_names width (reads_of i) (without (target_of i) live)
@@ -59,24 +54,3 @@ before_one width i live = with_names width (reads_of i) (without (target_of i) l
 abbrev pub before_all : (width : ℕ) → List Instruction → Numbers → Numbers
 before_all width [] live = live
 before_all width (i ∷ more) live = before_one width i (before_all width more live)
-
--- the names that are live at the start of a block, from those at its end
-abbrev pub before_block : (width : ℕ) → Block → Numbers → Numbers
-before_block width b live = before_all width b.instructions (with_names width (reads_of_end b.end) live)
-
-abbrev pub before_some : (width : ℕ) → Option Block → Numbers → Numbers
-before_some width None live = live
-before_some width (Some b) live = before_block width b live
-
--- no instruction of a block writes the name
-abbrev pub spares : ℕ → Block → Bool
-spares x b = not (list_any (writes x) b.instructions)
-
--- whether a block, or no block, keeps a name live that is live at its end
-abbrev pub keeps_live : ℕ → Option Block → Bool
-keeps_live x None = true
-keeps_live x (Some b) = spares x b
-
--- whether a block, or no block, makes a name live: it reads it first
-abbrev pub makes_live : (width : ℕ) → ℕ → Option Block → Bool
-makes_live width x o = contains (before_some width o empty) x

@@ -65,8 +65,8 @@ fn move_one(effect: Effect, fact: u32, facts: &mut Facts) -> Result<(), AllocErr
 
 /// Steps over an instruction: from the facts on its one side to those on the other, as paths go.
 ///
-/// Where facts flow as execution goes, begin with those at the block's start, and step over its first instruction first. Else begin with those at
-/// its end, and step over the end, and then over the last instruction first.
+/// Where facts flow as execution goes, begin with those at the block's start, and step over its first instruction
+/// first. Else begin with those at its end, and step over the end, and then over the last instruction first.
 pub fn step_over<E: Effects>(
     effects: &E,
     block: u32,
@@ -75,7 +75,8 @@ pub fn step_over<E: Effects>(
     width: u32,
     facts: &mut Facts,
 ) -> Result<(), AllocError>
-    ensures { OnOk result (facts.new ≡ moved width (E.effect effects.now block left (instruction_view instruction.now)) facts.old) }
+    ensures { OnOk result
+        (facts.new ≡ moved width (E.effect effects.now block left (instruction_view instruction.now)) facts.old) }
 {
     for fact in 0..width {
         let effect = effects.effect(block, left, instruction, fact);
@@ -109,7 +110,10 @@ fn walk_forward<E: Effects>(
     width: u32,
     facts: &mut Facts,
 ) -> Result<(), AllocError>
-    ensures { OnOk result (facts.new ≡ walked width (steps_along true (E.effect effects.now number) (E.at_end effects.now number) (block_view block.now)) facts.old) }
+    ensures { OnOk result
+        (facts.new ≡ walked width
+        (steps_along true (E.effect effects.now number) (E.at_end effects.now number) (block_view block.now))
+        facts.old) }
 {
     let count = block.instructions.len();
     for passed in 0..count {
@@ -134,7 +138,10 @@ fn walk_backward<E: Effects>(
     width: u32,
     facts: &mut Facts,
 ) -> Result<(), AllocError>
-    ensures { OnOk result (facts.new ≡ walked width (steps_along false (E.effect effects.now number) (E.at_end effects.now number) (block_view block.now)) facts.old) }
+    ensures { OnOk result
+        (facts.new ≡ walked width
+        (steps_along false (E.effect effects.now number) (E.at_end effects.now number) (block_view block.now))
+        facts.old) }
 {
     step_over_end(effects, number, &block.end, width, facts)?;
     let count = block.instructions.len();
@@ -145,7 +152,8 @@ fn walk_backward<E: Effects>(
     Ok(())
 }
 
-/// Walks over a whole block as paths of a direction go: from the facts at the one end of the block to those at the other.
+/// Walks over a whole block as paths of a direction go: from the facts at the one end of the block to those at the
+/// other.
 pub fn walk_over<E: Effects>(
     effects: &E,
     number: u32,
@@ -154,7 +162,10 @@ pub fn walk_over<E: Effects>(
     width: u32,
     facts: &mut Facts,
 ) -> Result<(), AllocError>
-    ensures { OnOk result (facts.new ≡ walked width (steps_along forward (E.effect effects.now number) (E.at_end effects.now number) (block_view block.now)) facts.old) }
+    ensures { OnOk result
+        (facts.new ≡ walked width
+        (steps_along forward (E.effect effects.now number) (E.at_end effects.now number) (block_view block.now))
+        facts.old) }
 {
     if forward {
         walk_forward(effects, number, block, width, facts)

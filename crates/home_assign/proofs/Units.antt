@@ -11,7 +11,6 @@ use Rattle.graph_core.proofs.Rooms.{blocks_in}
 use Rattle.graph_core.specs.Graphs.{Graph, Logged, UnitForm}
 use Rattle.graph_core.specs.Bounds.{most_blocks}
 use Rattle.graph_core.specs.Validity.{IsGraph, IsValid, total}
-use Rattle.graph_solve.proofs.Valid.{valid_targets}
 use Rattle.debug_records.specs.declared.change.PassName.{PassName}
 use Rattle.debug_records.specs.declared.mode.Mode.{Mode}
 use Rattle.debug_records.specs.declared.mode.Mode.TheVariants.{Slots, Registers}
@@ -29,7 +28,7 @@ use Rattle.base_laws.proofs.Lists.{append_nil, rest_is}
 all_may : (u : UnitForm) (gs : List Graph) → total (λ (g : Graph). length g.blocks) gs ≤ most_blocks u.room → AllByRecursion (IsGraph u) gs → AllByRecursion IsHomeable gs
 all_may u [] few all = tt
 all_may u (g ∷ gs) few all = (
-  record { may = record { names = all.0.names; blocks = omega (arith, blocks_in u.room); within = valid_targets u g all.0 }; scalars = omega (arith, all.0.scalars, all.0.temporaries) },
+  record { may = record { names = all.0.names; blocks = omega (arith, blocks_in u.room) }; scalars = omega (arith, all.0.scalars, all.0.temporaries) },
   all_may u gs (omega arith) all.1,
 )
 

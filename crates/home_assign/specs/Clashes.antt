@@ -7,13 +7,11 @@ use Rattle.graph_core.specs.Bounds.{most_blocks, most_names}
 use Rattle.graph_core.specs.Paths.{writes, is_bound}
 use Rattle.graph_core.specs.Points.{Behind}
 use Rattle.graph_solve_live.specs.Live.{IsReadFirst}
-use Rattle.graph_solve.specs.GraphFlow.{AreTargetsWithin}
 
--- A graph's names can have homes: there are not too many names and blocks, and its blocks lead to blocks of it.
+-- A graph's names can have homes: there are not too many names and blocks.
 pub record MayHaveHomes (g : Graph) : Type 0 where
   pub names : g.name_count ≤ most_names
   pub blocks : length g.blocks ≤ most_blocks Large
-  pub within : AreTargetsWithin g
 
 -- the instruction does not copy the one name to the other
 abbrev pub IsNoCopyOf : (x y : ℕ) → Instruction → Type 0

@@ -10,14 +10,14 @@ ghost use Rattle.graph_core.specs.Uses.{numbers};
 ghost use Rattle.graph_core.specs.declared.name.Name as declared-name;
 ghost use Rattle.graph_solve_live.specs.Live.{AreLive};
 ghost use Rattle.graph_solve.specs.Rows.{set_at};
-ghost use Rattle.graph_solve.specs.Solved.{ends_of, starts_of};
+ghost use Rattle.graph_solve_live.specs.LiveRows.{ends_of, starts_of};
 ghost use Rattle.home_assign.specs.Clashes.{Clashes, ClashesIn, MayHaveHomes, copied_of, copies};
 ghost use Rattle.home_assign.specs.Table.{AreSameBehind, AreSameBut, AreWide};
 
 use crate::rows::meet;
 use bit_rows::Rows;
 use graph_core::{Binding, Graph, Instr, Name, Operand};
-use graph_solve::SolvedRows;
+use graph_solve_live::LiveRows;
 use std::alloc::{AllocError, Global};
 
 /// What a walk has found so far.
@@ -82,7 +82,7 @@ impl Walk {
     }
 
     /// The names that are live are those at the end of a block.
-    fn begin_at_end(&mut self, live: &SolvedRows, block: u32)
+    fn begin_at_end(&mut self, live: &LiveRows, block: u32)
         requires block { block < live.now.blocks }
         requires width { live.now.width ≡ self.old.names }
         ensures names { self.new.names ≡ self.old.names }
@@ -93,7 +93,7 @@ impl Walk {
     }
 
     /// The names that are live are those at the start of a block.
-    fn begin_at_start(&mut self, live: &SolvedRows, block: u32)
+    fn begin_at_start(&mut self, live: &LiveRows, block: u32)
         requires block { block < live.now.blocks }
         requires width { live.now.width ≡ self.old.names }
         ensures names { self.new.names ≡ self.old.names }
@@ -184,7 +184,7 @@ impl Walk {
         alloc: Global,
         graph: &Graph,
         number: u32,
-        live: &SolvedRows,
+        live: &LiveRows,
     ) -> Result<(), AllocError>
         requires block { number < length graph.now.blocks.items }
         requires all { live.now.blocks ≡ length graph.now.blocks.items }
@@ -211,7 +211,7 @@ impl Walk {
         &mut self,
         alloc: Global,
         graph: &Graph,
-        live: &SolvedRows,
+        live: &LiveRows,
     ) -> Result<(), AllocError>
         requires few { length graph.now.blocks.items < 4294967296 }
         requires all { live.now.blocks ≡ length graph.now.blocks.items }
@@ -245,7 +245,7 @@ impl Walk {
     }
 
     /// A call writes the scalars that are parameters at the start of the first block, if there is one.
-    fn enter(&mut self, graph: &Graph, live: &SolvedRows)
+    fn enter(&mut self, graph: &Graph, live: &LiveRows)
         requires all { live.now.blocks ≡ length graph.now.blocks.items }
         requires width { live.now.width ≡ self.old.names }
         requires few { self.old.names ≡ graph.now.name_count }
@@ -263,7 +263,7 @@ impl Walk {
 }
 
 /// What a walk over a whole graph finds.
-pub(crate) fn walk_over(alloc: Global, graph: &Graph, live: &SolvedRows) -> Result<Walk, AllocError>
+pub(crate) fn walk_over(alloc: Global, graph: &Graph, live: &LiveRows) -> Result<Walk, AllocError>
     requires may { MayHaveHomes (graph_view graph.now) }
     requires all { live.now.blocks ≡ length graph.now.blocks.items }
     requires width { live.now.width ≡ graph.now.name_count }

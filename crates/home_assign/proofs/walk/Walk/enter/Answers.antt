@@ -4,7 +4,7 @@ use Rattle.bit_rows.specs.Grid.{is_set}
 use Rattle.graph_core.specs.Graphs.{binding_view, block_view, graph_view}
 use Rattle.graph_core.specs.Paths.{is_bound}
 use Rattle.graph_solve_live.specs.Live.{IsReadFirst}
-use Rattle.graph_solve.specs.Solved.{ends_of, starts_of}
+use Rattle.graph_solve_live.specs.LiveRows.{ends_of, starts_of}
 use Rattle.home_assign.proofs.Clashing.{entered, first_block}
 use Rattle.home_assign.proofs.Living.{starts_told, stands_at_start}
 use Rattle.home_assign.proofs.Spare.{bit_same}

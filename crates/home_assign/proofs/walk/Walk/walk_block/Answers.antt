@@ -8,7 +8,7 @@ use Rattle.graph_core.specs.Graphs.{block_view, end_view, graph_view, instructio
 use Rattle.graph_core.specs.Uses.{numbers, reads_of_end}
 use Rattle.graph_core.specs.Paths.{reads, writes}
 use Rattle.graph_solve_live.specs.Live.{IsReadFirst, end_reads}
-use Rattle.graph_solve.specs.Solved.{ends_of, starts_of}
+use Rattle.graph_solve_live.specs.LiveRows.{ends_of, starts_of}
 use Rattle.home_assign.specs.Clashes.{ClashesAmong, copies}
 use Rattle.home_assign.proofs.Clashing.{block_found, clash_more}
 use Rattle.home_assign.proofs.Living.{ends_told, stands_at_end, stands_back}
