@@ -1,16 +1,24 @@
 -- Numbers tell the homes of a function apart that has its homes, and not too many names.
-use Rattle.std.proofs.Common.{◌≡◌, inl, inr, ℕ, zero, suc, ◌+◌, ◌<◌, ◌≤◌, min, Option, Some, None, List, [], ◌∷◌, length, refl, sym, ap, subst, ◌∙◌, arith}
-use Rattle.std.specs.Prelude.{slice_get}
+use Rattle.std.proofs.Common.{◌≡◌, inl, inr, ℕ, zero, suc, ◌+◌, ◌<◌, ◌≤◌, min, Option, Some, None, List, [], ◌∷◌, get_or, length, refl, sym, ap, subst, ◌∙◌, arith}
+use Rattle.std.specs.Prelude.{option_map, slice_get}
 use Rattle.std.specs.Option.{option_map_or}
 use Rattle.std.specs.List.{AllByRecursion}
 use Rattle.std.proofs.Math.Nat.{min-eq_left}
-use Rattle.std.proofs.lemmas.Option.{none-some, same_Some}
+use Rattle.std.proofs.lemmas.Option.{none-some, same_Some, slice_get-get_or, slice_get-map}
 use Rattle.graph_homes.specs.declared.home.Home.{Home}
 use Rattle.graph_homes.specs.declared.home.Home.TheVariants.{Register, Slot}
-use Rattle.graph_core.specs.Graphs.{Graph}
-use Rattle.graph_homes.specs.Homed.{HomedForm, HaveHomes, AreHomesOf, IsHomeAmong, IsHomeRegister, homes_in}
+use Rattle.graph_core.specs.declared.graph.Graph as declared-graph
+use Rattle.graph_core.specs.Graphs.{Graph, graph_view}
+use Rattle.graph_core.specs.Validity.{IsGraph, IsValid}
+use Rattle.graph_homes.specs.declared.homed.FunctionHomes as declared-homes
+use Rattle.graph_homes.specs.declared.homed.HomedUnit as declared-homed
+use Rattle.graph_homes.specs.Homed.{HomedForm, HaveHomes, AreHomesOf, IsHomeAmong, IsHomeRegister, homed_view, homes_in}
 use Rattle.currency_notes.specs.Homes.{home_in, number_at}
 use Rattle.currency_shown.specs.Shown.{AreDistinct}
+use Rattle.currency_writers.specs.declared.writers.Writer as declared-writer
+use Rattle.currency_writers.specs.Writers.{AreHomed}
+use Rattle.currency_hiding.proofs.ShownOrHidden.{writer_low}
+use Rattle.currency.proofs.OfFunctions.{names_at}
 
 all_at : {A : Type 0} (P : A → Type 0) (xs : List A) (k : ℕ) (a : A) → AllByRecursion P xs → slice_get xs k ≡ Some a → P a
 all_at P [] k a all e = absurd (none-some a e)
@@ -43,7 +51,7 @@ number_small n (Register r) few one = (let small = register_small r one in omega
 number_small n (Slot k) few one = (let number = slot_number n k few one in omega (arith, number, one))
 
 -- the homes of one function
-homes_at : (graphs : List Graph) (homes : List (List Home)) (f : ℕ) (g : Graph) → AreHomesOf graphs homes → slice_get graphs f ≡ Some g
+pub homes_at : (graphs : List Graph) (homes : List (List Home)) (f : ℕ) (g : Graph) → AreHomesOf graphs homes → slice_get graphs f ≡ Some g
     → (length (option_map_or (λ (h : List Home). h) (slice_get homes f) []) ≡ g.name_count) × AllByRecursion (IsHomeAmong g.name_count) (option_map_or (λ (h : List Home). h) (slice_get homes f) [])
 homes_at [] [] f g all e = absurd (none-some g e)
 homes_at [] (h ∷ more) f g all e = elim all [ ]
@@ -63,3 +71,22 @@ distinct_homes u f g homed at some few =
       told = λ y z e. one_home n (home_in homes y) (home_in homes z) few (home_among n homes some mine.1 y) (home_among n homes some mine.1 z) e;
       within = λ y. subst (λ (k : ℕ). number_at (home_in homes y) < k) (sym room) (number_small n (home_in homes y) few (home_among n homes some mine.1 y));
     }
+
+-- each name that a function of a valid unit writes has its home
+pub names_homed : (u : HomedForm) (f : ℕ) (g : Graph) → HaveHomes u → slice_get u.unit.graphs f ≡ Some g → IsGraph u.unit g → AreHomed f g (homes_in u f)
+names_homed u f g homed at valid p x w writes =
+    let low = writer_low u.unit g f valid p x w writes in
+    let size = (homes_at u.unit.graphs u.homes f g homed at).0 in
+    let some : 1 ≤ g.name_count = omega (arith, low) in
+    let names = valid.names in
+    let few : g.name_count ≤ 4294967264 = omega (arith, names) in
+    record { named = omega (arith, low, size); numbered = (distinct_homes u f g homed at some few).within x }
+
+-- the same of the homes of a function as it was read
+pub homed_any : (h : declared-homed.HomedUnit) (f number : ℕ) (g : declared-graph.Graph) (one : declared-homes.FunctionHomes) (names : List Home) → IsValid (homed_view h).unit → HaveHomes (homed_view h) → number ≡ f → f < length h.unit.graphs.items → g ≡ get_or h.unit.graphs.items f g
+    → f < length h.homes.items → one ≡ get_or h.homes.items f one → names ≡ one.homes.items → AreHomed number (graph_view g) names
+homed_any h f number g one names valid homed same lt is small kept of =
+    let at : slice_get (homed_view h).unit.graphs f ≡ Some (graph_view g) = slice_get-map graph_view h.unit.graphs.items f ∙ ap (λ o. option_map graph_view o) (slice_get-get_or h.unit.graphs.items f g lt ∙ ap Some (sym is)) in
+    let homes : homes_in (homed_view h) f ≡ names = names_at h f one (slice_get-get_or h.homes.items f one small ∙ ap Some (sym kept)) ∙ sym of in
+    let graph : IsGraph (homed_view h).unit (graph_view g) = all_at (IsGraph (homed_view h).unit) (homed_view h).unit.graphs f (graph_view g) valid.graphs at in
+    subst (λ n. AreHomed n (graph_view g) names) (sym same) (subst (λ (l : List Home). AreHomed f (graph_view g) l) homes (names_homed (homed_view h) f (graph_view g) homed at graph))

@@ -172,3 +172,11 @@ module _ (log : List Logged) (g : declared-graph.Graph) (homes : List Home) (num
           let s = scalar_at x variable is in
           let f = all.told x s.0 u s.1 among in
           record { t = f.0; among = subst (λ q. Among f.0 (told_at new q)) at f.1; of = ap (λ (v : declared-var.Var). v.0) f.2 ∙ s.2 }
+
+-- what is told of a function that was not told before is told at places that its paths reach
+pub all_reached : (g : declared-graph.Graph) (found : List (Vec declared-unshown.Unshown)) (old new : declared-places.ToldPlaces) → AreReached (graph_view g) found → AreToldAll old new g.scalars.items found
+    → (p : ℕ) (t : declared-variable.ToldVariable) → Among t (told_at new p) → Among t (told_at old p) ⊎ IsPlaceReached (graph_view g) p
+all_reached g found old new reached all p t there = elim (all.only p t there) [
+  | inl a ↦ inl a
+  | inr b ↦ inr (subst (IsPlaceReached (graph_view g)) b.of.place (reached b.x b.of.entry b.of.among))
+]

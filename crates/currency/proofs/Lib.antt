@@ -1,9 +1,11 @@
 mod Adding
 mod Entries
-mod Logged
 mod OfFunctions
 mod Hiding
 mod OfUnits
-mod Distinct
+pub mod Distinct
 mod OnRows
-mod WritesHomes
+mod Named
+mod Sourced
+mod Tellable
+mod Variables

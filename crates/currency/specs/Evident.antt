@@ -8,6 +8,7 @@ use Rattle.graph_core.specs.Graphs.{Graph, Logged}
 use Rattle.graph_core.specs.Paths.{Among}
 use Rattle.graph_core.specs.WellMarked.{IsVariable}
 use Rattle.graph_homes.specs.Homed.{HomedForm, home_of}
+use Rattle.currency_shown.specs.Found.{IsPlaceReached}
 use Rattle.currency_writers.specs.declared.writers.Writers as declared-writers
 use Rattle.currency_hiding.specs.declared.causes.Cause as declared-cause
 use Rattle.currency_hiding.specs.declared.teller.Teller as declared-teller
@@ -53,10 +54,11 @@ pub record IsScalarOf (u : HomedForm) (variable : ℕ) : Type 0 where
 
 -- given: the log of a unit, and the flow of its program
 module _ (log : List Logged) (flow : FlowTable) where
-  -- What is told is of a scalar of a function of this number, and evident.
+  -- What is told is of a scalar of a function of this number, at a place that a path of it reaches, and evident.
   pub record IsHidingIn (home : ℕ → Home) (f : ℕ) (g : Graph) (p : ℕ) (t : declared-variable.ToldVariable) : Type 0 where
     pub x : ℕ
     pub of : IsVariable g x t.var.0
+    pub reached : IsPlaceReached g p
     pub hiding : IsHiding (λ c. Tells log flow home f g x t.var.0 p c) t.told
 
   -- What hides a variable at a place, as a verdict tells it: it is a scalar of a function of the unit, and this is evident there, and the first that may be told.

@@ -4,3 +4,5 @@ pub mod Sound
 pub mod Named
 pub mod Written
 pub mod Evident
+pub mod Premises
+pub mod Tellable

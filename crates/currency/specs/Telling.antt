@@ -1,5 +1,5 @@
 -- What is told of variables at places.
-use Rattle.std.specs.Prelude.{◌≡◌, ◌≢◌, ℕ, ◌+◌, ◌⊎◌, MatchOption, Option, Some, None, List, [], slice_get, get_or}
+use Rattle.std.specs.Prelude.{◌≡◌, ◌≢◌, ℕ, ◌+◌, ◌<◌, ◌⊎◌, MatchOption, Option, Some, None, List, [], slice_get, get_or}
 use Rattle.std.specs.Option.{option_map_or}
 use Rattle.std.specs.Global.{Vec}
 use Rattle.debug_records.specs.declared.change.Var as declared-var
@@ -133,3 +133,7 @@ AreTold told p visible old new = (w : declared-row.PlaceVerdict) → Among w new
 -- Each verdict is on a variable that is visible at its place, and tells what is told of it there.
 abbrev pub AreRowsTold : declared-table.PlaceTable → declared-places.ToldPlaces → List declared-row.PlaceVerdict → Type 0
 AreRowsTold table told rows = (w : declared-row.PlaceVerdict) → Among w rows → IsVisible table w.place.0 w.var.0 × IsRowTold (told_at told w.place.0) w
+
+-- What is told is of variables below a number.
+abbrev pub AreBelow : (count : ℕ) → List declared-variable.ToldVariable → Type 0
+AreBelow count told = (t : declared-variable.ToldVariable) → Among t told → t.var.0 < count

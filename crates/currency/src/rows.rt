@@ -1,54 +1,54 @@
 //! The verdicts on all variables at all places.
 
-ghost use Rattle.std.specs.Prelude.{◌≡◌, ◌++◌, ℕ, IfOk, IfSome, MatchOption, get_or, map, true};
-ghost use Rattle.graph_core.specs.Graphs.{logged};
-ghost use Rattle.graph_homes.specs.Homed.{homed_view};
+ghost use Rattle.std.specs.Prelude.{◌≡◌, ◌<◌, ◌≤◌, ◌+◌, ◌++◌, ℕ, IfOk, MatchOption, OnOk, Some, get_or, length, map, slice_get};
+ghost use Rattle.graph_core.specs.declared.graph.Scalar as declared-scalar;
+ghost use Rattle.graph_core.specs.Graphs.{Graph};
+ghost use Rattle.graph_core.specs.Paths.{Among};
+ghost use Rattle.graph_core.specs.WellMarked.{AreWellMarked, IsVariable};
+ghost use Rattle.graph_homes.specs.Homed.{HaveHomes, homed_view};
 ghost use Rattle.dead_pass_writes.specs.RemovedChangesTelling.{AreToldOf as AreRemovalsTold};
-ghost use Rattle.currency.specs.Telling.{AreRowsTold, AreSlotted, AreTold, IsNoneTold, IsToldOf, IsVerdictOn, told_at};
+ghost use Rattle.currency.specs.Telling.{AreBelow, AreRowsTold, AreSlotted, AreTold, IsNoneTold, IsToldOf, IsVerdictOn, told_at};
 ghost use Rattle.currency.specs.Named.{AreNamed};
+ghost use Rattle.currency.specs.Premises.{AreSharesLogged, IsFlowOf, IsTableOf};
 ghost use Rattle.currency.specs.Sound.{AreApart, AreHidden, AreHome, AreLeast, AreOnly, AreReached, AreRecovered, AreSo};
 ghost use Rattle.currency.specs.Written.{AreWritten};
 ghost use Rattle.currency.specs.Evident.{AreEvident, AreToldEvident};
 ghost use Rattle.currency.specs.Visible.{sight, sights_at, sights_from};
 
-use crate::named::are_named;
 use crate::telling::ToldVariable;
 use crate::told::{Surroundings, ToldPlaces};
 use crate::verdict::{PlaceVerdict, Verdict};
-use crate::written::are_written;
 use currency_hiding::Teller;
 use dead_pass_writes::RemovedChanges;
-use debug_records::{Change, Place, Var};
+use debug_records::{Place, Var};
+use graph_core::Scalar;
 use graph_homes::HomedUnit;
 use places::{FlowTable, PlaceTable};
 use std::alloc::{AllocError, Global};
 
-/// Puts for each variable of which something is told at a place the number of what is told, from 1 on. Tells whether each has a slot.
-fn put_slots(told: &[ToldVariable<'_>], slots: &mut [u32]) -> bool
-    ensures { result ≡ true → AreSlotted told.now slots.new }
+/// Puts for each variable of which something is told at a place the number of what is told, from 1 on.
+fn put_slots(told: &[ToldVariable<'_>], slots: &mut [usize])
+    requires { AreBelow (length slots.old) told.now }
+    ensures { AreSlotted told.now slots.new }
 {
     for k in 0..told.len() {
         let var = told[k].var;
-        if var.0 as usize >= slots.len() || k >= 0xffff_ffff {
-            return false;
-        }
-        slots[var.0 as usize] = k as u32 + 1;
+        slots[var.0 as usize] = k + 1;
     }
-    true
 }
 
 /// The number in the slot of a variable; 0 where it has none.
-fn slot_of(slots: &[u32], var: Var) -> usize
+fn slot_of(slots: &[usize], var: Var) -> usize
     ensures { result ≡ get_or slots.now var.0 0 }
 {
     match slots.get(var.0 as usize) {
-        Some(number) => *number as usize,
+        Some(number) => *number,
         None => 0,
     }
 }
 
 /// What is told of a variable at a place, if something is.
-fn told_on<'a>(told: &[ToldVariable<'a>], slots: &[u32], var: Var) -> Option<ToldVariable<'a>>
+fn told_on<'a>(told: &[ToldVariable<'a>], slots: &[usize], var: Var) -> Option<ToldVariable<'a>>
     requires slots { AreSlotted told.now slots.now }
     ensures { MatchOption result (IsNoneTold told.now var) (λ one. IsToldOf told.now var one) }
 {
@@ -70,21 +70,20 @@ fn verdict_on(alloc: Global, told: Option<ToldVariable<'_>>) -> Result<Verdict, 
     }
 }
 
-/// Appends the verdicts on the variables that are visible at a place, at which this is told. Tells whether each variable of which something is told has a slot.
+/// Appends the verdicts on the variables that are visible at a place, at which this is told.
 fn push_place(
     alloc: Global,
     place: u32,
     visible: &[Var],
     told: &[ToldVariable<'_>],
-    slots: &mut [u32],
+    slots: &mut [usize],
     rows: &mut Vec<PlaceVerdict>,
-) -> Result<bool, AllocError>
-    ensures sights { IfOk result (λ b. b ≡ true → map sight rows.new.items ≡ map sight rows.old.items ++ sights_at place visible.now) }
-    ensures told { IfOk result (λ b. b ≡ true → AreTold told.now place visible.now rows.old.items rows.new.items) }
+) -> Result<(), AllocError>
+    requires { AreBelow (length slots.old) told.now }
+    ensures sights { OnOk result (map sight rows.new.items ≡ map sight rows.old.items ++ sights_at place visible.now) }
+    ensures told { OnOk result (AreTold told.now place visible.now rows.old.items rows.new.items) }
 {
-    if !put_slots(told, slots) {
-        return Ok(false);
-    }
+    put_slots(told, slots);
     for var in visible {
         let verdict = verdict_on(alloc, told_on(told, slots, *var))?;
         rows.push(PlaceVerdict {
@@ -93,7 +92,29 @@ fn push_place(
             verdict,
         })?;
     }
-    Ok(true)
+    Ok(())
+}
+
+/// The verdicts at all places, with a slot for each variable of which something is told.
+fn rows_by(
+    alloc: Global,
+    places: &PlaceTable,
+    told: &ToldPlaces<'_>,
+    slots: &mut [usize],
+) -> Result<Vec<PlaceVerdict>, AllocError>
+    requires few { length places.now.rows.items < 4294967295 }
+    requires count { length told.now.by_place.items ≡ length places.now.rows.items + 1 }
+    requires below { (p : ℕ) → AreBelow (length slots.old) (told_at told.now p) }
+    ensures sights { IfOk result (λ v. map sight v.items ≡ sights_from 1 places.now.rows.items) }
+    ensures told { IfOk result (λ v. AreRowsTold places.now told.now v.items) }
+{
+    let mut rows = Vec::new(alloc);
+    let mut place = 1u32;
+    for row in &places.rows {
+        push_place(alloc, place, &row.visible, told.at(place), slots, &mut rows)?;
+        place = place.saturating_add(1);
+    }
+    Ok(rows)
 }
 
 /// The verdicts at all places, for variables below a number.
@@ -102,60 +123,64 @@ fn rows_of(
     places: &PlaceTable,
     told: &ToldPlaces<'_>,
     variables: usize,
-) -> Result<Option<Vec<PlaceVerdict>>, AllocError>
-    ensures sights { IfOk result (λ o. IfSome o (λ v. map sight v.items ≡ sights_from 1 places.now.rows.items)) }
-    ensures told { IfOk result (λ o. IfSome o (λ v. AreRowsTold places.now told.now v.items)) }
+) -> Result<Vec<PlaceVerdict>, AllocError>
+    requires few { length places.now.rows.items < 4294967295 }
+    requires count { length told.now.by_place.items ≡ length places.now.rows.items + 1 }
+    requires below { (p : ℕ) → AreBelow variables (told_at told.now p) }
+    ensures sights { IfOk result (λ v. map sight v.items ≡ sights_from 1 places.now.rows.items) }
+    ensures told { IfOk result (λ v. AreRowsTold places.now told.now v.items) }
 {
-    let mut slots = vec![in alloc; 0u32; variables]?;
-    let mut rows = Vec::new(alloc);
-    let mut place = 1u32;
-    for row in &places.rows {
-        if place == u32::MAX || place as usize >= told.count() {
-            return Ok(None);
-        }
-        if !push_place(
-            alloc,
-            place,
-            &row.visible,
-            told.at(place),
-            &mut slots,
-            &mut rows,
-        )? {
-            return Ok(None);
-        }
-        place = place.saturating_add(1);
-    }
-    Ok(Some(rows))
+    let mut slots = vec![in alloc; 0usize; variables]?;
+    let rows = rows_by(alloc, places, told, &mut slots)?;
+    Ok(rows)
 }
 
-/// Above the numbers of all variables that are scalars of a unit.
-fn variable_count(homed: &HomedUnit) -> usize {
-    let mut count = 0usize;
-    for graph in &homed.unit.graphs {
-        if let Some(last) = graph.scalars.last() {
-            count = count.max((last.var.0 as usize).saturating_add(1));
-        }
+/// A number that is above the variables of scalars, and not below another one.
+fn above_scalars(scalars: &[Scalar], least: usize) -> usize
+    ensures least { least ≤ result }
+    ensures above { (s : declared-scalar.Scalar) → Among s scalars.now → s.var.0 < result }
+{
+    let mut count = least;
+    for scalar in scalars {
+        count = count.max(scalar.var.0 as usize + 1);
     }
     count
 }
 
-/// What is told of the scalars of each function. None where of one nothing is at a place where its home does not show it.
+/// Above the numbers of all variables that are scalars of a unit.
+fn variable_count(homed: &HomedUnit) -> usize
+    ensures { (f x variable : ℕ) (g : Graph) → slice_get (homed_view homed.now).unit.graphs f ≡ Some g
+        → IsVariable g x variable → variable < result }
+{
+    let mut count = 0usize;
+    for graph in &homed.unit.graphs {
+        count = above_scalars(&graph.scalars, count);
+    }
+    count
+}
+
+/// What is told of the scalars of each function.
 fn told_of_all<'a>(
     alloc: Global,
     homed: &'a HomedUnit,
     removed: &'a RemovedChanges,
     places: &PlaceTable,
     flow: &FlowTable,
-) -> Result<Option<ToldPlaces<'a>>, AllocError>
+) -> Result<ToldPlaces<'a>, AllocError>
+    requires marked { AreWellMarked (homed_view homed.now).unit }
+    requires homes { HaveHomes (homed_view homed.now) }
+    requires shared { AreSharesLogged (homed_view homed.now) }
+    requires flow { IsFlowOf (homed_view homed.now).unit flow.now }
+    requires table { IsTableOf (homed_view homed.now).unit places.now }
     requires removed { AreRemovalsTold (homed_view homed.now).unit.log removed.now }
-    ensures so { IfOk result (λ o. IfSome o (λ told. AreSo (homed_view homed.now) places.now told)) }
-    ensures evident { IfOk result (λ o. IfSome o (λ told. AreToldEvident (homed_view homed.now).unit.log flow.now (homed_view homed.now) told)) }
+    ensures so { IfOk result (λ told. AreSo (homed_view homed.now) places.now told) }
+    ensures evident { IfOk result
+        (λ told. AreToldEvident (homed_view homed.now).unit.log flow.now (homed_view homed.now) told) }
+    ensures count { IfOk result (λ told. length told.by_place.items ≡ length places.now.rows.items + 1) }
 {
-    let count = places.rows.len().saturating_add(1);
+    let count = places.rows.len() + 1;
     let changes = homed.unit.log.changes();
-    let Some(mut teller) = Teller::new(alloc, changes, flow, count)? else {
-        return Ok(None);
-    };
+    let mut teller = Teller::new(alloc, changes, flow, count)?;
     let mut told = ToldPlaces::new(alloc, count)?;
     let unit = Surroundings {
         changes,
@@ -164,72 +189,46 @@ fn told_of_all<'a>(
     };
     let graphs = &homed.unit.graphs;
     let homes = &homed.homes;
-    if graphs.len() > homes.len() {
-        return Ok(None);
-    }
-    let mut number = 0u32;
     for f in 0..graphs.len() {
-        if number as usize != f {
-            return Ok(None);
-        }
         let graph = &graphs[f];
         let names = &homes[f];
-        if !told.add_function(alloc, &mut teller, &unit, number, graph, &names.homes)? {
-            return Ok(None);
-        }
-        number = number.saturating_add(1);
+        told.add_function(alloc, &mut teller, &unit, f as u32, graph, &names.homes)?;
     }
-    Ok(Some(told))
-}
-
-/// The changes by which assignments went. None where there are too many for numbers of 32 bits.
-fn removed_of(alloc: Global, changes: &[Change]) -> Result<Option<RemovedChanges>, AllocError>
-    ensures { IfOk result (λ o. IfSome o (λ removed. AreRemovalsTold (map logged changes.now) removed)) }
-{
-    if changes.len() >= 0xffff_ffff {
-        return Ok(None);
-    }
-    let removed = RemovedChanges::new(alloc, changes)?;
-    Ok(Some(removed))
+    Ok(told)
 }
 
 /// The verdict on each variable that is visible at each place, in the order of places and then of variables.
 ///
-/// The places and their flow are the unit's, and its homes are those that are assigned by rule. None where a variable is not shown and nothing hides it, or a recipe
-/// shows its value and no change removed an assignment of it, or what was found of paths is not borne out (`not_shown` of `note_flow`), or the log has not the change that a
-/// verdict names, or what it says to write a home does not, or the changes do not stand in the order of their numbers, or there are 2^32 - 1 of them or more, or a name
-/// that is written has no home, or what assigns a hidden variable or writes its home stands in no place of the table, which no unit that the passes make of a program is
-/// known to meet. The only error is want of memory.
+/// The unit is well marked, each of its names has its home, and its log tells of the registers that scalars share; the
+/// places and their flow are the unit's. The only error
+/// is want of memory.
 pub fn verdicts(
     alloc: Global,
     homed: &HomedUnit,
     places: &PlaceTable,
     flow: &FlowTable,
-) -> Result<Option<Vec<PlaceVerdict>>, AllocError>
-    ensures visible { IfOk result (λ o. IfSome o (λ v. map sight v.items ≡ sights_from 1 places.now.rows.items)) }
-    ensures home { IfOk result (λ o. IfSome o (λ v. AreHome (homed_view homed.now) v.items)) }
-    ensures recovered { IfOk result (λ o. IfSome o (λ v. AreRecovered (homed_view homed.now) v.items)) }
-    ensures apart { IfOk result (λ o. IfSome o (λ v. AreApart (homed_view homed.now) v.items)) }
-    ensures only { IfOk result (λ o. IfSome o (λ v. AreOnly (homed_view homed.now) v.items)) }
-    ensures least { IfOk result (λ o. IfSome o (λ v. AreLeast (homed_view homed.now) v.items)) }
-    ensures hidden { IfOk result (λ o. IfSome o (λ v. AreHidden (homed_view homed.now) v.items)) }
-    ensures reached { IfOk result (λ o. IfSome o (λ v. AreReached (homed_view homed.now) v.items)) }
-    ensures named { IfOk result (λ o. IfSome o (λ v. AreNamed (homed_view homed.now).unit.log v.items)) }
-    ensures written { IfOk result (λ o. IfSome o (λ v. AreWritten (homed_view homed.now) v.items)) }
-    ensures evident { IfOk result (λ o. IfSome o (λ v. AreEvident (homed_view homed.now).unit.log flow.now (homed_view homed.now) v.items)) }
+) -> Result<Vec<PlaceVerdict>, AllocError>
+    requires marked { AreWellMarked (homed_view homed.now).unit }
+    requires homes { HaveHomes (homed_view homed.now) }
+    requires shared { AreSharesLogged (homed_view homed.now) }
+    requires flow { IsFlowOf (homed_view homed.now).unit flow.now }
+    requires table { IsTableOf (homed_view homed.now).unit places.now }
+    requires few { length (homed_view homed.now).unit.log < 4294967295 }
+    ensures visible { IfOk result (λ v. map sight v.items ≡ sights_from 1 places.now.rows.items) }
+    ensures home { IfOk result (λ v. AreHome (homed_view homed.now) v.items) }
+    ensures recovered { IfOk result (λ v. AreRecovered (homed_view homed.now) v.items) }
+    ensures apart { IfOk result (λ v. AreApart (homed_view homed.now) v.items) }
+    ensures only { IfOk result (λ v. AreOnly (homed_view homed.now) v.items) }
+    ensures least { IfOk result (λ v. AreLeast (homed_view homed.now) v.items) }
+    ensures hidden { IfOk result (λ v. AreHidden (homed_view homed.now) v.items) }
+    ensures reached { IfOk result (λ v. AreReached (homed_view homed.now) v.items) }
+    ensures named { IfOk result (λ v. AreNamed (homed_view homed.now).unit.log v.items) }
+    ensures written { IfOk result (λ v. AreWritten (homed_view homed.now) v.items) }
+    ensures evident { IfOk result
+        (λ v. AreEvident (homed_view homed.now).unit.log flow.now (homed_view homed.now) v.items) }
 {
-    let changes = homed.unit.log.changes();
-    let Some(removed) = removed_of(alloc, changes)? else {
-        return Ok(None);
-    };
-    let Some(told) = told_of_all(alloc, homed, &removed, places, flow)? else {
-        return Ok(None);
-    };
-    let Some(rows) = rows_of(alloc, places, &told, variable_count(homed))? else {
-        return Ok(None);
-    };
-    if !are_named(changes, &rows) || !are_written(homed, &rows) {
-        return Ok(None);
-    }
-    Ok(Some(rows))
+    let removed = RemovedChanges::new(alloc, homed.unit.log.changes())?;
+    let told = told_of_all(alloc, homed, &removed, places, flow)?;
+    let rows = rows_of(alloc, places, &told, variable_count(homed))?;
+    Ok(rows)
 }

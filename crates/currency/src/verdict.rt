@@ -4,25 +4,31 @@ use currency_writers::Writer;
 use debug_records::{Place, Var};
 use graph_core::Recipe;
 
-/// What can be told of a variable at a place (Hennessy 1982: current, recovered, noncurrent; Adl-Tabatabai and Gross 1996: nonresident).
+/// What can be told of a variable at a place (Hennessy 1982: current, recovered, noncurrent; Adl-Tabatabai and Gross
+/// 1996: nonresident).
 #[derive(Drop)]
 pub enum Verdict {
-    /// Its home, or its memory, holds its value. At a place that no path reaches this is said too, since nothing stops there.
+    /// Its home, or its memory, holds its value. At a place that no path reaches this is said too, since nothing stops
+    /// there.
     Home,
-    /// Its value is that of a recipe over the names of its function, since an assignment was removed: by this change, the least of those that removed one whose
+    /// Its value is that of a recipe over the names of its function, since an assignment was removed: by this change,
+    /// the least of those that removed one whose
     /// note reaches the place.
     Recovered {
         recipe: Recipe,
         change: u32,
     },
-    /// Its home may not hold its value: the change that removed an assignment or moved its computation, by its number; a place that assigns the variable; and what
-    /// writes the home for the moved computation, on a way from there on which nothing else assigns the variable, or nothing where the assignment was removed.
+    /// Its home may not hold its value: the change that removed an assignment or moved its computation, by its number;
+    /// a place that assigns the variable; and what
+    /// writes the home for the moved computation, on a way from there on which nothing else assigns the variable, or
+    /// nothing where the assignment was removed.
     Noncurrent {
         change: u32,
         start: Place,
         writer: Option<Writer>,
     },
-    /// Its home may hold another name's value: the change by which its register was given to other names too, by its number; a place that assigns the
+    /// Its home may hold another name's value: the change by which its register was given to other names too, by its
+    /// number; a place that assigns the
     /// variable; and what writes the register on a way from there on which nothing else assigns the variable.
     Nonresident {
         change: u32,

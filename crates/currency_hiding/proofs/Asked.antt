@@ -1,5 +1,5 @@
 -- The questions are on one scalar.
-use Rattle.std.proofs.Common.{◌≡◌, ◌≢◌, inl, inr, ℕ, ◌+◌, ◌-◌, ◌<◌, ◌≤◌, Bool, true, false, None, Option, Some, List, length, get_or, take, refl, sym, ap, subst, ◌∙◌, true≢false, eqb-true, min}
+use Rattle.std.proofs.Common.{◌≡◌, ◌≢◌, inl, inr, ℕ, ◌+◌, ◌-◌, ◌<◌, ◌≤◌, Bool, true, false, None, Option, Some, List, [], length, get_or, take, refl, sym, ap, subst, ◌∙◌, true≢false, eqb-true, min, arith}
 use Rattle.std.specs.Prelude.{All, Contains, slice_get, ◌⊎◌, ◌↔◌}
 use Rattle.std.proofs.lemmas.List.Elements.{All-contains, All-more, All-weaker, Contains-get_or}
 use Rattle.debug_records.specs.declared.change.Change.{Change}
@@ -8,9 +8,9 @@ use Rattle.graph_homes.specs.declared.home.Home.{Home}
 use Rattle.graph_homes.specs.declared.home.Home.TheVariants.{Register, Slot}
 use Rattle.graph_homes.specs.Homes.{is_same_home}
 use Rattle.graph_homes.specs.Reused.{IsTemporaryOf, first_copy}
-use Rattle.graph_core.specs.Graphs.{Logged, graph_view, logged}
+use Rattle.graph_core.specs.Graphs.{Graph, Logged, graph_view, logged}
 use Rattle.currency_notes.specs.Homes.{home_in, number_at}
-use Rattle.currency_writers.specs.Marks.{mark_at as mark_of}
+use Rattle.currency_writers.specs.Marks.{mark_at as mark_of, room_of}
 use Rattle.currency_writers.specs.declared.marks.Marks as declared-marks
 use Rattle.currency_notes.proofs.Lists.{at_among, take_whole}
 use Rattle.currency_writers.specs.declared.writers.Writer as declared-writer
@@ -21,10 +21,12 @@ use Rattle.currency_writers.specs.declared.copies.Copies as declared-copies
 use Rattle.graph_core.specs.declared.graph.Graph as declared-graph
 use Rattle.currency_hiding.specs.declared.changes.Changes as declared-changes
 use Rattle.currency_hiding.specs.declared.function.Function as declared-function
-use Rattle.currency_writers.specs.Writers.{AreWriters, AreWritesBy, HaveOneHome, Writes, home_key}
+use Rattle.currency_writers.specs.Writers.{AreWriters, AreWritesBy, HaveOneHome, IsWriter, Writes, home_key}
 use Rattle.currency_writers.specs.Copies.{AreCopies}
-use Rattle.currency_hiding.specs.Changes.{AreFound, IsListed, hides_as, log_of}
-use Rattle.currency_hiding.specs.Found.{AreForeign, IsCopied, IsForeign, IsFunction, IsHomeWritten, IsOn, IsOwn}
+use Rattle.currency_writers.specs.declared.search.Search as declared-search
+use Rattle.currency_writers.specs.Starts.{IsTurned}
+use Rattle.currency_hiding.specs.Changes.{AreFound, AreListed, IsListed, hides_as, log_of}
+use Rattle.currency_hiding.specs.Found.{AreCopiesBelow, AreForeign, ArePlaced, IsAsked, IsCopied, IsForeign, IsFunction, IsHomeWritten, IsOn, IsOwn}
 use Rattle.currency_writers.proofs.Entering.{none_tells}
 use Rattle.currency_hiding.proofs.ByKind.{moved_by}
 use Rattle.currency_hiding.proofs.Listed.{listed_by, numbered}
@@ -60,6 +62,10 @@ marked_all v x marks list k writers by le all p y w writes shared =
     All-contains (IsPlaceMarked v x marks) list (record { place = p; number = at.0 }) (subst (λ (l : List declared-write.Write). All (IsPlaceMarked v x marks) l) (take_whole list k le) all) (by.complete at.0 (record { place = p; name = y; writer = w }) at.1 number)
     (record { place = p; name = y; writer = w }) at.1 refl shared
 
+-- nothing is in a list that is empty
+pub all_none : {A : Type 0} (P : A → Type 0) (xs : List A) → xs ≡ [] → All P xs
+all_none {A} P xs none k d lt = (let long = ap (λ (ys : List A). length ys) none in absurd (omega (arith, lt, long)))
+
 -- one write more
 pub marked_next : (v : declared-writers.Writers) (x : ℕ) (old new : declared-marks.Marks (Unit {0})) (list : List declared-write.Write) (k : ℕ) (d : declared-write.Write) → k < length list → ((p : ℕ) → mark_of old p ≢ None → mark_of new p ≢ None) → IsPlaceMarked v x new (get_or list k d) → All (IsPlaceMarked v x old) (take k list)
     → All (IsPlaceMarked v x new) (take (k + 1) list)
@@ -87,13 +93,34 @@ module _ (c : declared-changes.Changes) (f : declared-function.Function) (variab
   pub is_on : IsFunction f → f.scalar < length (graph_view f.writers.graph.now).scalars → AreFound c variable Moved moved → AreMarked f.writers f.scalar f.written → AreBare f.writers f.scalar f.written → All (λ (d : Change). IsOwn f d.place.0) moved → AreOwnOnly f moved → IsOn (log_of c) f variable
   is_on is scalar found places bare temporaries others = record { function = is; scalar = scalar; written = places; bare = bare; own = own scalar found temporaries; only = only found others }
 
--- what is known of a function is of its writers and copies alone
-pub function_on : (f h : declared-function.Function) → h.writers ≡ f.writers → h.copies ≡ f.copies → IsFunction f → IsFunction h
-function_on f h writers copies is = record {
+-- where the names of a function may be written
+pub placed_on : (v : declared-writers.Writers) (old new : ℕ) → new ≡ old → ArePlaced v.function (graph_view v.graph.now) old → ArePlaced v.function (graph_view v.graph.now) new
+placed_on v old new same placed p x w writes = (let inside = placed p x w writes in omega (arith, inside, same))
+
+pub below_on : (g : Graph) (old new : ℕ) → new ≡ old → AreCopiesBelow g old → AreCopiesBelow g new
+below_on g old new same below p x t copied = (let inside = below p x t copied in omega (arith, inside, same))
+
+-- the same by what a function was made of
+pub placed_for : (f number places room : ℕ) (h g : declared-graph.Graph) → f ≡ number → h ≡ g → room ≡ places → ArePlaced number (graph_view g) places → ArePlaced f (graph_view h) room
+placed_for f number places room h g function graph same placed p x w writes =
+    (let inside = placed p x w (subst (λ (k : declared-graph.Graph). IsWriter number (graph_view k) p x w) graph (subst (λ n. IsWriter n (graph_view h) p x w) function writes)) in omega (arith, inside, same))
+
+pub below_for : (names room : ℕ) (h g : declared-graph.Graph) → h ≡ g → room ≡ names → AreCopiesBelow (graph_view g) names → AreCopiesBelow (graph_view h) room
+below_for names room h g graph same below p x t copied = (let inside = below p x t (subst (λ (k : declared-graph.Graph). first_copy p x (graph_view k).blocks ≡ Some t) graph copied) in omega (arith, inside, same))
+
+-- what is known of a function is of its writers and copies, and of how much may be marked
+pub function_on : (f h : declared-function.Function) → h.writers ≡ f.writers → h.copies ≡ f.copies → room_of h.written ≡ room_of f.written → room_of h.own ≡ room_of f.own → IsFunction f → IsFunction h
+function_on f h writers copies written own is = record {
   writers = subst (λ (w : declared-writers.Writers). AreWriters w) (sym writers) is.writers;
   copies = subst (λ (z : declared-copies.Copies). AreCopies z) (sym copies) is.copies;
   graph = ap (λ (z : declared-copies.Copies). z.graph.now) copies ∙ is.graph ∙ sym (ap (λ (w : declared-writers.Writers). w.graph.now) writers);
+  placed = placed_on h.writers (room_of f.written) (room_of h.written) written (subst (λ (w : declared-writers.Writers). ArePlaced w.function (graph_view w.graph.now) (room_of f.written)) (sym writers) is.placed);
+  below = below_on (graph_view h.writers.graph.now) (room_of f.own) (room_of h.own) own (subst (λ (w : declared-writers.Writers). AreCopiesBelow (graph_view w.graph.now) (room_of f.own)) (sym writers) is.below);
 }
+
+-- what is asked
+pub asked_by : (l : declared-changes.Changes) (s : declared-search.Search) (f : declared-function.Function) (variable : ℕ) → AreListed l → IsTurned s → s.flow.var.0 ≡ variable → IsOn (log_of l) f variable → IsAsked l s f
+asked_by l s f variable listed turned same on = record { changes = listed; search = turned; on = subst (λ v. IsOn (log_of l) f v) (sym same) on }
 
 -- what is not marked
 pub unmarked : {T : Type 0} (r : Bool) (o : Option T) → (r ≡ true) ↔ (o ≢ None) → r ≡ false → o ≡ None
@@ -145,10 +172,10 @@ only_by f old p graph only t some = elim (only t some) [
 ]
 
 -- the questions were turned to a scalar
-pub turned : (c : declared-changes.Changes) (first mid f : declared-function.Function) (scalar variable : ℕ) (moved : List Change) → IsFunction first → scalar < length (graph_view first.writers.graph.now).scalars → mid.writers ≡ first.writers → mid.copies ≡ first.copies → mid.scalar ≡ scalar
-    → AreMarked mid.writers mid.scalar mid.written → AreBare mid.writers mid.scalar mid.written → f.writers ≡ mid.writers → f.copies ≡ mid.copies → f.scalar ≡ mid.scalar → f.written ≡ mid.written → AreFound c variable Moved moved → All (λ (d : Change). IsOwn f d.place.0) moved → AreOwnOnly f moved → IsOn (log_of c) f variable
-turned c first mid f scalar variable moved is lt writers copies same marked bare writers2 copies2 same2 written2 found own others =
-    is_on c f variable moved (function_on first f (writers2 ∙ writers) (copies2 ∙ copies) is)
+pub turned : (c : declared-changes.Changes) (first mid f : declared-function.Function) (scalar variable : ℕ) (moved : List Change) → IsFunction f → scalar < length (graph_view first.writers.graph.now).scalars → mid.writers ≡ first.writers → mid.scalar ≡ scalar
+    → AreMarked mid.writers mid.scalar mid.written → AreBare mid.writers mid.scalar mid.written → f.writers ≡ mid.writers → f.scalar ≡ mid.scalar → f.written ≡ mid.written → AreFound c variable Moved moved → All (λ (d : Change). IsOwn f d.place.0) moved → AreOwnOnly f moved → IsOn (log_of c) f variable
+turned c first mid f scalar variable moved is lt writers same marked bare writers2 same2 written2 found own others =
+    is_on c f variable moved is
     (subst (λ (x : ℕ). x < length (graph_view f.writers.graph.now).scalars) (sym (same2 ∙ same)) (subst (λ (w : declared-writers.Writers). scalar < length (graph_view w.graph.now).scalars) (sym (writers2 ∙ writers)) lt))
     found (on_all AreMarked marked) (on_all AreBare bare) own others
   where

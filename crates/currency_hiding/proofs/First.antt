@@ -2,9 +2,9 @@
 use Rattle.std.proofs.Common.{◌≡◌, ◌≢◌, inl, inr, ℕ, ◌+◌, ◌-◌, ◌<◌, ◌≤◌, true, false, Option, Some, None, List, [], ◌∷◌, length, get_or, take, refl, sym, ap, subst, ◌∙◌, arith, true≢false}
 use Rattle.std.specs.Prelude.{slice_get, All, Contains, IfSome, IsSomeAnd, is_some, ◌⊎◌}
 use Rattle.std.proofs.lemmas.Bool.Decides.{eqb_tells}
-use Rattle.std.proofs.lemmas.List.Elements.{All-contains, All-more, All-weaker}
+use Rattle.std.proofs.lemmas.List.Elements.{All-contains, All-more, All-weaker, Contains-get_or}
 use Rattle.std.specs.List.Sorted.{IsPermutation}
-use Rattle.std.proofs.lemmas.List.Sorted.{Contains-permutation}
+use Rattle.std.proofs.lemmas.List.Sorted.{All-permutation, Contains-permutation}
 use Rattle.std.proofs.lemmas.Option.{none-some, same_Some, slice_get-get_or, slice_get_within}
 use Rattle.places.specs.Path.{quest_by}
 use Rattle.debug_records.specs.declared.change.Change.{Change}
@@ -37,7 +37,7 @@ use Rattle.currency_hiding.specs.declared.causes.Causes as declared-causes
 use Rattle.currency_hiding.specs.declared.teller.Teller as declared-teller
 use Rattle.currency_hiding.specs.Changes.{AreFound, AreListed, IsListed, IsNumbered, IsSharing, hides_as, log_of}
 use Rattle.currency_hiding.specs.First.{MayBeTold, order_of}
-use Rattle.currency_hiding.specs.Found.{AreAllFound, AreCauses, AreForeign, AreInOrder, AreMoreFound, AreMovesFound, AreSharesFound, HasNoneAt, HidesFrom, IsAsked, IsCovered, IsFirstAt, IsForeign, IsMovedTo, IsOfKind, IsReady, IsRemovalFound, IsToldBy, IsViaOf, IsViaTold, variable_of}
+use Rattle.currency_hiding.specs.Found.{AreAllFound, AreCauses, AreForeign, AreMoreFound, AreMovesFound, AreSharesFound, HasNoneAt, HidesFrom, IsAsked, IsCovered, IsFirstAt, IsForeign, IsMovedTo, IsOfKind, IsReady, IsRemovalFound, IsToldBy, IsViaOf, IsViaTold, IsWayBy, IsWayOf, variable_of}
 use Rattle.currency_hiding.proofs.Asked.{member_at}
 use Rattle.currency_hiding.proofs.Found.{shared_back}
 use Rattle.currency_hiding.proofs.ByKind.{by_taken}
@@ -47,19 +47,19 @@ use Rattle.currency_hiding.proofs.Listed.{listed_of, numbered, own_number}
 pub done_all : {A : Type 0} (P : A → Type 0) (list items : List A) (k : ℕ) → length list ≤ k → list ≡ items → All P (take k list) → All P items
 done_all {A} P list items k le same all = subst (λ (l : List A). All P l) (take_whole list k le ∙ same) all
 
+-- each of these places is that of one of these writes
+abbrev pub AreOfWrites : List declared-write.Write → List declared-via.Via → Type 0
+AreOfWrites list vias = (v : declared-via.Via) → Contains vias v → Contains list (record { place = v.place; number = v.writer })
+
+pub of_none : (list : List declared-write.Write) (vias : List declared-via.Via) → vias ≡ [] → AreOfWrites list vias
+of_none list vias none v there = (let lt = there.1 in let long = ap (λ (l : List declared-via.Via). length l) none in absurd (omega (arith, lt, long)))
+
 -- a way that is no later
 way_before : (a b p q : ℕ) (rs ts : List ℕ) → a ≤ b → p ≡ q → IsNoLater rs ts → IsNoLater (a ∷ p ∷ rs) (b ∷ q ∷ ts)
 way_before a b p q rs ts le same rest = elim (eqb_tells a b) [
   | inl e ↦ inr (e.1, inr (same, rest))
   | inr e ↦ (let differ = e.1 in inl (omega (arith, le, differ)))
 ]
-
--- what was found so far comes no later than the next
-pub found_next_last : (all : List declared-found.Found) (count : ℕ) (last one : declared-found.Found) → AreInOrder all → count ≡ length all → 1 ≤ count → slice_get all (count - 1) ≡ Some last → IsNoLater (order_of last.cause last.via) (order_of one.cause one.via)
-    → (k : ℕ) (z : declared-found.Found) → slice_get all k ≡ Some z → IsNoLater (order_of z.cause z.via) (order_of one.cause one.via)
-found_next_last all count last one ordered same some at later k z here =
-    (let lt : k < length all = slice_get_within all k z here in
-    no_later_on (order_of z.cause z.via) (order_of last.cause last.via) (order_of one.cause one.via) (ordered k (count - 1) z last (omega (arith, lt, same, some)) here at) later)
 
 module _ (s : declared-search.Search) where
   pub via_none : (vias : List declared-via.Via) (w : declared-write.Write) → HasNoStart s w.place → IsViaOf s vias w
@@ -82,6 +82,27 @@ module _ (s : declared-search.Search) where
       (let one = is start (subst (λ p. IsStartBy s start p) (sym same) by) in
       let below = one.writer_below in
       record { via = one.via; is = one.is; in_place = one.in_place ∙ same; start_below = one.start_below; writer_below = omega (arith, below, le) })
+
+  -- ways by places of writes
+  pub ways_next : (list : List declared-write.Write) (k : ℕ) (d : declared-write.Write) (old new : List declared-via.Via) → k < length list
+      → ((v : declared-via.Via) → Contains new v → Contains old v ⊎ ((v.place ≡ (get_or list k d).place) × (v.writer ≡ (get_or list k d).number))) → AreOfWrites list old → AreOfWrites list new
+  ways_next list k d old new lt only was v there = elim (only v there) [
+    | inl e ↦ was v e
+    | inr e ↦ subst (λ p. Contains list (record { place = p; number = v.writer })) (sym e.0) (subst (λ n. Contains list (record { place = (get_or list k d).place; number = n })) (sym e.1) (Contains-get_or list k d lt))
+  ]
+
+  pub ways_moved : (list : List declared-write.Write) (old new : List declared-via.Via) → IsPermutation old new → All (λ (v : declared-via.Via). IsWayBy s v) old → AreOfWrites list old → All (λ (v : declared-via.Via). IsWayOf s list v) new
+  ways_moved list old new moved each of =
+      All-permutation (λ (v : declared-via.Via). IsWayOf s list v) old new moved
+      (λ k d lt. record { way = each k d lt; write = of (get_or old k d) (Contains-get_or old k d lt) })
+
+  -- one of these ways
+  pub way_at : (list : List declared-write.Write) (vias items : List declared-via.Via) (k : ℕ) (d : declared-via.Via) → items ≡ vias → All (λ (v : declared-via.Via). IsWayOf s list v) vias → k < length items → IsWayBy s (get_or items k d)
+  way_at list vias items k d same each lt = (let all = subst (λ (l : List declared-via.Via). All (λ (v : declared-via.Via). IsWayOf s list v) l) (sym same) each in (all k d lt).way)
+
+  pub write_at : (list : List declared-write.Write) (vias items : List declared-via.Via) (k : ℕ) (d : declared-via.Via) → items ≡ vias → All (λ (v : declared-via.Via). IsWayOf s list v) vias → k < length items
+      → Contains list (record { place = (get_or items k d).place; number = (get_or items k d).writer })
+  write_at list vias items k d same each lt = (let all = subst (λ (l : List declared-via.Via). All (λ (v : declared-via.Via). IsWayOf s list v) l) (sym same) each in (all k d lt).write)
 
   -- the last write that was looked at is one of the same place
   pub via_last : (vias : List declared-via.Via) (last : Option declared-write.Write) (w : declared-write.Write) → IfSome last (λ before. (before.place ≡ w.place) × (before.number ≤ w.number)) → is_some last ≡ true → IfSome last (λ v. IsViaOf s vias v) → IsViaOf s vias w

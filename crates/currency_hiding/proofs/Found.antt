@@ -11,8 +11,8 @@ use Rattle.graph_core.specs.Graphs.{Logged, graph_view, logged}
 use Rattle.graph_core.specs.declared.graph.Graph as declared-graph
 use Rattle.graph_homes.specs.Reused.{first_copy}
 use Rattle.currency_writers.specs.declared.search.Search as declared-search
-use Rattle.currency_writers.specs.Marks.{mark_at}
-use Rattle.currency_writers.specs.Flow.{AreTold, ComesOn, IsClosed, IsToldFrom, assigned}
+use Rattle.currency_writers.specs.Marks.{mark_at, room_of}
+use Rattle.currency_writers.specs.Flow.{AreTold, ComesOn, HasRoom, IsClosed, IsToldFrom, assigned}
 use Rattle.currency_writers.specs.Starts.{IsStartBy}
 use Rattle.currency_writers.proofs.Routes.{route_by}
 use Rattle.currency_writers.specs.declared.writers.Writer as declared-writer
@@ -110,8 +110,8 @@ module _ (l : declared-changes.Changes) (s : declared-search.Search) (f : declar
   ]
 
   pub causes_more : (old new : declared-causes.Causes) (one : declared-found.Found) → AreCauses l s f old → HidesFrom l s f one.cause one.via → new.found.items ≡ old.found.items ++ (one ∷ [])
-      → ((k : ℕ) (z : declared-found.Found) → slice_get old.found.items k ≡ Some z → IsNoLater (order_of z.cause z.via) (order_of one.cause one.via)) → IsToldFrom s.flow one.via (length old.found.items) old.told new.told → IsClosed s.flow new.told → AreTold s.flow one.via new.told → AreCauses l s f new
-  causes_more old new one before hides found next told closed all = record {
+      → ((k : ℕ) (z : declared-found.Found) → slice_get old.found.items k ≡ Some z → IsNoLater (order_of z.cause z.via) (order_of one.cause one.via)) → IsToldFrom s.flow one.via (length old.found.items) old.told new.told → IsClosed s.flow new.told → AreTold s.flow one.via new.told → room_of new.told ≡ room_of old.told → AreCauses l s f new
+  causes_more old new one before hides found next told closed all room = record {
     each = subst (λ (all : List declared-found.Found). All (λ (z : declared-found.Found). HidesFrom l s f z.cause z.via) all) (sym found) (All-push (λ (z : declared-found.Found). HidesFrom l s f z.cause z.via) old.found.items one before.each hides);
     told = λ p number at. elim (told p) [
       | inl e ↦ (let was = before.told p number (sym e ∙ at) in
@@ -133,6 +133,7 @@ module _ (l : declared-changes.Changes) (s : declared-search.Search) (f : declar
       | inr e ↦ last k p e.0 (subst (λ (y : declared-found.Found). ComesOn s.flow y.via p) (sym e.1) comes)
     ];
     ordered = subst (λ (all : List declared-found.Found). AreInOrder all) (sym found) (ordered_more old.found.items one before.ordered next);
+    room = subst (λ n. room_of s.flow.assigns ≤ n) (sym room) before.room;
   }
     where
       kept : (k p : ℕ) → IsSomeAnd (mark_at old.told p) (λ number. number ≤ k) → IsSomeAnd (mark_at new.told p) (λ number. number ≤ k)
@@ -171,13 +172,14 @@ module _ (l : declared-changes.Changes) (s : declared-search.Search) (f : declar
       hides_at z.cause z.via p hides (subst (λ (y : declared-found.Found). ComesOn s.flow y.via p) one told.comes)
 
   -- nothing is found at first
-  pub causes_none : (c : declared-causes.Causes) → c.found.items ≡ [] → ((p : ℕ) → mark_at c.told p ≡ None) → AreCauses l s f c
-  causes_none c found told = record {
+  pub causes_none : (c : declared-causes.Causes) → c.found.items ≡ [] → ((p : ℕ) → mark_at c.told p ≡ None) → HasRoom s.flow c.told → AreCauses l s f c
+  causes_none c found told room = record {
     each = subst (λ (all : List declared-found.Found). All (λ (z : declared-found.Found). HidesFrom l s f z.cause z.via) all) (sym found) (All-nil (λ (z : declared-found.Found). HidesFrom l s f z.cause z.via));
     told = λ p number at. absurd (none-some number (sym (told p) ∙ at));
     closed = λ q some. absurd (some (told q));
     first = λ k p z at. absurd (none-some z (sym (ap (λ (all : List declared-found.Found). slice_get all k) found) ∙ at));
     ordered = λ j k z y le at. absurd (none-some z (sym (ap (λ (all : List declared-found.Found). slice_get all j) found) ∙ at));
+    room = room;
   }
 
   -- each of what was found of a kind is of it

@@ -1,5 +1,9 @@
+pub mod ShownOrHidden
 mod ByKind
 mod Listed
+mod Numbering
+mod Coming
+pub mod Within
 mod Asked
 mod Found
 mod First

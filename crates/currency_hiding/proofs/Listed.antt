@@ -1,6 +1,6 @@
 -- Changes by their numbers.
 use Rattle.std.proofs.Common.{◌≡◌, inl, inr, ℕ, ◌+◌, ◌-◌, ◌<◌, ◌≤◌, Bool, true, false, true≢false, Option, Some, None, List, [], ◌∷◌, ◌++◌, length, get_or, take, refl, sym, ap, subst, ◌∙◌, arith}
-use Rattle.std.specs.Prelude.{slice_get, option_map, All, Contains, IfSome, MatchOption, ◌⊎◌, ◌↔◌}
+use Rattle.std.specs.Prelude.{slice_get, option_map, All, AllPairs, Contains, IfSome, MatchOption, ◌⊎◌, ◌↔◌}
 use Rattle.std.proofs.lemmas.Bool.Decides.{eqb_tells}
 use Rattle.std.proofs.lemmas.List.Elements.{All-contains, All-more, All-push, All-weaker, Contains-append_left, Contains-push}
 use Rattle.std.proofs.lemmas.Option.{none-some, same_Some, slice_get-map, slice_get-get_or}
@@ -50,10 +50,11 @@ in_list c number d variable all is of =
 
 -- what was found in the whole list
 pub found_all : (c : declared-changes.Changes) (variable : ℕ) (kind : Kind) (found : List Change) → AreListed c → All (λ (d : Change). IsListed c d.number d × (d.var.0 ≡ variable) × (hides_as d.kind ≡ kind)) found
-    → All (λ (n : ℕ). (d : Change) → IsListed c n d → d.var.0 ≡ variable → hides_as d.kind ≡ kind → Contains found d) (entries_of c.by_variable variable) → AreFound c variable kind found
-found_all c variable kind found all each every = record {
+    → All (λ (n : ℕ). (d : Change) → IsListed c n d → d.var.0 ≡ variable → hides_as d.kind ≡ kind → Contains found d) (entries_of c.by_variable variable) → AllPairs (λ (d e : Change). d.number < e.number) found → AreFound c variable kind found
+found_all c variable kind found all each every ordered = record {
   each = each;
   all = λ number d is of same. All-contains (λ (n : ℕ). (d : Change) → IsListed c n d → d.var.0 ≡ variable → hides_as d.kind ≡ kind → Contains found d) (entries_of c.by_variable variable) number every (in_list c number d variable all is of) d is of same;
+  ordered = ordered;
 }
 
 -- one more number of a list was looked at
@@ -91,9 +92,9 @@ found_more c variable kind old new all k d o listed lt some every (inr one) each
 
 -- all numbers of a list were looked at
 pub found_done : (c : declared-changes.Changes) (variable : ℕ) (kind : Kind) (found : List Change) (all : List ℕ) (k : ℕ) → AreListed c → length all ≤ k → all ≡ entries_of c.by_variable variable → All (λ (e : Change). IsListed c e.number e × (e.var.0 ≡ variable) × (hides_as e.kind ≡ kind)) found
-    → All (λ (n : ℕ). (e : Change) → IsListed c n e → e.var.0 ≡ variable → hides_as e.kind ≡ kind → Contains found e) (take k all) → AreFound c variable kind found
-found_done c variable kind found all k listed le same each before =
-    found_all c variable kind found listed each (subst (λ (l : List ℕ). All (λ (n : ℕ). (e : Change) → IsListed c n e → e.var.0 ≡ variable → hides_as e.kind ≡ kind → Contains found e) l) (take_whole all k le ∙ same) before)
+    → All (λ (n : ℕ). (e : Change) → IsListed c n e → e.var.0 ≡ variable → hides_as e.kind ≡ kind → Contains found e) (take k all) → AllPairs (λ (d e : Change). d.number < e.number) found → AreFound c variable kind found
+found_done c variable kind found all k listed le same each before ordered =
+    found_all c variable kind found listed each (subst (λ (l : List ℕ). All (λ (n : ℕ). (e : Change) → IsListed c n e → e.var.0 ≡ variable → hides_as e.kind ≡ kind → Contains found e) l) (take_whole all k le ∙ same) before) ordered
 
 pub not_before_on : (n : ℕ) (o p : Option ℕ) → ((m : ℕ) → o ≡ Some m → IsNotBefore m p) → IsNotBefore n o → IsNotBefore n p
 not_before_on n o p more is = (let one = more is.last is.is in let below = is.le in let above = one.le in record { last = one.last; is = one.is; le = omega (arith, below, above) })

@@ -1,7 +1,8 @@
 -- The changes of a log by their variables.
-use Rattle.std.specs.Prelude.{◌≡◌, ℕ, ◌+◌, ◌-◌, ◌≤◌, Option, Some, List, [], ◌∷◌, All, Contains, map, slice_get}
+use Rattle.std.specs.Prelude.{◌≡◌, ℕ, ◌+◌, ◌-◌, ◌<◌, ◌≤◌, Option, Some, List, [], ◌∷◌, All, AllPairs, Contains, map, slice_get}
 use Rattle.debug_records.specs.declared.change.Change.{Change}
 use Rattle.debug_records.specs.Change.{letters}
+use Rattle.debug_records.specs.Numbers.{AreNumbered}
 use Rattle.debug_records.specs.declared.change.Kind.{Kind}
 use Rattle.debug_records.specs.declared.change.Kind.TheVariants.{Removed, Moved, Reused, Replaced, Sunk}
 use Rattle.graph_core.specs.Graphs.{Logged, logged}
@@ -17,10 +18,11 @@ pub record IsNumbered (log : List Logged) (number : ℕ) (change : Logged) : Typ
 abbrev pub log_of : declared-changes.Changes → List Logged
 log_of c = map logged c.all.now
 
--- Each change has its number, and that is in the list of its variable.
+-- Each change has its number, and that is in the list of its variable; the numbers of a list ascend.
 pub record AreListed (c : declared-changes.Changes) : Type 0 where
-  pub numbers : (k : ℕ) (d : Change) → slice_get c.all.now k ≡ Some d → d.number ≡ k + 1
+  pub numbers : AreNumbered c.all.now
   pub listed : (k : ℕ) (d : Change) → slice_get c.all.now k ≡ Some d → Contains (entries_of c.by_variable d.var.0) (k + 1)
+  pub ordered : (variable : ℕ) → AllPairs (λ m n. m < n) (entries_of c.by_variable variable)
 
 -- the change of a number, of those that are listed
 pub record IsListed (c : declared-changes.Changes) (number : ℕ) (d : Change) : Type 0 where
@@ -35,10 +37,11 @@ hides_as Reused = Reused
 hides_as Replaced = Replaced
 hides_as Sunk = Removed
 
--- These are the changes of a variable that hide it as those of one kind do: each is one, with its number, and all are among them.
+-- These are the changes of a variable that hide it as those of one kind do, in order: each is one, with its number, and all are among them.
 pub record AreFound (c : declared-changes.Changes) (variable : ℕ) (kind : Kind) (found : List Change) : Type 0 where
   pub each : All (λ (d : Change). IsListed c d.number d × (d.var.0 ≡ variable) × (hides_as d.kind ≡ kind)) found
   pub all : (number : ℕ) (d : Change) → IsListed c number d → d.var.0 ≡ variable → hides_as d.kind ≡ kind → Contains found d
+  pub ordered : AllPairs (λ (d e : Change). d.number < e.number) found
 
 -- the name by which the assignment of homes logs its changes: homes
 abbrev pub homes_name : List ℕ

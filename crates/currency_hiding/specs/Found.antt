@@ -1,14 +1,14 @@
 -- What is asked of a function for one of its scalars, and what is found to hide it.
-use Rattle.std.specs.Prelude.{◌≡◌, ◌≢◌, ℕ, ◌<◌, ◌≤◌, IsSomeAnd, None, Some, List, All, Contains, length, slice_get}
+use Rattle.std.specs.Prelude.{◌≡◌, ◌≢◌, ℕ, ◌<◌, ◌≤◌, IsSomeAnd, None, Some, List, [], ◌∷◌, All, AllPairs, Contains, length, slice_get}
 use Rattle.debug_records.specs.declared.change.Change.{Change}
 use Rattle.debug_records.specs.declared.change.Kind.{Kind}
 use Rattle.debug_records.specs.declared.change.Kind.TheVariants.{Moved}
 use Rattle.graph_homes.specs.Reused.{IsTemporaryOf, first_copy}
-use Rattle.graph_core.specs.Graphs.{Logged, graph_view}
+use Rattle.graph_core.specs.Graphs.{Graph, Logged, graph_view}
 use Rattle.currency_notes.specs.Homes.{home_in}
-use Rattle.currency_writers.specs.Marks.{mark_at}
-use Rattle.currency_writers.specs.Flow.{ComesOn, IsClosed, IsFlow}
-use Rattle.currency_writers.specs.Starts.{IsLeastStartBy, IsStartBy, IsTurned}
+use Rattle.currency_writers.specs.Marks.{mark_at, room_of}
+use Rattle.currency_writers.specs.Flow.{ComesOn, HasRoom, IsClosed}
+use Rattle.currency_writers.specs.Starts.{IsLeastStartBy, IsSearch, IsStartBy, IsTurned}
 use Rattle.currency_writers.specs.declared.writers.Writer as declared-writer
 use Rattle.currency_writers.specs.declared.writers.Writers as declared-writers
 use Rattle.currency_writers.specs.declared.writers.Write as declared-write
@@ -23,17 +23,27 @@ use Rattle.currency_hiding.specs.declared.causes.Found as declared-found
 use Rattle.currency_hiding.specs.declared.causes.Via as declared-via
 use Rattle.currency_hiding.specs.declared.causes.Causes as declared-causes
 use Rattle.currency_writers.specs.Order.{IsNoLater}
-use Rattle.currency_writers.specs.Writers.{AreWriters, HaveOneHome, Writes}
+use Rattle.currency_writers.specs.Writers.{AreWriters, HaveOneHome, IsWriter, Writes}
 use Rattle.currency_writers.specs.Copies.{AreCopies}
 use Rattle.currency_hiding.specs.Changes.{AreListed, IsListed, hides_as, log_of}
 use Rattle.currency_hiding.specs.Evidence.{Hides, IsBareRemoval, IsMovedWrite, IsReusedWrite}
 use Rattle.currency_hiding.specs.First.{HasNone, IsFirst, IsLastShared, Tells, order_of}
 
--- What is known of a function: what writes its names, and its copies.
+-- The names of a function are written in places below a number.
+abbrev pub ArePlaced : (f : ℕ) → Graph → (places : ℕ) → Type 0
+ArePlaced f g places = (p x : ℕ) (w : declared-writer.Writer) → IsWriter f g p x w → p < places
+
+-- The first copies to names in places are of names below a number.
+abbrev pub AreCopiesBelow : Graph → (names : ℕ) → Type 0
+AreCopiesBelow g names = (p x t : ℕ) → first_copy p x g.blocks ≡ Some t → t < names
+
+-- What is known of a function: what writes its names, and its copies; and the places and names that may be marked are all that it writes and copies.
 pub record IsFunction (f : declared-function.Function) : Type 0 where
   pub writers : AreWriters f.writers
   pub copies : AreCopies f.copies
   pub graph : f.copies.graph.now ≡ f.writers.graph.now
+  pub placed : ArePlaced f.writers.function (graph_view f.writers.graph.now) (room_of f.written)
+  pub below : AreCopiesBelow (graph_view f.writers.graph.now) (room_of f.own)
 
 -- The home of a name is written in a place.
 pub record IsHomeWritten (v : declared-writers.Writers) (x p : ℕ) : Type 0 where
@@ -67,6 +77,13 @@ pub record IsForeign (f : declared-function.Function) (y : ℕ) : Type 0 where
   pub foreign : mark_at f.own y ≡ None
   pub shared : HaveOneHome f.writers y f.scalar
 
+-- A write is for a name that is so.
+pub record IsForeignWrite (f : declared-function.Function) (write : declared-write.Write) : Type 0 where
+  pub written : declared-written.Written
+  pub is : slice_get f.writers.all.items write.number ≡ Some written
+  pub place : written.place ≡ write.place
+  pub foreign : IsForeign f written.name
+
 -- All writes of names that are so are among these.
 abbrev pub AreForeign : declared-function.Function → List declared-write.Write → Type 0
 AreForeign f found = (k : ℕ) (z : declared-written.Written) → slice_get f.writers.all.items k ≡ Some z → IsForeign f z.name → Contains found (record { place = z.place; number = k })
@@ -74,6 +91,14 @@ AreForeign f found = (k : ℕ) (z : declared-written.Written) → slice_get f.wr
 -- What was found is in the order in which it is told.
 abbrev pub AreInOrder : List declared-found.Found → Type 0
 AreInOrder all = (j k : ℕ) (z y : declared-found.Found) → j ≤ k → slice_get all j ≡ Some z → slice_get all k ≡ Some y → IsNoLater (order_of z.cause z.via) (order_of y.cause y.via)
+
+-- What was found is told no later than what has these numbers in order.
+abbrev pub AreToldBefore : List declared-found.Found → (rank : List ℕ) → Type 0
+AreToldBefore all rank = (k : ℕ) (z : declared-found.Found) → slice_get all k ≡ Some z → IsNoLater (order_of z.cause z.via) rank
+
+-- Places by which ways lead are in order: by their starts, then by themselves, then by the numbers of what writes there.
+abbrev pub AreViasInOrder : List declared-via.Via → Type 0
+AreViasInOrder vias = AllPairs (λ (v w : declared-via.Via). IsNoLater (v.start ∷ v.place ∷ v.writer ∷ []) (w.start ∷ w.place ∷ w.writer ∷ [])) vias
 
 -- given: a search on one variable
 module _ (s : declared-search.Search) where
@@ -92,6 +117,11 @@ module _ (s : declared-search.Search) where
   -- a way leads by the place from its start, and from no lesser one
   abbrev pub IsWayBy : declared-via.Via → Type 0
   IsWayBy v = IsLeastStartBy s v.start v.place
+
+  -- A way leads so by the place of one of these writes.
+  pub record IsWayOf (writes : List declared-write.Write) (v : declared-via.Via) : Type 0 where
+    pub way : IsWayBy v
+    pub write : Contains writes (record { place = v.place; number = v.writer })
 
 -- A write of a place was found to hide the scalar, by what it writes.
 pub record IsViaTold (f : declared-function.Function) (all : List declared-found.Found) (make : (start : ℕ) → declared-writer.Writer → declared-cause.Cause) (v : declared-via.Via) : Type 0 where
@@ -155,6 +185,7 @@ module _ (l : declared-changes.Changes) (s : declared-search.Search) (f : declar
     pub closed : IsClosed s.flow c.told
     pub first : (k p : ℕ) (z : declared-found.Found) → slice_get c.found.items k ≡ Some z → ComesOn s.flow z.via p → IsSomeAnd (mark_at c.told p) (λ number. number ≤ k)
     pub ordered : AreInOrder c.found.items
+    pub room : HasRoom s.flow c.told
 
   -- A cause was found for ways by a place, or one that is told no later for ways by the same place.
   pub record IsCovered (all : List declared-found.Found) (c : declared-cause.Cause) (via : ℕ) : Type 0 where
@@ -201,10 +232,11 @@ pub record IsReady (t : declared-teller.Teller) (f : declared-function.Function)
   pub causes : AreCauses t.changes t.search f t.causes
   pub all : AreAllFound t.changes t.search f t.causes.found.items
 
--- Questions on a unit: its changes are listed, and the flow of its program is that of the search.
+-- Questions on a unit: its changes are listed, and the places of its program are searched and may be told of.
 pub record IsTeller (t : declared-teller.Teller) : Type 0 where
   pub changes : AreListed t.changes
-  pub flow : IsFlow t.search.flow
+  pub search : IsSearch t.search
+  pub room : HasRoom t.search.flow t.causes.told
 
 -- EVIDENCE by what is known of a unit and of what writes a function's names.
 abbrev pub HidesBy : declared-teller.Teller → declared-writers.Writers → (x variable p : ℕ) → declared-cause.Cause → Type 0

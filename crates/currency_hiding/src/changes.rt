@@ -1,11 +1,12 @@
 //! The changes of each variable.
 
-ghost use Rattle.std.specs.Prelude.{◌≡◌, ◌≤◌, ◌↔◌, All, Contains, IfOk, IfSome, MatchOption, ℕ, Some, false, true};
+ghost use Rattle.std.specs.Prelude.{◌≡◌, ◌<◌, ◌≤◌, ◌↔◌, IfOk, IfSome, MatchOption, ℕ, Some, false, slice_get, true};
 ghost use Rattle.debug_records.specs.declared.change.Change as declared-change;
 ghost use Rattle.debug_records.specs.Change.{letters};
+ghost use Rattle.debug_records.specs.Numbers.{AreNumbered};
 ghost use Rattle.currency_hiding.specs.Changes.{AreFound, AreListed, IsLastSharing, IsListed, IsNotBefore, IsSharing, hides_as, homes_name};
 
-use currency_writers::Lists;
+use currency_writers::{Lists, count_with};
 use debug_records::{Change, Kind, Var};
 use std::alloc::{AllocError, Global};
 
@@ -51,33 +52,28 @@ fn hides_as(kind: Kind) -> Kind
 }
 
 /// How many variables there are, as far as they have changes.
-fn variable_count(changes: &[Change]) -> usize {
+fn variable_count(changes: &[Change]) -> usize
+    ensures { (k : ℕ) (d : declared-change.Change) → slice_get changes.now k ≡ Some d → d.var.0 < result }
+{
     let mut count = 0usize;
     for change in changes {
-        count = count.max((change.var.0 as usize).saturating_add(1));
+        count = count_with(count, change.var.0);
     }
     count
 }
 
 impl<'a> Changes<'a> {
-    /// These changes. None where they do not stand in the order of their numbers from 1 on.
-    pub fn new(alloc: Global, all: &'a [Change]) -> Result<Option<Changes<'a>>, AllocError>
-        ensures listed { IfOk result (λ o. IfSome o (λ made. AreListed made)) }
-        ensures all { IfOk result (λ o. IfSome o (λ made. made.all.now ≡ all.now)) }
+    /// These changes, which stand in the order of their numbers from 1 on.
+    pub fn new(alloc: Global, all: &'a [Change]) -> Result<Changes<'a>, AllocError>
+        requires { AreNumbered all.now }
+        ensures listed { IfOk result (λ made. AreListed made) }
+        ensures all { IfOk result (λ made. made.all.now ≡ all.now) }
     {
         let mut by_variable = Lists::new(alloc, variable_count(all))?;
-        let mut number = 1u32;
-        for k in 0..all.len() {
-            let change = all[k];
-            if change.number != number
-                || number as usize != k + 1
-                || !by_variable.push(change.var.0, number)?
-            {
-                return Ok(None);
-            }
-            number = number.saturating_add(1);
+        for change in all {
+            by_variable.push(change.var.0, change.number)?;
         }
-        Ok(Some(Changes { all, by_variable }))
+        Ok(Changes { all, by_variable })
     }
 
     /// The change of a number.
@@ -93,8 +89,10 @@ impl<'a> Changes<'a> {
 
     /// The change of a number, if it is of this variable and hides it as one of this kind does.
     fn get_of(&self, number: u32, var: Var, kind: Kind) -> Option<Change>
-        ensures some { IfSome result (λ change. IsListed self.now number change × (change.var.0 ≡ var.0) × (hides_as change.kind ≡ kind)) }
-        ensures all { (change : declared-change.Change) → IsListed self.now number change → change.var.0 ≡ var.0 → hides_as change.kind ≡ kind → result ≡ Some change }
+        ensures some { IfSome result (λ change.
+            IsListed self.now number change × (change.var.0 ≡ var.0) × (hides_as change.kind ≡ kind)) }
+        ensures all { (change : declared-change.Change) → IsListed self.now number change → change.var.0 ≡ var.0
+            → hides_as change.kind ≡ kind → result ≡ Some change }
     {
         let change = self.get(number)?;
         if hides_as(change.kind) != kind {
@@ -132,7 +130,8 @@ impl<'a> Changes<'a> {
         }
     }
 
-    /// The last of two numbers of changes, of which the first one is so already, if there is one, and the other one if it is of a change by which the assignment of
+    /// The last of two numbers of changes, of which the first one is so already, if there is one, and the other one if
+    /// it is of a change by which the assignment of
     /// homes gave the register of a variable to other names too.
     fn last_of(&self, found: Option<u32>, number: u32, var: Var) -> Option<u32>
         requires { IfSome found (λ n. IsSharing self.now var.0 n) }

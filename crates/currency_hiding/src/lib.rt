@@ -1,4 +1,5 @@
-//! What hides scalars that their homes do not show: the changes that passes made, and what writes the homes for other names, on the ways on which a value may come.
+//! What hides scalars that their homes do not show: the changes that passes made, and what writes the homes for other
+//! names, on the ways on which a value may come.
 #![tactic(auto)]
 
 mod causes;

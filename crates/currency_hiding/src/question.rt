@@ -4,7 +4,8 @@ use crate::changes::Changes;
 use crate::function::Function;
 use currency_writers::Search;
 
-/// What hides one scalar of a function is asked with: the changes of its unit, the flow of its program, and the function.
+/// What hides one scalar of a function is asked with: the changes of its unit, the flow of its program, and the
+/// function.
 #[derive(Clone, Copy)]
 pub struct Question<'q> {
     pub changes: &'q Changes<'q>,

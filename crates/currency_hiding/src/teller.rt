@@ -1,7 +1,9 @@
 //! What hides the scalars of a unit, one after the other.
 
-ghost use Rattle.std.specs.Prelude.{◌≡◌, ◌<◌, IfOk, IfSome, MatchOption, OnOk, length, true};
+ghost use Rattle.std.specs.Prelude.{◌≡◌, ◌<◌, IfOk, OnOk, length};
+ghost use Rattle.debug_records.specs.Numbers.{AreNumbered};
 ghost use Rattle.graph_core.specs.Graphs.{graph_view};
+ghost use Rattle.currency_writers.specs.Flow.{IsFlowOfPlaces};
 ghost use Rattle.currency_hiding.specs.Found.{HasNoneAt, HidesAt, IsFirstAt, IsFunction, IsReady, IsSameFunction, IsSameTeller, IsTeller};
 
 use crate::causes::{Cause, Causes};
@@ -22,73 +24,67 @@ pub struct Teller<'a> {
 }
 
 impl<'a> Teller<'a> {
-    /// Questions on a unit with these changes, whose program has this flow and places below a number. None where the changes do not stand in the order of their numbers.
+    /// Questions on a unit with these changes, which stand in the order of their numbers, and whose program has this
+    /// flow and places below a number.
     pub fn new(
         alloc: Global,
         changes: &'a [Change],
         flow: &'a FlowTable,
         places: usize,
-    ) -> Result<Option<Teller<'a>>, AllocError>
-        ensures teller { IfOk result (λ o. IfSome o (λ made. IsTeller made)) }
-        ensures changes { IfOk result (λ o. IfSome o (λ made. made.changes.all.now ≡ changes.now)) }
-        ensures flow { IfOk result (λ o. IfSome o (λ made. made.search.flow.table.now ≡ flow.now)) }
+    ) -> Result<Teller<'a>, AllocError>
+        requires numbered { AreNumbered changes.now }
+        requires flow { IsFlowOfPlaces flow.now places }
+        ensures teller { IfOk result (λ made. IsTeller made) }
+        ensures changes { IfOk result (λ made. made.changes.all.now ≡ changes.now) }
+        ensures flow { IfOk result (λ made. made.search.flow.table.now ≡ flow.now) }
     {
-        let Some(changes) = Changes::new(alloc, changes)? else {
-            return Ok(None);
-        };
-        let Some(search) = Search::new(alloc, flow, places)? else {
-            return Ok(None);
-        };
+        let changes = Changes::new(alloc, changes)?;
+        let search = Search::new(alloc, flow, places)?;
         let causes = Causes::new(alloc, places)?;
-        Ok(Some(Teller {
+        Ok(Teller {
             changes,
             search,
             causes,
-        }))
+        })
     }
 
-    /// The questions are on this scalar of a function from here on, which is this variable. Tells whether they can be answered.
+    /// The questions are on this scalar of a function from here on, which is this variable.
     pub fn turn_to(
         &mut self,
         alloc: Global,
         function: &mut Function<'_>,
         scalar: u32,
         var: Var,
-    ) -> Result<bool, AllocError>
+    ) -> Result<(), AllocError>
         requires teller { IsTeller self.old }
         requires function { IsFunction function.old }
         requires scalar { scalar < length (graph_view function.old.writers.graph.now).scalars }
         ensures teller { OnOk result (IsSameTeller self.old self.new) }
         ensures function { OnOk result (IsSameFunction function.old function.new) }
-        ensures scalar { IfOk result (λ b. b ≡ true → function.new.scalar ≡ scalar) }
-        ensures var { IfOk result (λ b. b ≡ true → self.new.search.flow.var.0 ≡ var.0) }
-        ensures ready { IfOk result (λ b. b ≡ true → IsReady self.new function.new) }
+        ensures scalar { OnOk result (function.new.scalar ≡ scalar) }
+        ensures var { OnOk result (self.new.search.flow.var.0 ≡ var.0) }
+        ensures ready { OnOk result (IsReady self.new function.new) }
     {
         self.causes.forget();
-        if !self.search.turn_to(alloc, var)?
-            || !function.turn_to(alloc, &self.changes, scalar, var)?
-        {
-            return Ok(false);
-        }
+        self.search.turn_to(alloc, var)?;
+        function.turn_to(alloc, &self.changes, scalar, var)?;
         let question = Question {
             changes: &self.changes,
             search: &self.search,
             function,
         };
-        if !self.causes.add_removed(alloc, question)? {
-            return Ok(false);
-        }
-        if !self.causes.add_moved(alloc, question)? {
-            return Ok(false);
-        }
-        Ok(self.causes.add_reused(alloc, question)?)
+        self.causes.add_removed(alloc, question)?;
+        self.causes.add_moved(alloc, question)?;
+        self.causes.add_reused(alloc, question)?;
+        Ok(())
     }
 
-    /// What hides the scalar of the function at a place, the first that does.
-    pub fn cause_at(&self, function: &Function<'_>, place: Place) -> Option<Cause>
-        requires { IsReady self.now function.now }
-        ensures hides { IfSome result (λ cause. HidesAt self.now.changes self.now.search function.now place.0 cause) }
-        ensures first { MatchOption result (HasNoneAt self.now.changes self.now.search function.now place.0) (λ cause. IsFirstAt self.now.changes self.now.search function.now place.0 cause) }
+    /// What hides the scalar of the function at a place where something does, the first that does.
+    pub fn cause_at(&self, function: &Function<'_>, place: Place) -> Cause
+        requires ready { IsReady self.now function.now }
+        requires hidden { HasNoneAt self.now.changes self.now.search function.now place.0 → ⊥ }
+        ensures hides { HidesAt self.now.changes self.now.search function.now place.0 result }
+        ensures first { IsFirstAt self.now.changes self.now.search function.now place.0 result }
     {
         let question = Question {
             changes: &self.changes,

@@ -12,12 +12,14 @@ use Rattle.graph_core.specs.declared.value.Value.TheVariants.{Odd}
 use Rattle.graph_core.specs.Graphs.{Recipe, NoteValue, Is, Instruction, Marker, Note, Move, Operate, Truncate, Same, Address, Load, Store, Zero, CopyWords, Call, Binding, ToScalar, ToObject, Block, End, Graph, binding_view}
 use Rattle.graph_core.specs.Uses.{target_of, targets_of}
 use Rattle.graph_core.specs.Paths.{Among, front, behind, History, Path, Way, path, stays, passes, goes, last_note, note_by, notes}
+use Rattle.currency_notes.specs.declared.function.Function as declared-function
 use Rattle.currency_notes.specs.declared.homes.Homes as declared-homes
 use Rattle.currency_notes.specs.declared.state.State as declared-state
 use Rattle.currency_notes.specs.Homes.{home_by, number_in, IsRead, IsUnread}
 use Rattle.currency_notes.specs.Notes.{recipe_in, IsBound, IsJoined, IsKept, IsWithin}
 use Rattle.currency_notes.specs.Numbered.{AreNumbered, AreToldApart, IsNoteIn}
 use Rattle.currency_notes.specs.Full.{IsEqual, IsFull, IsLeft}
+use Rattle.currency_notes.specs.Ranks.{IsSized}
 use Rattle.currency_notes.proofs.Lists.{get_any, get_put_other, get_put_same, take_one_more}
 use Rattle.currency_notes.proofs.Steps.{bound_more, same_self}
 use Rattle.currency_notes.proofs.Sourcing.{told_equal}
@@ -99,6 +101,18 @@ put_size m z s t none put = at_number (number_in m z) refl
     at_number : (o : Option ℕ) → number_in m z ≡ o → length t.written.items ≡ length s.written.items
     at_number None q = ap (λ xs. length xs) (none q)
     at_number (Some j) q = ap (λ xs. length xs) (put j q) ∙ length-set s.written.items j (Some z)
+
+-- the same behind an instruction
+pub kept_homes : (m : declared-homes.Homes) (i : Instruction) (s t : declared-state.State) → IsKept m i s t → length t.written.items ≡ length s.written.items
+kept_homes m i s t kept = at_target (target_of i) refl
+  where
+    at_target : (o : Option ℕ) → target_of i ≡ o → length t.written.items ≡ length s.written.items
+    at_target None q = ap (λ xs. length xs) (kept.none (λ z j target given. none-some z (sym q ∙ target)))
+    at_target (Some z) q = put_size m z s t (λ none. kept.none (λ w j target given. none-some j (sym none ∙ ap (λ a. number_in m a) (same_Some z w (sym q ∙ target)) ∙ given))) (λ j given. kept.put z j q given)
+
+-- a state of a function is one behind an instruction
+pub kept_sized : (f : declared-function.Function) (i : Instruction) (s t : declared-state.State) → IsKept f.homes i s t → IsSized f s → IsSized f t
+kept_sized f i s t kept sized = (kept.size ∙ sized.0, kept_homes f.homes i s t kept ∙ sized.1)
 
 module _ (m : declared-homes.Homes) (g : Graph) (told : AreToldApart m) (numbered : AreNumbered m g) where
   abbrev home : ℕ → Home
@@ -182,13 +196,6 @@ module _ (m : declared-homes.Homes) (g : Graph) (told : AreToldApart m) (numbere
             put_held z y k s t number full.homes (λ none. kept.none (λ w j target given. none-some j (sym none ∙ ap (λ a. number_in m a) (same_Some z w (sym q ∙ target)) ∙ given))) (λ j given. kept.put z j q given)
             (λ f. same_Some z y (sym q ∙ same (ap (λ o. is_home_of home (home y) o) q ∙ f))) (λ f. other (ap (λ o. is_home_of home (home y) o) q ∙ f))
 
-    size_next : length t.written.items ≡ length s.written.items
-    size_next = at_target (target_of i) refl
-      where
-        at_target : (o : Option ℕ) → target_of i ≡ o → length t.written.items ≡ length s.written.items
-        at_target None q = ap (λ xs. length xs) (kept.none (λ z j target given. none-some z (sym q ∙ target)))
-        at_target (Some z) q = put_size m z s t (λ none. kept.none (λ w j target given. none-some j (sym none ∙ ap (λ a. number_in m a) (same_Some z w (sym q ∙ target)) ∙ given))) (λ j given. kept.put z j q given)
-
     -- a state is full behind an instruction
     pub full_step : IsFull m g t n rest e
     full_step = record {
@@ -197,7 +204,7 @@ module _ (m : declared-homes.Homes) (g : Graph) (told : AreToldApart m) (numbere
       noted = noted_next;
       written = written_next;
       scalars = kept.size ∙ full.scalars;
-      homes = size_next ∙ full.homes;
+      homes = kept_homes m i s t kept ∙ full.homes;
     }
 
 module _ (m : declared-homes.Homes) (g : Graph) where

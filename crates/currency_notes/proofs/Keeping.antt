@@ -86,14 +86,3 @@ module _ (m : declared-homes.Homes) where
     none = λ none. refl;
     size = refl;
   }
-
--- one scalar more was joined
-pub joined_put : (old from now : List declared-noted.Noted) (k : ℕ) (a b joined : declared-noted.Noted) → k < length now → a ≡ get_or now k a → k < length from → b ≡ get_or from k b → ((r : Recipe) → recipe_of k a ≡ Some r → recipe_of k b ≡ Some r → recipe_of k joined ≡ Some r)
-    → ((x : ℕ) (r : Recipe) → recipe_in old x ≡ Some r → recipe_in from x ≡ Some r → recipe_in now x ≡ Some r) → (x : ℕ) (r : Recipe) → recipe_in old x ≡ Some r → recipe_in from x ≡ Some r → recipe_in (slice_set now k joined) x ≡ Some r
-joined_put old from now k a b joined lt is lt2 is2 one before x r said too = elim (eqb_tells x k) [
-  | inl e ↦ (let here : recipe_in now k ≡ Some r = subst (λ z. recipe_in now z ≡ Some r) e.1 (before x r said too) in
-      let there : recipe_in from k ≡ Some r = subst (λ z. recipe_in from z ≡ Some r) e.1 too in
-      subst (λ z. recipe_in (slice_set now k joined) z ≡ Some r) (sym e.1)
-      (put_same now k joined lt ∙ one r (sym (at_said now k a (slice_get-get_or now k a lt ∙ ap Some (sym is))) ∙ here) (sym (at_said from k b (slice_get-get_or from k b lt2 ∙ ap Some (sym is2))) ∙ there)))
-  | inr e ↦ put_other now k joined x r e.1 (before x r said too)
-]

@@ -6,3 +6,4 @@ pub mod Sourcing
 mod Losing
 mod Keeping
 pub mod Filling
+pub mod Lowering

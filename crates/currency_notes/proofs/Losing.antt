@@ -73,17 +73,3 @@ so_first m ps s none each = record {
   untouched = λ x r said. absurd (none x r said);
   written = each;
 }
-
--- a scalar of which a recipe is noted stands in the list
-pub noted_within : (all : List declared-noted.Noted) (x : ℕ) (r : Recipe) → recipe_in all x ≡ Some r → x < length all
-noted_within all x r said = (let f = said_at all x r said in slice_get_within all x f.0 f.1)
-
--- one scalar more was compared
-pub noted_more : (less more : List declared-noted.Noted) (k : ℕ) (a b : declared-noted.Noted) → k < length less → a ≡ get_or less k a → k < length more → b ≡ get_or more k b → ((x : ℕ) (r : Recipe) → recipe_of x a ≡ Some r → recipe_of x b ≡ Some r)
-    → ((x : ℕ) (r : Recipe) → x < k → recipe_in less x ≡ Some r → recipe_in more x ≡ Some r) → (x : ℕ) (r : Recipe) → x < k + 1 → recipe_in less x ≡ Some r → recipe_in more x ≡ Some r
-noted_more less more k a b lt is lt2 is2 one before x r small said = elim (eqb_tells x k) [
-  | inl e ↦ (let here = at_said less k a (slice_get-get_or less k a lt ∙ ap Some (sym is)) in
-      let there = at_said more k b (slice_get-get_or more k b lt2 ∙ ap Some (sym is2)) in
-      subst (λ z. recipe_in more z ≡ Some r) (sym e.1) (there ∙ one k r (sym here ∙ subst (λ z. recipe_in less z ≡ Some r) e.1 said)))
-  | inr e ↦ before x r (omega (arith, small, e.1)) said
-]

@@ -56,31 +56,6 @@ told_cases all x n y c e =
 pub told_lost : (old new : List declared-noted.Noted) (x : ℕ) → new ≡ slice_set old x noted.Lost → (y : ℕ) (c : Option ℕ) → told_in new y ≡ Some c → told_in old y ≡ Some c
 told_lost old new x put y c e = elim (told_cases old x noted.Lost y c (subst (λ (all : List declared-noted.Noted). told_in all y ≡ Some c) put e)) [ inl f ↦ absurd (none-some c f.1) | inr f ↦ f.1 ]
 
--- one scalar more was joined
-pub joined_told : (old from now : List declared-noted.Noted) (k : ℕ) (a b joined : declared-noted.Noted) → k < length now → a ≡ get_or now k a → k < length from → b ≡ get_or from k b → ((c : Option ℕ) → told_of joined ≡ Some c → (told_of a ≡ Some c) ⊎ (told_of b ≡ Some c))
-    → ((x : ℕ) (c : Option ℕ) → told_in now x ≡ Some c → (told_in old x ≡ Some c) ⊎ (told_in from x ≡ Some c)) → (x : ℕ) (c : Option ℕ) → told_in (slice_set now k joined) x ≡ Some c → (told_in old x ≡ Some c) ⊎ (told_in from x ≡ Some c)
-joined_told old from now k a b joined lt is lt2 is2 one before x c e = elim (told_cases now k joined x c e) [
-  | inl f ↦ elim (one c f.1) [
-    | inl g ↦ before x c (subst (λ z. told_in now z ≡ Some c) (sym f.0) (told_there now k a (slice_get-get_or now k a lt ∙ ap Some (sym is)) ∙ g))
-    | inr g ↦ inr (subst (λ z. told_in from z ≡ Some c) (sym f.0) (told_there from k b (slice_get-get_or from k b lt2 ∙ ap Some (sym is2)) ∙ g))
-  ]
-  | inr f ↦ before x c f.1
-]
-
--- one scalar more was compared
-pub told_more : (less more : List declared-noted.Noted) (k : ℕ) (a b : declared-noted.Noted) → k < length less → a ≡ get_or less k a → k < length more → b ≡ get_or more k b → IsToldWithin (told_of a) (told_of b)
-    → ((x : ℕ) → x < k → IsToldWithin (told_in less x) (told_in more x)) → (x : ℕ) → x < k + 1 → IsToldWithin (told_in less x) (told_in more x)
-told_more less more k a b lt is lt2 is2 one before x small = elim (eqb_tells x k) [
-  | inl e ↦ (let here : told_in less x ≡ told_of a = ap (λ z. told_in less z) e.1 ∙ told_there less k a (slice_get-get_or less k a lt ∙ ap Some (sym is)) in
-      let there : told_in more x ≡ told_of b = ap (λ z. told_in more z) e.1 ∙ told_there more k b (slice_get-get_or more k b lt2 ∙ ap Some (sym is2)) in
-      subst (λ (o : Option (Option ℕ)). IsToldWithin o (told_in more x)) (sym here) (subst (λ (o : Option (Option ℕ)). IsToldWithin (told_of a) o) (sym there) one))
-  | inr e ↦ before x (omega (arith, small, e.1))
-]
-
--- a scalar of which something is told stands in the list
-pub told_all : (less more : List declared-noted.Noted) (k : ℕ) → length less ≤ k → ((x : ℕ) → x < k → IsToldWithin (told_in less x) (told_in more x)) → (x : ℕ) → IsToldWithin (told_in less x) (told_in more x)
-told_all less more k le each x c e = (let f = told_stands less x c e in let lt = slice_get_within less x f.0 f.1 in each x (omega (arith, le, lt)) c e)
-
 -- equal lists
 pub told_equal : (one other : List declared-noted.Noted) → one ≡ other → (x : ℕ) → IsToldWithin (told_in one x) (told_in other x)
 told_equal one other same x c e = (c, subst (λ (all : List declared-noted.Noted). told_in all x ≡ Some c) same e, λ d le. le)

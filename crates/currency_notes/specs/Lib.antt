@@ -3,4 +3,5 @@ pub mod Numbers
 pub mod Numbered
 pub mod Notes
 pub mod Full
+pub mod Ranks
 pub mod Sources

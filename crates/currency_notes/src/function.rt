@@ -24,7 +24,8 @@ pub struct Function<'a> {
 impl Function<'_> {
     /// The variable that a scalar is.
     fn variable_of(&self, scalar: u32) -> Option<Var>
-        ensures { option_map (λ (v : declared-var.Var). v.0) result ≡ variable_in (graph_view self.now.graph.now) scalar }
+        ensures { option_map (λ (v : declared-var.Var). v.0) result
+            ≡ variable_in (graph_view self.now.graph.now) scalar }
     {
         match self.graph.scalars.get(scalar as usize) {
             Some(found) => Some(found.var),
@@ -34,7 +35,9 @@ impl Function<'_> {
 
     /// The first change that removed an assignment of a scalar at a place, if one did.
     pub fn removal(&self, place: Option<Place>, scalar: u32) -> Option<u32>
-        ensures { (log : List Logged) → AreToldOf log self.now.removed.now → IsFirstOf log (graph_view self.now.graph.now) (option_map (λ (p : declared-place.Place). p.0) place) scalar result }
+        ensures { (log : List Logged) → AreToldOf log self.now.removed.now
+            → IsFirstOf log (graph_view self.now.graph.now) (option_map (λ (p : declared-place.Place). p.0) place)
+            scalar result }
     {
         let Some(var) = self.variable_of(scalar) else {
             return None;

@@ -83,7 +83,8 @@ impl<'a> Homes<'a> {
     /// The homes of the names of a function.
     pub fn new(alloc: Global, graph: &Graph, homes: &'a [Home]) -> Result<Homes<'a>, AllocError>
         ensures homes { IfOk result (λ made. made.homes.now ≡ homes.now) }
-        ensures count { IfOk result (λ made. length made.numbers.items ≡ min (length homes.now + 32) 18446744073709551615) }
+        ensures count { IfOk result
+            (λ made. length made.numbers.items ≡ min (length homes.now + 32) 18446744073709551615) }
         ensures numbered { IfOk result (λ made. AreNumbered made (graph_view graph.now)) }
     {
         let mut made = Homes {
@@ -155,7 +156,8 @@ impl<'a> Homes<'a> {
 
     /// The next number is given to a home that has none yet.
     fn give_number(&mut self, alloc: Global, home: usize) -> Result<usize, AllocError>
-        ensures more { OnOk result (((k : ℕ) → slice_get self.old.numbers.items home ≡ Some (Some k) → ⊥) → IsMore self.old self.new) }
+        ensures more { OnOk result
+            (((k : ℕ) → slice_get self.old.numbers.items home ≡ Some (Some k) → ⊥) → IsMore self.old self.new) }
         ensures number { IfOk result (λ k. self.new.numbers.items ≡ slice_set self.old.numbers.items home (Some k)) }
     {
         let number = self.readers.len();
@@ -167,7 +169,8 @@ impl<'a> Homes<'a> {
     /// The new number of the home of a name, which is given one where it has none yet.
     fn number_anew(&mut self, alloc: Global, name: u32) -> Result<usize, AllocError>
         ensures more { OnOk result (IsMore self.old self.new) }
-        ensures number { IfOk result (λ k. number_at (home_by self.new name) < length self.new.numbers.items → number_in self.new name ≡ Some k) }
+        ensures number { IfOk result (λ k.
+            number_at (home_by self.new name) < length self.new.numbers.items → number_in self.new name ≡ Some k) }
     {
         match self.number(name) {
             Some(number) => Ok(number),
@@ -219,7 +222,9 @@ impl<'a> Homes<'a> {
     /// What a note of a scalar says.
     fn add_value(&mut self, alloc: Global, value: &NoteValue, scalar: u32) -> Result<(), AllocError>
         ensures more { OnOk result (IsMore self.old self.new) }
-        ensures read { OnOk result (AreOrderly self.old → (r : RecipeForm) → note_view value.now ≡ Is r → (y : ℕ) → Among y (names_in r) → IsReaderOf self.new y scalar) }
+        ensures read { OnOk result
+            (AreOrderly self.old → (r : RecipeForm) → note_view value.now ≡ Is r → (y : ℕ) → Among y (names_in r)
+            → IsReaderOf self.new y scalar) }
     {
         match value {
             NoteValue::Is(recipe) => {
@@ -234,7 +239,9 @@ impl<'a> Homes<'a> {
     /// An instruction, if it is a note.
     fn add_note(&mut self, alloc: Global, instruction: &Instr) -> Result<(), AllocError>
         ensures more { OnOk result (IsMore self.old self.new) }
-        ensures read { OnOk result (AreOrderly self.old → (x : ℕ) (r : RecipeForm) → instruction_view instruction.now ≡ Note x (Is r) → (y : ℕ) → Among y (names_in r) → IsReaderOf self.new y x) }
+        ensures read { OnOk result
+            (AreOrderly self.old → (x : ℕ) (r : RecipeForm) → instruction_view instruction.now ≡ Note x (Is r)
+            → (y : ℕ) → Among y (names_in r) → IsReaderOf self.new y x) }
     {
         match instruction {
             Instr::Note { of, value } => {
@@ -248,7 +255,8 @@ impl<'a> Homes<'a> {
     /// The notes of a block.
     fn add_block(&mut self, alloc: Global, block: &Block) -> Result<(), AllocError>
         ensures more { OnOk result (IsMore self.old self.new) }
-        ensures read { OnOk result (AreOrderly self.old → AreNotesRead self.new (map instruction_view block.now.instructions.items)) }
+        ensures read { OnOk result
+            (AreOrderly self.old → AreNotesRead self.new (map instruction_view block.now.instructions.items)) }
     {
         for instruction in &block.instructions {
             self.add_note(alloc, instruction)?;

@@ -20,14 +20,16 @@ pub enum Noted<'a> {
     Lost,
     /// That its value is its own.
     Own,
-    /// A recipe, and the least change that removed an assignment at a place where such a note comes from, if there is one.
+    /// A recipe, and the least change that removed an assignment at a place where such a note comes from, if there is
+    /// one.
     Recipe {
         recipe: &'a Recipe,
         change: Option<u32>,
     },
 }
 
-/// What a note says of a scalar. A recipe counts only where the scalar is among those whose notes may read the homes of its names.
+/// What a note says of a scalar. A recipe counts only where the scalar is among those whose notes may read the homes of
+/// its names.
 pub fn read_note<'a>(
     function: &Function<'a>,
     of: Name,
@@ -35,9 +37,12 @@ pub fn read_note<'a>(
     place: Option<Place>,
 ) -> Noted<'a>
     ensures says { (r : RecipeForm) → recipe_of of.0 result ≡ Some r → note_view value.now ≡ Is r }
-    ensures full { (r : RecipeForm) → note_view value.now ≡ Is r → AreReadBy function.now.homes r of.0 → recipe_of of.0 result ≡ Some r }
+    ensures full { (r : RecipeForm) → note_view value.now ≡ Is r → AreReadBy function.now.homes r of.0
+        → recipe_of of.0 result ≡ Some r }
     ensures read { (r : RecipeForm) → recipe_of of.0 result ≡ Some r → AreReadBy function.now.homes r of.0 }
-    ensures told { (log : List Logged) (c : Option ℕ) → AreToldOf log function.now.removed.now → told_of result ≡ Some c → IsFirstOf log (graph_view function.now.graph.now) (option_map (λ (p : declared-place.Place). p.0) place) of.0 c }
+    ensures told { (log : List Logged) (c : Option ℕ) → AreToldOf log function.now.removed.now → told_of result ≡ Some c
+        → IsFirstOf log (graph_view function.now.graph.now) (option_map (λ (p : declared-place.Place). p.0) place) of.0
+        c }
 {
     match value {
         NoteValue::Gone(_) => Noted::Lost,

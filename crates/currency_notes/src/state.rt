@@ -8,6 +8,7 @@ ghost use Rattle.graph_core.specs.Validity.{place_behind as place_behind_all};
 ghost use Rattle.currency_notes.specs.Homes.{IsUnread, readers_of};
 ghost use Rattle.currency_notes.specs.Notes.{IsBound, IsKept, IsSo, IsWritten, noted_in, recipe_in, recipe_of, told_in};
 ghost use Rattle.currency_notes.specs.Full.{AreExact, IsEqual, IsFullAt};
+ghost use Rattle.currency_notes.specs.Ranks.{IsSized};
 ghost use Rattle.currency_notes.specs.Sources.{IsAttained, IsToldBy};
 ghost use Rattle.dead_pass_writes.specs.RemovedChangesTelling.{AreToldOf};
 
@@ -20,7 +21,9 @@ use std::alloc::{AllocError, Global};
 
 /// The place in force behind an instruction.
 pub fn place_behind(instruction: &Instr, before: Option<Place>) -> Option<Place>
-    ensures { option_map (λ (p : declared-place.Place). p.0) result ≡ place_behind_all (instruction_view instruction.now ∷ []) (option_map (λ (p : declared-place.Place). p.0) before) }
+    ensures { option_map (λ (p : declared-place.Place). p.0) result
+        ≡ place_behind_all (instruction_view instruction.now ∷ [])
+        (option_map (λ (p : declared-place.Place). p.0) before) }
 {
     match instruction.marker() {
         Some(place) => Some(place),
@@ -53,9 +56,14 @@ impl<'a> State<'a> {
 
     /// The function begins: its parameters are bound, all others were never written.
     pub fn entered(alloc: Global, function: &Function<'a>) -> Result<State<'a>, AllocError>
-        ensures so { IfOk result (λ s. IsSo function.now.homes (map binding_view function.now.graph.now.parameters.items) s []) }
-        ensures full { IfOk result (λ s. AreExact function.now → (b : BlockForm) → slice_get (graph_view function.now.graph.now).blocks 0 ≡ Some b → IsFullAt function.now s 0 b.instructions b.end) }
+        ensures so { IfOk result
+            (λ s. IsSo function.now.homes (map binding_view function.now.graph.now.parameters.items) s []) }
+        ensures full { IfOk result (λ s.
+            AreExact function.now → (b : BlockForm)
+            → slice_get (graph_view function.now.graph.now).blocks 0 ≡ Some b
+            → IsFullAt function.now s 0 b.instructions b.end) }
         ensures told { IfOk result (λ s. (x : ℕ) (c : Option ℕ) → told_in s.noted.items x ≡ Some c → ⊥) }
+        ensures sized { IfOk result (λ s. IsSized function.now s) }
     {
         let mut state = State::new(alloc, function)?;
         for binding in &function.graph.parameters {
@@ -95,7 +103,8 @@ impl<'a> State<'a> {
 
     /// Whether what is last noted of a scalar reads the home of a name.
     fn reads(&self, function: &Function<'a>, scalar: u32, name: u32) -> bool
-        ensures { (r : RecipeForm) → recipe_in self.now.noted.items scalar ≡ Some r → (result ≡ false) ↔ IsUnread function.now.homes r name }
+        ensures { (r : RecipeForm) → recipe_in self.now.noted.items scalar ≡ Some r
+            → (result ≡ false) ↔ IsUnread function.now.homes r name }
     {
         match self.last_of(scalar) {
             Noted::Lost => false,
@@ -108,10 +117,15 @@ impl<'a> State<'a> {
     fn lose_one(&mut self, function: &Function<'a>, scalar: u32, name: u32)
         ensures written { self.new.written.items ≡ self.old.written.items }
         ensures size { length self.new.noted.items ≡ length self.old.noted.items }
-        ensures kept { (x : ℕ) (r : RecipeForm) → recipe_in self.old.noted.items x ≡ Some r → IsUnread function.now.homes r name → recipe_in self.new.noted.items x ≡ Some r }
-        ensures less { (x : ℕ) (r : RecipeForm) → recipe_in self.new.noted.items x ≡ Some r → recipe_in self.old.noted.items x ≡ Some r }
-        ensures unread { (r : RecipeForm) → recipe_in self.new.noted.items scalar ≡ Some r → IsUnread function.now.homes r name }
-        ensures told { (x : ℕ) (c : Option ℕ) → told_in self.new.noted.items x ≡ Some c → told_in self.old.noted.items x ≡ Some c }
+        ensures kept { (x : ℕ) (r : RecipeForm) → recipe_in self.old.noted.items x ≡ Some r
+            → IsUnread function.now.homes r name
+            → recipe_in self.new.noted.items x ≡ Some r }
+        ensures less { (x : ℕ) (r : RecipeForm) → recipe_in self.new.noted.items x ≡ Some r
+            → recipe_in self.old.noted.items x ≡ Some r }
+        ensures unread { (r : RecipeForm) → recipe_in self.new.noted.items scalar ≡ Some r
+            → IsUnread function.now.homes r name }
+        ensures told { (x : ℕ) (c : Option ℕ) → told_in self.new.noted.items x ≡ Some c → told_in self.old.noted.items x
+            ≡ Some c }
     {
         if self.reads(function, scalar, name) {
             self.put_note(scalar, Noted::Lost);
@@ -122,10 +136,15 @@ impl<'a> State<'a> {
     fn lose(&mut self, function: &Function<'a>, readers: &[u32], name: u32)
         ensures written { self.new.written.items ≡ self.old.written.items }
         ensures size { length self.new.noted.items ≡ length self.old.noted.items }
-        ensures kept { (x : ℕ) (r : RecipeForm) → recipe_in self.old.noted.items x ≡ Some r → IsUnread function.now.homes r name → recipe_in self.new.noted.items x ≡ Some r }
-        ensures less { (x : ℕ) (r : RecipeForm) → recipe_in self.new.noted.items x ≡ Some r → recipe_in self.old.noted.items x ≡ Some r }
-        ensures unread { (x : ℕ) (r : RecipeForm) → recipe_in self.new.noted.items x ≡ Some r → Among x readers.now → IsUnread function.now.homes r name }
-        ensures told { (x : ℕ) (c : Option ℕ) → told_in self.new.noted.items x ≡ Some c → told_in self.old.noted.items x ≡ Some c }
+        ensures kept { (x : ℕ) (r : RecipeForm) → recipe_in self.old.noted.items x ≡ Some r
+            → IsUnread function.now.homes r name
+            → recipe_in self.new.noted.items x ≡ Some r }
+        ensures less { (x : ℕ) (r : RecipeForm) → recipe_in self.new.noted.items x ≡ Some r
+            → recipe_in self.old.noted.items x ≡ Some r }
+        ensures unread { (x : ℕ) (r : RecipeForm) → recipe_in self.new.noted.items x ≡ Some r → Among x readers.now
+            → IsUnread function.now.homes r name }
+        ensures told { (x : ℕ) (c : Option ℕ) → told_in self.new.noted.items x ≡ Some c → told_in self.old.noted.items x
+            ≡ Some c }
     {
         for scalar in readers {
             self.lose_one(function, *scalar, name);
@@ -165,9 +184,13 @@ impl<'a> State<'a> {
 
     /// Steps over an instruction in a place.
     pub fn step(&mut self, function: &Function<'a>, instruction: &'a Instr, place: Option<Place>)
-        ensures so { (ps : List BindingForm) (p : Passed) (h : History) → p.instruction ≡ instruction_view instruction.now → IsSo function.now.homes ps self.old h → IsSo function.now.homes ps self.new (p ∷ h) }
+        ensures so { (ps : List BindingForm) (p : Passed) (h : History) → p.instruction
+            ≡ instruction_view instruction.now
+            → IsSo function.now.homes ps self.old h → IsSo function.now.homes ps self.new (p ∷ h) }
         ensures kept { IsKept function.now.homes (instruction_view instruction.now) self.old self.new }
-        ensures told { (log : List Logged) → AreToldOf log function.now.removed.now → IsToldBy log (graph_view function.now.graph.now) (instruction_view instruction.now) (option_map (λ (p : declared-place.Place). p.0) place) self.old self.new }
+        ensures told { (log : List Logged) → AreToldOf log function.now.removed.now
+            → IsToldBy log (graph_view function.now.graph.now) (instruction_view instruction.now)
+            (option_map (λ (p : declared-place.Place). p.0) place) self.old self.new }
     {
         if let Instr::Note { of, value } = instruction {
             self.put_note(of.0, read_note(function, *of, value, place));
@@ -178,8 +201,15 @@ impl<'a> State<'a> {
 
     /// Steps over the instructions of a block.
     pub fn walk(&mut self, function: &Function<'a>, block: &'a Block)
-        ensures full { (n : ℕ) (e : EndForm) → AreExact function.now → IsFullAt function.now self.old n (map instruction_view block.now.instructions.items) e → IsFullAt function.now self.new n [] e }
-        ensures attained { (log : List Logged) (n : ℕ) (e : EndForm) → AreToldOf log function.now.removed.now → slice_get (graph_view function.now.graph.now).blocks n ≡ Some (block_view block.now) → IsAttained log (graph_view function.now.graph.now) self.old n (map instruction_view block.now.instructions.items) e → IsAttained log (graph_view function.now.graph.now) self.new n [] e }
+        ensures sized { IsSized function.now self.old → IsSized function.now self.new }
+        ensures full { (n : ℕ) (e : EndForm) → AreExact function.now
+            → IsFullAt function.now self.old n (map instruction_view block.now.instructions.items) e
+            → IsFullAt function.now self.new n [] e }
+        ensures attained { (log : List Logged) (n : ℕ) (e : EndForm) → AreToldOf log function.now.removed.now
+            → slice_get (graph_view function.now.graph.now).blocks n ≡ Some (block_view block.now)
+            → IsAttained log (graph_view function.now.graph.now) self.old n
+            (map instruction_view block.now.instructions.items) e
+            → IsAttained log (graph_view function.now.graph.now) self.new n [] e }
     {
         let mut place = block.place;
         for instruction in &block.instructions {

@@ -1,53 +1,23 @@
 //! Whether less is so in one state than in another.
 
-ghost use Rattle.std.specs.Prelude.{◌≡◌, ℕ, Option, Some, slice_get, true};
-ghost use Rattle.graph_core.specs.Graphs.{Recipe as RecipeForm};
-ghost use Rattle.currency_notes.specs.Notes.{IsAtMost, IsToldWithin, IsWithin, recipe_in, recipe_of, told_in, told_of};
+ghost use Rattle.std.specs.Prelude.{◌≡◌, ℕ, false, true};
+ghost use Rattle.currency_notes.specs.Notes.{IsWithin, noted_in};
+ghost use Rattle.currency_notes.specs.Ranks.{AreWrittenWithin, IsNotedWithin};
 
-use crate::is_same;
+use crate::joining::{is_lost, join, name_of, noted_of};
 use crate::noted::Noted;
 use crate::state::State;
 
-/// Whether a change is no greater than another one, if that is one.
-fn is_at_most(one: Option<u32>, other: Option<u32>) -> bool
-    ensures { result ≡ true → (d : ℕ) → IsAtMost other d → IsAtMost one d }
-{
-    match (one, other) {
-        (Some(x), Some(y)) => x <= y,
-        (Some(_), None) | (None, None) => true,
-        (None, Some(_)) => false,
-    }
-}
-
-/// Whether what is noted is as in another state, with a change that is no greater, or nothing.
-fn is_noted(one: Noted<'_>, other: Noted<'_>) -> bool
-    ensures noted { result ≡ true → (x : ℕ) (r : RecipeForm) → recipe_of x one.entry ≡ Some r → recipe_of x other.entry ≡ Some r }
-    ensures told { result ≡ true → IsToldWithin (told_of one.entry) (told_of other.entry) }
-{
-    match (one, other) {
-        (Noted::Lost, _) | (Noted::Own, Noted::Own) => true,
-        (
-            Noted::Recipe { recipe, change },
-            Noted::Recipe {
-                recipe: other_recipe,
-                change: other_change,
-            },
-        ) => is_at_most(change, other_change) && is_same(recipe, other_recipe),
-        _ => false,
-    }
-}
-
-/// Whether what is noted of each scalar is as in another state, or nothing.
+/// Whether no more is noted of each scalar than in another state.
 fn are_noted(less: &[Noted<'_>], more: &[Noted<'_>]) -> bool
-    ensures noted { result ≡ true → (x : ℕ) (r : RecipeForm) → recipe_in less.now x ≡ Some r → recipe_in more.now x ≡ Some r }
-    ensures told { result ≡ true → (x : ℕ) → IsToldWithin (told_in less.now x) (told_in more.now x) }
+    ensures within { result ≡ true → (x : ℕ) → IsNotedWithin x (noted_in less.now x) (noted_in more.now x) }
+    ensures apart { result ≡ false
+        → ((x : ℕ) → IsNotedWithin x (noted_in less.now x) (noted_in more.now x)) → ⊥ }
 {
-    if less.len() > more.len() {
-        return false;
-    }
     for k in 0..less.len() {
-        if !is_noted(less[k], more[k]) {
-            return false;
+        match join(k, less[k], noted_of(more, k)) {
+            Some(_) => return false,
+            None => {}
         }
     }
     true
@@ -55,13 +25,11 @@ fn are_noted(less: &[Noted<'_>], more: &[Noted<'_>]) -> bool
 
 /// Whether each home was last written for the name as in another state, or nothing is known of it.
 fn are_written(less: &[Option<u32>], more: &[Option<u32>]) -> bool
-    ensures { result ≡ true → (k y : ℕ) → slice_get less.now k ≡ Some (Some y) → slice_get more.now k ≡ Some (Some y) }
+    ensures within { result ≡ true → AreWrittenWithin less.now more.now }
+    ensures apart { result ≡ false → AreWrittenWithin less.now more.now → ⊥ }
 {
-    if less.len() > more.len() {
-        return false;
-    }
     for k in 0..less.len() {
-        if less[k].is_some() && less[k] != more[k] {
+        if is_lost(less[k], name_of(more, k)) {
             return false;
         }
     }
@@ -71,7 +39,8 @@ fn are_written(less: &[Option<u32>], more: &[Option<u32>]) -> bool
 impl<'a> State<'a> {
     /// Whether no more is so than in another state.
     pub fn is_within(&self, other: &State<'a>) -> bool
-        ensures { result ≡ true → IsWithin self.now other.now }
+        ensures within { result ≡ true → IsWithin self.now other.now }
+        ensures apart { result ≡ false → IsWithin self.now other.now → ⊥ }
     {
         are_noted(&self.noted, &other.noted) && are_written(&self.written, &other.written)
     }

@@ -1,10 +1,12 @@
 -- What is met and told of goes on.
 use mathlib.Core.Bool.{true≢false}
-use Rattle.std.proofs.Common.{◌≡◌, ◌≢◌, inl, inr, ℕ, ◌<◌, true, false, Option, Some, List, [], ◌∷◌, ◌++◌, length, get_or, sym, ap, subst, ◌∙◌}
+use Rattle.std.proofs.Common.{◌≡◌, ◌≢◌, inl, inr, ℕ, ◌<◌, true, false, Option, Some, List, [], ◌∷◌, ◌++◌, length, get_or, refl, sym, ap, subst, ◌∙◌}
 use Rattle.std.specs.Prelude.{slice_get, slice_set, ◌⊎◌}
 use Rattle.std.specs.Global.{Vec}
 use Rattle.std.proofs.lemmas.Bool.Decides.{eqb_tells}
-use Rattle.std.proofs.lemmas.List.{get_or-set_same, get_or-set_other}
+use Rattle.std.proofs.lemmas.List.{get_or-set_same, get_or-set_other, length-set}
+use Rattle.std.proofs.lemmas.Option.{same_Some}
+use Rattle.places.specs.declared.table.PlaceRow as declared-row
 use Rattle.graph_core.specs.Graphs.{graph_view}
 use Rattle.graph_core.specs.Paths.{Among, front}
 use Rattle.std.specs.Option.{option_map_or}
@@ -14,8 +16,8 @@ use Rattle.currency_notes.specs.declared.state.State as declared-state
 use Rattle.currency_shown.specs.declared.found.Unshown as declared-unshown
 use Rattle.currency_shown.specs.declared.found.Found as declared-found
 use Rattle.currency_shown.specs.declared.survey.Survey as declared-survey
-use Rattle.currency_shown.specs.Found.{entries_of, is_met, IsPlaceOf, IsPlaceReached, IsShownBy, IsTold, IsAdded, IsNewPlace, Shows}
-use Rattle.currency_shown.specs.Survey.{AreMet, IsExtended, IsFound}
+use Rattle.currency_shown.specs.Found.{entries_of, is_met, AreOnlyOf, IsPlaceOf, IsPlaceReached, IsShownBy, IsTold, IsAdded, IsNewPlace, Shows}
+use Rattle.currency_shown.specs.Survey.{AreMet, IsExtended, IsFound, IsMetWith}
 use Rattle.base_laws.proofs.Booleans.{by_bool}
 
 pub extended_same : (v : declared-survey.Survey) (f : declared-found.Found) → AreMet v f → IsExtended v f f
@@ -52,7 +54,7 @@ found_on v f g s p more here = record {
 }
 
 -- a place that is new
-module _ (v : declared-survey.Survey) (f g : declared-found.Found) (s : declared-state.State) (p : ℕ) (new : IsNewPlace v.function.now.homes s v.numbering v.table.now v.number p f g) (all : AreMet v f) (reached : IsPlaceReached (graph_view v.function.now.graph.now) p) where
+module _ (v : declared-survey.Survey) (f g : declared-found.Found) (s : declared-state.State) (p : ℕ) (new : IsNewPlace v.function.now.homes s v.numbering v.table.now p f g) (all : AreMet v f) (placed : IsPlaceOf v.table.now v.number p) (reached : IsPlaceReached (graph_view v.function.now.graph.now) p) where
   met_more : (q : ℕ) → is_met f q ≡ true → is_met g q ≡ true
   met_more q e = ap (λ xs. get_or xs q false) new.met ∙ elim (eqb_tells q p) [
     | inl a ↦ ap (λ n. get_or (slice_set f.met.items p true) n false) a.1 ∙ get_or-set_same f.met.items p true false new.room
@@ -67,30 +69,36 @@ module _ (v : declared-survey.Survey) (f g : declared-found.Found) (s : declared
     met = met_more;
     kept = new.added.kept;
     only = λ x u there. elim (new.added.only x u there) [ inl a ↦ inl a | inr b ↦ inr (ap (λ q. is_met f q) b.0 ∙ new.fresh) ];
-    all = λ x u there. elim (new.added.only x u there) [
-      | inl a ↦ (met_more u.place.0 (all x u a).0, (all x u a).1, (all x u a).2)
-      | inr b ↦ (
-        ap (λ q. is_met g q) b.0 ∙ met_here,
-        subst (λ q. IsPlaceOf v.table.now v.number q) (sym b.0) (record { row = new.row; some = new.some; is = new.is; of = new.of }),
-        subst (λ q. IsPlaceReached (graph_view v.function.now.graph.now) q) (sym b.0) reached,
-      )
-    ];
+    all = record {
+      each = λ x u there. elim (new.added.only x u there) [
+        | inl a ↦ met_on u.place.0 x (all.each x u a)
+        | inr b ↦ elim (new.only x u there) [
+          | inl a ↦ met_on u.place.0 x (all.each x u a)
+          | inr seen ↦ subst (λ q. IsMetWith v g x q) (sym b.0) (met_here, placed, reached, record { row = new.row; is = new.is; seen = seen })
+        ]
+      ];
+      places = ap (λ xs. length xs) new.met ∙ length-set f.met.items p true ∙ all.places;
+      scalars = new.added.size ∙ all.scalars;
+    };
   }
+    where
+      met_on : (q x : ℕ) → IsMetWith v f x q → IsMetWith v g x q
+      met_on q x met = (met_more q met.0, met.1, met.2, met.3)
 
   pub found_new : IsFound v g s p
   found_new = record {
     row = new.row;
     some = new.some;
     is = new.is;
-    of = new.of;
+    of = ap (λ (r : declared-row.PlaceRow). r.function) (same_Some new.row placed.row (sym new.is ∙ placed.is)) ∙ placed.of;
     met = met_here;
     told = new.told;
     shown = λ x u there at. elim (new.added.only x u there) [
-      | inl a ↦ absurd (true≢false (sym (all x u a).0 ∙ ap (λ q. is_met f q) at ∙ new.fresh))
+      | inl a ↦ absurd (true≢false (sym (all.each x u a).0 ∙ ap (λ q. is_met f q) at ∙ new.fresh))
       | inr b ↦ b.1
     ];
     apart = λ x u there at. elim (new.added.only x u there) [
-      | inl a ↦ absurd (true≢false (sym (all x u a).0 ∙ ap (λ q. is_met f q) at ∙ new.fresh))
+      | inl a ↦ absurd (true≢false (sym (all.each x u a).0 ∙ ap (λ q. is_met f q) at ∙ new.fresh))
       | inr b ↦ b.2
     ];
   }
@@ -98,10 +106,11 @@ module _ (v : declared-survey.Survey) (f g : declared-found.Found) (s : declared
 -- what shows scalars at a place, one after the other
 module _ (m : declared-homes.Homes) (s : declared-state.State) (p : ℕ) where
   pub added_same : (all : List (Vec declared-unshown.Unshown)) → IsAdded m s p all all
-  added_same all = record { kept = λ x u there. there; only = λ x u there. inl there }
+  added_same all = record { size = refl; kept = λ x u there. there; only = λ x u there. inl there }
 
   pub added_on : (a b c : List (Vec declared-unshown.Unshown)) → IsAdded m s p a b → IsAdded m s p b c → IsAdded m s p a c
   added_on a b c one two = record {
+    size = two.size ∙ one.size;
     kept = λ x u there. two.kept x u (one.kept x u there);
     only = λ x u there. elim (two.only x u there) [ inl f ↦ one.only x u f | inr f ↦ inr f ];
   }
@@ -132,6 +141,7 @@ module _ (m : declared-homes.Homes) (s : declared-state.State) (p : ℕ) where
 
     pub added_one : IsAdded m s p old new
     added_one = record {
+      size = ap (λ (all : List (Vec declared-unshown.Unshown)). length all) put ∙ length-set old x w;
       kept = λ y z there. elim (eqb_tells y x) [
         | inl e ↦ subst (λ k. Among z (entries_of new k)) (sym e.1) (kept_there z (subst (λ k. Among z (entries_of old k)) e.1 there))
         | inr e ↦ subst (λ l. Among z l) (sym (entries_other y e.1)) there
@@ -144,3 +154,24 @@ module _ (m : declared-homes.Homes) (s : declared-state.State) (p : ℕ) where
 
     pub told_one : IsTold m s p new x
     told_one = inr (u, subst (λ l. Among u l) (sym entries_there) (among_right v.items (u ∷ []) front), at)
+
+    -- and it is one of that scalar alone
+    pub only_one : AreOnlyOf (λ y. y ≡ x) old new
+    only_one y z there = elim (eqb_tells y x) [ inl e ↦ inr e.1 | inr e ↦ inl (subst (λ l. Among z l) (entries_other y e.1) there) ]
+
+-- entries of some scalars alone, one list after the other
+pub only_same : (Is : ℕ → Type 0) (all : List (Vec declared-unshown.Unshown)) → AreOnlyOf Is all all
+only_same Is all x u there = inl there
+
+pub only_on : (Is : ℕ → Type 0) (a b c : List (Vec declared-unshown.Unshown)) → AreOnlyOf Is a b → AreOnlyOf Is b c → AreOnlyOf Is a c
+only_on Is a b c one two x u there = elim (two x u there) [ inl f ↦ one x u f | inr f ↦ inr f ]
+
+pub only_of : (Is Are : ℕ → Type 0) (a b : List (Vec declared-unshown.Unshown)) → ((x : ℕ) → Is x → Are x) → AreOnlyOf Is a b → AreOnlyOf Are a b
+only_of Is Are a b each one x u there = elim (one x u there) [ inl f ↦ inl f | inr f ↦ inr (each x f) ]
+
+-- what was met behind a place that is new
+pub met_cases : (v : declared-survey.Survey) (f g : declared-found.Found) (s : declared-state.State) (p : ℕ) → IsNewPlace v.function.now.homes s v.numbering v.table.now p f g → (q : ℕ) → is_met g q ≡ true → (is_met f q ≡ true) ⊎ (p ≡ q)
+met_cases v f g s p new q e = elim (eqb_tells q p) [
+  | inl a ↦ inr (sym a.1)
+  | inr b ↦ inl (sym (get_or-set_other f.met.items p q true false b.1) ∙ ap (λ xs. get_or xs q false) (sym new.met) ∙ e)
+]

@@ -1,9 +1,10 @@
 -- Chains are linked, and what comes to their blocks is full.
 use Rattle.std.proofs.Common.{◌≡◌, inl, inr, ℕ, zero, suc, ◌+◌, ◌<◌, ◌≤◌, Option, Some, None, List, [], ◌∷◌, ◌++◌, length, get_or, refl, sym, ap, subst, ◌∙◌, arith}
-use Rattle.std.specs.Prelude.{slice_get, slice_set, option_map, IfSome}
+use Rattle.std.specs.Prelude.{slice_get, slice_set, option_map}
 use Rattle.std.specs.Option.{option_map_or}
 use Rattle.std.specs.Global.{Vec}
 use Rattle.std.proofs.lemmas.Bool.Decides.{eqb_tells}
+use Rattle.std.proofs.lemmas.List.{length-set}
 use Rattle.std.proofs.lemmas.Option.{none-some, same_Some, slice_get-map, slice_get_within}
 use Rattle.graph_core.specs.declared.block.Block as declared-block
 use Rattle.graph_core.specs.Graphs.{Instruction, Block, End, Jump, block_view, end_view, graph_view}
@@ -14,12 +15,13 @@ use Rattle.currency_notes.specs.declared.function.Function as declared-function
 use Rattle.currency_notes.specs.declared.state.State as declared-state
 use Rattle.currency_notes.specs.Full.{IsEqual}
 use Rattle.currency_notes.specs.Notes.{IsJoined}
+use Rattle.currency_notes.specs.Ranks.{known_in, most_rank, rank, rank_in}
+use Rattle.currency_notes.proofs.Lowering.{low_rank}
 use Rattle.currency_notes.proofs.Filling.{full_equal, full_joined, full_next}
 use Rattle.currency_notes.proofs.Sourcing.{attained_equal, attained_joined, attained_next}
 use Rattle.currency_notes.proofs.Lists.{among_one, among_parts, get_put_other, get_put_same}
 use Rattle.currency_shown.specs.declared.states.States as declared-states
-use Rattle.currency_shown.specs.Survey.{comes_to, AreEqualAll}
-use Rattle.currency_shown.specs.Chains.{last_in, AreFull, AreLinked, IsComeTo, IsFullAtEnd, IsFullAtStart, IsLinked, IsWholeAt, LeadsTo}
+use Rattle.currency_shown.specs.Chains.{comes_to, last_in, ranks, rank_all, rank_or, AreEqualAll, AreFull, AreLinked, IsComeTo, IsWithinSome, IsFullAtEnd, IsFullAtStart, IsLinked, IsWholeAt, LeadsTo}
 
 -- one block more, to which the last one leads alone
 pub linked_push : (blocks : List declared-block.Block) (chain : List ℕ) (next : ℕ) → IsLinked blocks chain → ((l : ℕ) → last_in chain ≡ Some l → LeadsTo blocks l next) → IsLinked blocks (chain ++ (next ∷ []))
@@ -31,18 +33,6 @@ pub last_push : (chain : List ℕ) (l : ℕ) → last_in (chain ++ (l ∷ [])) �
 last_push [] l = refl
 last_push (k ∷ []) l = refl
 last_push (k ∷ n ∷ more) l = last_push (n ∷ more) l
-
--- to which block the last one leads
-pub next_push : (blocks : List declared-block.Block) (chain all : List ℕ) (l : ℕ) → all ≡ chain ++ (l ∷ []) → (o : Option ℕ) → IfSome o (λ next. LeadsTo blocks l next) → IfSome o (λ next. (k : ℕ) → last_in all ≡ Some k → LeadsTo blocks k next)
-next_push blocks chain all l is None leads = leads
-next_push blocks chain all l is (Some next) leads = λ k e. subst (λ n. LeadsTo blocks n next) (same_Some l k (sym (last_push chain l) ∙ ap last_in (sym is) ∙ e)) leads
-
--- one chain more is linked
-pub linked_more : (blocks : List declared-block.Block) (chains all : List (Vec ℕ)) (c : Vec ℕ) → all ≡ chains ++ (c ∷ []) → IsLinked blocks c.items → AreLinked blocks chains → AreLinked blocks all
-linked_more blocks chains all c is linked before d there = elim (among_parts chains (c ∷ []) (subst (λ (l : List (Vec ℕ)). Among d l) is there)) [
-  | inl f ↦ before d f
-  | inr f ↦ subst (λ (v : Vec ℕ). IsLinked blocks v.items) (sym (among_one f)) linked
-]
 
 -- beyond a list nothing stands
 pub none_beyond : {A : Type 0} (xs : List A) (k : ℕ) → length xs ≤ k → slice_get xs k ≡ None
@@ -68,6 +58,7 @@ module _ (f : declared-function.Function) where
   pub whole_equal : (n : ℕ) (rest : List Instruction) (e : End) (s t : declared-state.State) → IsEqual s t → IsWholeAt f t n rest e → IsWholeAt f s n rest e
   whole_equal n rest e s t equal whole = record {
     reached = whole.reached;
+    sized = (ap (λ xs. length xs) equal.noted ∙ whole.sized.0, ap (λ xs. length xs) equal.written ∙ whole.sized.1);
     full = λ exact. full_equal f.homes (graph_view f.graph.now) n rest e s t equal (whole.full exact);
     attained = λ log told. attained_equal log (graph_view f.graph.now) n rest e s t equal (whole.attained log told);
   }
@@ -75,6 +66,7 @@ module _ (f : declared-function.Function) where
   pub whole_joined : (n : ℕ) (rest : List Instruction) (e : End) (one other both : declared-state.State) → IsJoined one other both → IsWholeAt f one n rest e → IsWholeAt f other n rest e → IsWholeAt f both n rest e
   whole_joined n rest e one other both joined a b = record {
     reached = a.reached;
+    sized = (joined.sizes.0 ∙ a.sized.0, joined.sizes.1 ∙ a.sized.1);
     full = λ exact. full_joined f.homes (graph_view f.graph.now) n rest e one other both joined (a.full exact) (b.full exact);
     attained = λ log told. attained_joined log (graph_view f.graph.now) n rest e one other both joined (a.attained log told) (b.attained log told);
   }
@@ -82,6 +74,7 @@ module _ (f : declared-function.Function) where
   pub whole_next : (n l : ℕ) (e : End) (c : Block) (s : declared-state.State) → Among l (targets_of e) → slice_get (graph_view f.graph.now).blocks l ≡ Some c → IsWholeAt f s n [] e → IsWholeAt f s l c.instructions c.end
   whole_next n l e c s among is whole = record {
     reached = reached_next whole.reached among c is;
+    sized = whole.sized;
     full = λ exact. full_next f.homes (graph_view f.graph.now) n l e c s among is (whole.full exact);
     attained = λ log told. attained_next log (graph_view f.graph.now) n l e c s among is (whole.attained log told);
   }
@@ -106,13 +99,16 @@ module _ (f : declared-function.Function) (old new : declared-states.States) (to
     where
       at_old : (q : Option declared-state.State) → comes_to old to ≡ q → IsComeTo q s (Some u) → IsWholeAt f u to b.instructions b.end
       at_old None e equal = whole_equal f to b.instructions b.end u s equal (start b at)
-      at_old (Some q) e joined = whole_joined f to b.instructions b.end q s u joined (before to q e b at) (start b at)
+      at_old (Some q) e joined = whole_joined f to b.instructions b.end q s u joined (before.each to q e b at) (start b at)
 
   pub full_arrived : AreFull f old → IsFullAtStart f s to → AreFull f new
-  full_arrived before start l u e = elim (eqb_tells l to) [
-    | inl q ↦ subst (λ k. IsFullAtStart f u k) (sym q.1) (full_here before start u (sym here_now ∙ ap (λ k. comes_to new k) (sym q.1) ∙ e))
-    | inr q ↦ before l u (sym (elsewhere l q.1) ∙ e)
-  ]
+  full_arrived before start = record {
+    count = ap (λ xs. length xs) put ∙ length-set old.arrived.items to t ∙ before.count;
+    each = λ l u e. elim (eqb_tells l to) [
+      | inl q ↦ subst (λ k. IsFullAtStart f u k) (sym q.1) (full_here before start u (sym here_now ∙ ap (λ k. comes_to new k) (sym q.1) ∙ e))
+      | inr q ↦ before.each l u (sym (elsewhere l q.1) ∙ e)
+    ];
+  }
 
 module _ (f : declared-function.Function) where
   viewed : (l : ℕ) (b : Block) → slice_get (graph_view f.graph.now).blocks l ≡ Some b → (o : Option declared-block.Block) → slice_get f.graph.now.blocks.items l ≡ o → option_map block_view o ≡ Some b
@@ -162,7 +158,7 @@ module _ (f : declared-function.Function) where
     where
       at_come : (o : Option declared-state.State) → comes_to states l ≡ o → AreEqualAll (Some s) o → IsFullAtStart f s l
       at_come None e none = elim none [ ]
-      at_come (Some t) e same = λ b at. whole_equal f l b.instructions b.end s t same (full l t e b at)
+      at_come (Some t) e same = λ b at. whole_equal f l b.instructions b.end s t same (full.each l t e b at)
 
 -- nothing came to one block more
 pub nothing_more : (xs : List (Option declared-state.State)) → ((l : ℕ) (t : declared-state.State) → slice_get xs l ≡ Some (Some t) → ⊥) → (l : ℕ) (t : declared-state.State) → slice_get (xs ++ (None ∷ [])) l ≡ Some (Some t) → ⊥
@@ -181,3 +177,37 @@ full_nothing f xs l t none e = at_found (slice_get xs l) refl
     at_found : (o : Option (Option declared-state.State)) → slice_get xs l ≡ o → IsFullAtStart f t l
     at_found None q = absurd (none-some t (sym (ap come_of q) ∙ e))
     at_found (Some s) q = absurd (none l t (q ∙ ap Some (sym (ap come_of q) ∙ e)))
+
+-- ---- How much can be lost
+
+-- a block of this number
+pub block_there : {A : Type 0} (xs : List A) (k : ℕ) → k < length xs → (a : A) × (slice_get xs k ≡ Some a)
+block_there [] k lt = absurd (omega (arith, lt))
+block_there (x ∷ xs) zero lt = (x, refl)
+block_there (x ∷ xs) (suc k) lt = block_there xs k (omega (arith, lt))
+
+-- what all rank behind a store
+rank_put : (most : ℕ) (xs : List (Option declared-state.State)) (k : ℕ) (o t : Option declared-state.State) → slice_get xs k ≡ Some o → rank_all most (slice_set xs k t) + rank_or most o ≡ rank_all most xs + rank_or most t
+rank_put most [] k o t is = absurd (none-some o is)
+rank_put most (q ∷ xs) zero o t is = (let e : rank_or most q ≡ rank_or most o = ap (λ z. rank_or most z) (same_Some q o is) in omega (arith, e))
+rank_put most (q ∷ xs) (suc k) o t is = (let h = rank_put most xs k o t is in omega (arith, h))
+
+-- less is so where a state came that was not within what was so there
+pub falls_arrived : (f : declared-function.Function) (old : declared-states.States) (new : List (Option declared-state.State)) (to : ℕ) (o t : Option declared-state.State) (s : declared-state.State) → slice_get old.arrived.items to ≡ Some o → new ≡ slice_set old.arrived.items to t
+    → ((IsWithinSome o s → ⊥) → (most : ℕ) → rank s ≤ most → rank_or most t < rank_or most o) → (IsWithinSome (comes_to old to) s → ⊥) → AreFull f old → IsFullAtStart f s to → rank_all (most_rank f) new < ranks f old
+falls_arrived f old new to o t s is put falls apart full start =
+    let here : comes_to old to ≡ o = ap come_of is in
+    let small : to < length f.graph.now.blocks.items = subst (λ k. to < k) full.count (slice_get_within old.arrived.items to o is) in
+    let d = block_there f.graph.now.blocks.items to small in
+    let sized = (start (block_view d.0) (view_at f to d.0 d.1)).sized in
+    let lower = falls (λ within. apart (subst (λ (q : Option declared-state.State). IsWithinSome q s) (sym here) within)) (most_rank f) (low_rank f s sized) in
+    let sum = rank_put (most_rank f) old.arrived.items to o t is in
+    let e : rank_all (most_rank f) new ≡ rank_all (most_rank f) (slice_set old.arrived.items to t) = ap (λ xs. rank_all (most_rank f) xs) put in
+    omega (arith, lower, sum, e)
+
+-- a state that comes where nothing was so, or where another one was that it is not within
+pub lower_equal : (most : ℕ) (s t : declared-state.State) → IsEqual t s → rank s ≤ most → rank t < most + 1
+lower_equal most s t equal le =
+    let e : rank_in t.noted.items ≡ rank_in s.noted.items = ap rank_in equal.noted in
+    let d : known_in t.written.items ≡ known_in s.written.items = ap known_in equal.written in
+    omega (arith, le, e, d)

@@ -1,6 +1,5 @@
 -- Where a scalar is told of with no recipe, none holds on all paths.
 use Rattle.std.proofs.Common.{◌≡◌, ℕ, ◌<◌, Option, Some, None, List, ◌∷◌, length, refl, subst}
-use Rattle.std.specs.Global.{Vec}
 use Rattle.graph_homes.specs.Homes.{HoldsOnAllPaths}
 use Rattle.graph_core.specs.Graphs.{Instruction, Marker, Recipe, Of, Name, Graph, End, graph_view}
 use Rattle.currency_notes.specs.declared.homes.Homes as declared-homes
@@ -12,15 +11,16 @@ use Rattle.currency_notes.specs.Full.{AreExact, IsFullAt}
 use Rattle.currency_notes.proofs.Filling.{full_equal, full_next, full_step, path_note}
 use Rattle.currency_shown.specs.declared.found.LastNote as declared-last
 use Rattle.currency_shown.specs.declared.found.Found as declared-found
+use Rattle.currency_shown.specs.declared.states.States as declared-states
 use Rattle.currency_shown.specs.declared.survey.Survey as declared-survey
 use Rattle.currency_shown.proofs.Carried.{carried_at, IsCarried}
 use Rattle.currency_shown.specs.Chains.{AreFull}
 use Rattle.currency_shown.specs.Found.{IsShownBy, Shows}
-use Rattle.currency_shown.specs.Survey.{AreFirst, AreChainsSound, IsStartWithin}
+use Rattle.currency_shown.specs.Survey.{IsWalked}
 use Rattle.currency_shown.specs.Shown.{AreHidden}
 
-module _ (v : declared-survey.Survey) (f : declared-found.Found) (chains : List (Vec ℕ)) (entered : declared-state.State) (first : AreFirst chains v.first.items) (sound : AreChainsSound v f chains)
-    (begins : IsStartWithin v 0 entered) (exact : AreExact v.function.now) (full : AreFull v.function.now v.states) where
+module _ (v : declared-survey.Survey) (states : declared-states.States) (f : declared-found.Found) (entered : declared-state.State) (done : IsWalked v states f entered)
+    (exact : AreExact v.function.now) (full : AreFull v.function.now states) where
   abbrev g : Graph
   g = graph_view v.function.now.graph.now
 
@@ -46,9 +46,9 @@ module _ (v : declared-survey.Survey) (f : declared-found.Found) (chains : List 
       apart (subst (λ (q : Recipe). recipe_in s.noted.items x ≡ Some q) own (said s n p rest e here x lt r holds within), subst (λ (q : Recipe). AreHeld m s q) own (held s n p rest e here x lt r holds within))
 
   -- a full state is carried
-  carried : IsCarried v (λ s n rest e. IsFullAt v.function.now s n rest e)
+  carried : IsCarried v states (λ s n rest e. IsFullAt v.function.now s n rest e)
   carried = record {
-    start = λ l t b comes at. (full l t comes b at).full exact;
+    start = λ l t b comes at. (full.each l t comes b at).full exact;
     equal = λ s t n rest e same here. full_equal m g n rest e s t same here;
     step = λ s t n i rest e step here. full_step m g exact.told exact.numbered n i rest e s t step.kept here;
     next = λ s n l e b among at here. full_next m g n l e b s among at here;
@@ -56,5 +56,5 @@ module _ (v : declared-survey.Survey) (f : declared-found.Found) (chains : List 
 
   pub are_hidden : ((y : ℕ) → number_at (home_by m y) < length m.numbers.items) → AreHidden (home_by m) g f.unshown.items
   are_hidden within x u among none lt h n rest e way r holds =
-      let at = carried_at v f chains entered first sound begins (λ s k left d. IsFullAt v.function.now s k left d) carried h n u.place.0 rest e way in
+      let at = carried_at v states f entered done (λ s k left d. IsFullAt v.function.now s k left d) carried h n u.place.0 rest e way in
       none_holds at.0 n u.place.0 rest e at.1 x lt (subst (λ (o : Option declared-last.LastNote). Shows m at.0 x o) none (at.2.shown x u among refl)) (at.2.apart x u among refl) within r holds

@@ -5,4 +5,6 @@ mod Carried
 mod HiddenPlaces
 mod LeastPlaces
 mod Chaining
+mod Linking
+mod Scalars
 mod Reaching

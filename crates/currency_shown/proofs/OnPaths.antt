@@ -1,8 +1,8 @@
 -- What a walk bears out is so on all paths.
-use Rattle.std.proofs.Common.{◌≡◌, inl, inr, ℕ, Option, Some, None, List, [], ◌∷◌, length, map, refl, sym, ap, subst, ◌∙◌}
+use Rattle.std.proofs.Common.{◌≡◌, inl, inr, ℕ, Option, Some, None, List, [], ◌∷◌, ◌<◌, length, map, refl, sym, ap, subst, ◌∙◌}
 use Rattle.std.specs.Prelude.{slice_get, option_map}
-use Rattle.std.specs.Global.{Vec}
-use Rattle.std.proofs.lemmas.Option.{none-some, same_Some, slice_get-map}
+use Rattle.std.proofs.lemmas.Option.{none-some, same_Some, slice_get-map, slice_get_within}
+use Rattle.std.proofs.lemmas.List.{length-map}
 use Rattle.places.specs.declared.table.PlaceRow as declared-row
 use Rattle.graph_core.specs.declared.graph.Scalar as declared-scalar
 use Rattle.graph_core.specs.declared.block.Block as declared-block
@@ -14,7 +14,7 @@ use Rattle.currency_notes.specs.declared.homes.Homes as declared-homes
 use Rattle.currency_notes.specs.declared.state.State as declared-state
 use Rattle.currency_notes.specs.Notes.{IsSo}
 use Rattle.currency_notes.specs.Homes.{home_by}
-use Rattle.currency_notes.proofs.Lists.{among_one}
+use Rattle.currency_notes.proofs.Lists.{among_one, at_among}
 use Rattle.currency_notes.proofs.Filling.{within_equal}
 use Rattle.currency_notes.proofs.Steps.{shown_by, so_within}
 use Rattle.currency_notes.proofs.Sourcing.{least_first, least_step, least_within}
@@ -22,14 +22,16 @@ use Rattle.currency_notes.specs.Sources.{IsLeastTold}
 use Rattle.dead_pass_writes.specs.RemovedChangesTelling.{AreToldOf}
 use Rattle.graph_core.specs.declared.value.Value.{Value}
 use Rattle.currency_shown.specs.declared.found.Found as declared-found
+use Rattle.currency_shown.specs.declared.states.States as declared-states
+use Rattle.currency_shown.specs.Chains.{comes_to, IsWithinSome}
 use Rattle.currency_shown.specs.declared.survey.Survey as declared-survey
-use Rattle.currency_shown.specs.Numbering.{AreNumbered, scalar_in}
+use Rattle.currency_shown.specs.Numbering.{AreNumbered, IsNumberOf, scalar_in}
 use Rattle.currency_shown.specs.Found.{Shows}
-use Rattle.currency_shown.specs.Survey.{comes_to, AreFirst, IsWithinSome, AreChainsSound, IsChainSound, IsFound, IsSound, IsStartWithin}
-use Rattle.currency_shown.specs.Shown.{AreDifferent, ArePlaced, AreOther, AreOwn, AreRecipes}
+use Rattle.currency_shown.specs.Survey.{IsChainSound, IsFound, IsSound, IsStartWithin, IsWalked}
+use Rattle.currency_shown.specs.Shown.{AreDifferent, ArePlaced, AreOther, AreOwn, AreRecipes, AreVisible}
 
-module _ (v : declared-survey.Survey) (f : declared-found.Found) (chains : List (Vec ℕ)) (entered : declared-state.State) (first : AreFirst chains v.first.items) (sound : AreChainsSound v f chains)
-    (begins : IsStartWithin v 0 entered) (so : IsSo v.function.now.homes (map binding_view v.function.now.graph.now.parameters.items) entered []) where
+module _ (v : declared-survey.Survey) (states : declared-states.States) (f : declared-found.Found) (entered : declared-state.State) (done : IsWalked v states f entered)
+    (so : IsSo v.function.now.homes (map binding_view v.function.now.graph.now.parameters.items) entered []) where
   abbrev g : Graph
   g = graph_view v.function.now.graph.now
 
@@ -48,31 +50,35 @@ module _ (v : declared-survey.Survey) (f : declared-found.Found) (chains : List 
     is : IsSo m g.parameters state h
     least : IsLeastOf state h
     walked : IsSound v f n rest state last
-    chained : IsChainSound v f more e last
+    chained : IsChainSound v states f more e last
 
   -- a block of the view
   one_block : (l : ℕ) (b : Block) → slice_get g.blocks l ≡ Some b → (d : declared-block.Block) → slice_get v.function.now.graph.now.blocks.items l ≡ Some d → block_view d ≡ b
   one_block l b at d is = same_Some (block_view d) b (sym (slice_get-map block_view v.function.now.graph.now.blocks.items l ∙ ap (λ o. option_map block_view o) is) ∙ at)
 
+  -- the number of a block of the view
+  small : (l : ℕ) (b : Block) → slice_get g.blocks l ≡ Some b → l < length v.function.now.graph.now.blocks.items
+  small l b at = subst (λ n. l < n) (length-map v.function.now.graph.now.blocks.items block_view) (slice_get_within g.blocks l b at)
+
   -- the first block of a chain
-  at_start : (l : ℕ) (b : Block) (s : declared-state.State) (h : History) → slice_get g.blocks l ≡ Some b → IsStartWithin v l s → IsSo m g.parameters s h → IsLeastOf s h → IsAt h l b.instructions b.end
-  at_start l b s h at begin here less = at_state (comes_to v.states l) refl begin.1
+  at_start : (l : ℕ) (b : Block) (s : declared-state.State) (h : History) → slice_get g.blocks l ≡ Some b → IsStartWithin v states l s → IsSo m g.parameters s h → IsLeastOf s h → IsAt h l b.instructions b.end
+  at_start l b s h at begin here less = at_state (comes_to states l) refl begin.1
     where
-      at_state : (o : Option declared-state.State) → comes_to v.states l ≡ o → IsWithinSome o s → IsAt h l b.instructions b.end
+      at_state : (o : Option declared-state.State) → comes_to states l ≡ o → IsWithinSome o s → IsAt h l b.instructions b.end
       at_state None e within = elim within [ ]
       at_state (Some t) e within =
-          let c = first l begin.0 in
-          let r = sound c.0 c.2 l c.1 c.3 t e in
-          let chain : IsChainSound v f (l ∷ c.1) (Jump l) r.0 = subst (λ (ls : List ℕ). IsChainSound v f ls (Jump l) r.0) c.3 r.2 in
+          let c = begin.0 in
+          let r = done.sound c.chain (at_among v.chains.now c.index c.chain c.is) l c.more c.begins t e in
+          let chain : IsChainSound v states f (l ∷ c.more) (Jump l) r.0 = subst (λ (ls : List ℕ). IsChainSound v states f ls (Jump l) r.0) c.begins r.2 in
           let one = one_block l b at chain.1.0 chain.1.1 in
           record {
             state = r.0;
             last = chain.1.2.0;
-            more = c.1;
+            more = c.more;
             is = so_within m g.parameters r.0 t h (within_equal r.0 t r.1) (so_within m g.parameters t s h within here);
             least = λ log told. least_within log g r.0 t h (within_equal r.0 t r.1) (least_within log g t s h within (less log told));
             walked = subst (λ (d : Block). IsSound v f l d.instructions r.0 chain.1.2.0) one chain.1.2.1;
-            chained = subst (λ (d : Block). IsChainSound v f c.1 d.end chain.1.2.0) one chain.1.2.2;
+            chained = subst (λ (d : Block). IsChainSound v states f c.more d.end chain.1.2.0) one chain.1.2.2;
           }
 
   at_passed : (h : History) (n : ℕ) (i : Instruction) (left : List Instruction) (e : End) (value : Value) → IsAt h n (i ∷ left) e → IsAt (record { block = n; left = length left; instruction = i; wrote = value } ∷ h) n left e
@@ -86,9 +92,9 @@ module _ (v : declared-survey.Survey) (f : declared-found.Found) (chains : List 
     chained = at.chained;
   }
 
-  at_next : (h : History) (e : End) (l : ℕ) (b : Block) → Among l (targets_of e) → slice_get g.blocks l ≡ Some b → (s t : declared-state.State) (more : List ℕ) → IsSo m g.parameters s h → IsLeastOf s h → s ≡ t → IsChainSound v f more e t → IsAt h l b.instructions b.end
+  at_next : (h : History) (e : End) (l : ℕ) (b : Block) → Among l (targets_of e) → slice_get g.blocks l ≡ Some b → (s t : declared-state.State) (more : List ℕ) → IsSo m g.parameters s h → IsLeastOf s h → s ≡ t → IsChainSound v states f more e t → IsAt h l b.instructions b.end
   at_next h e l b among at s t [] here less same chained =
-      at_start l b t h at (chained l among) (subst (λ (u : declared-state.State). IsSo m g.parameters u h) same here) (subst (λ (u : declared-state.State). IsLeastOf u h) same less)
+      at_start l b t h at (chained l among (small l b at)) (subst (λ (u : declared-state.State). IsSo m g.parameters u h) same here) (subst (λ (u : declared-state.State). IsLeastOf u h) same less)
   at_next h e l b among at s t (n ∷ more) here less same chained =
       let one : l ≡ n = among_one (subst (λ (d : End). Among l (targets_of d)) chained.0 among) in
       let there : slice_get g.blocks n ≡ Some b = subst (λ k. slice_get g.blocks k ≡ Some b) one at in
@@ -100,11 +106,11 @@ module _ (v : declared-survey.Survey) (f : declared-found.Found) (chains : List 
         is = subst (λ (u : declared-state.State). IsSo m g.parameters u h) same here;
         least = subst (λ (u : declared-state.State). IsLeastOf u h) same less;
         walked = subst (λ k. IsSound v f k b.instructions t chained.1.2.0) (sym one) (subst (λ (d : Block). IsSound v f n d.instructions t chained.1.2.0) same_block chained.1.2.1);
-        chained = subst (λ (d : Block). IsChainSound v f more d.end chained.1.2.0) same_block chained.1.2.2;
+        chained = subst (λ (d : Block). IsChainSound v states f more d.end chained.1.2.0) same_block chained.1.2.2;
       }
 
   on_way : {b : Block} {h : History} {n : ℕ} {rest : List Instruction} {e : End} → slice_get g.blocks 0 ≡ Some b → Way g 0 b.instructions b.end h n rest e → IsAt h n rest e
-  on_way {b} at stays = at_start 0 b entered [] at begins so (λ log told. least_first log g entered)
+  on_way {b} at stays = at_start 0 b entered [] at (done.begins (small 0 b at)) so (λ log told. least_first log g entered)
   on_way at (passes {h} {n} {i} {left} {e} way value) = at_passed h n i left e value (on_way at way)
   on_way at (goes {h} {n} {l} {e} way among b is) = (let here = on_way at way in at_next h e l b among is here.state here.last here.more here.is here.least here.walked here.chained)
 
@@ -156,3 +162,15 @@ module _ (v : declared-survey.Survey) (f : declared-found.Found) (chains : List 
   are_other x u l among last h n rest e way =
       let at = found_at way in
       (subst (λ o. Shows m at.0 x o) last (at.2.shown x u among refl)).2
+
+  -- each place that is told of is one where the scalar's variable is visible
+  pub are_visible : ((w x : ℕ) → scalar_in v.numbering w ≡ Some x → IsNumberOf v.function.now.graph.now.scalars.items w x) → AreVisible g v.table.now f.unshown.items
+  are_visible only x variable u among is =
+      let met = done.met.each x u among in
+      let seen = met.3 in
+      let one = only seen.seen.0.0 x seen.seen.2 in
+      let same : variable ≡ seen.seen.0.0 = same_variable one.0 one.1 is ∙ one.2 in
+      record { row = seen.row; var = seen.seen.0; some = met.1.some; is = seen.is; among = seen.seen.1; of = sym same }
+    where
+      same_variable : (s : declared-scalar.Scalar) → slice_get v.function.now.graph.now.scalars.items x ≡ Some s → IsVariable g x variable → variable ≡ s.var.0
+      same_variable s e q = sym (same_Some s.var.0 variable (sym (ap (λ z. option_map (λ (t : Scalar). t.variable) z) (slice_get-map scalar_view v.function.now.graph.now.scalars.items x ∙ ap (λ o. option_map scalar_view o) e)) ∙ q))

@@ -5,15 +5,12 @@ use Rattle.graph_core.specs.declared.instruction.Instr as declared-instr
 use Rattle.graph_core.specs.declared.value.Value.TheVariants.{Odd}
 use Rattle.std.proofs.lemmas.Option.{none-some, same_Some}
 use Rattle.graph_core.specs.Graphs.{Block, End, Graph, Instruction, Marker, Note, Move, Operate, Truncate, Same, Address, Load, Store, Zero, CopyWords, Call, instruction_view}
-use Rattle.graph_core.specs.Paths.{Among}
-use Rattle.graph_core.specs.Uses.{marker_of, targets_of}
+use Rattle.graph_core.specs.Uses.{marker_of}
 use Rattle.graph_paths.specs.Reached.{IsReached}
-use Rattle.graph_paths.proofs.Points.{reached_along, reached_behind, reached_next}
-use Rattle.currency_notes.specs.declared.state.State as declared-state
-use Rattle.currency_notes.proofs.Lists.{among_one, drop_more}
-use Rattle.currency_shown.specs.declared.states.States as declared-states
+use Rattle.graph_paths.proofs.Points.{reached_along, reached_behind}
+use Rattle.currency_notes.proofs.Lists.{drop_more}
 use Rattle.currency_shown.specs.Found.{IsPlaceReached}
-use Rattle.currency_shown.specs.Survey.{comes_to, AreEqualAll, AreReachedStarts, IsBlockReached, IsSomewhere}
+use Rattle.currency_shown.specs.Survey.{IsSomewhere}
 
 -- an instruction that marks a place is its marker
 pub marker_tells : (i : Instruction) (p : ℕ) → Some p ≡ marker_of i → i ≡ Marker p
@@ -35,10 +32,6 @@ module _ (g : Graph) where
   pub reached_at_end : (n : ℕ) (instructions : List Instruction) (e : End) → IsReached g n instructions e → IsReached g n [] e
   reached_at_end n instructions e here = reached_along n instructions [] e (subst (λ l. IsReached g n l e) (sym (append-nil instructions)) here)
 
-  -- and so are the blocks to which it leads
-  pub ends_reached : (n : ℕ) (instructions : List Instruction) (e : End) → IsReached g n instructions e → (l : ℕ) → Among l (targets_of e) → IsBlockReached g l
-  ends_reached n instructions e here l among b at = reached_next (reached_at_end n instructions e here) among b at
-
   -- instructions that are left of a block: the next of them stands there, and then one fewer is left
   module _ (items : List declared-instr.Instr) (i : ℕ) (item : declared-instr.Instr) (lt : i < length items) (is : item ≡ get_or items i item) (e : End) (here : IsSomewhere g (map instruction_view (drop i items)) e) where
     next_is : IsSomewhere g (instruction_view item ∷ map instruction_view (drop (i + 1) items)) e
@@ -54,11 +47,3 @@ module _ (g : Graph) where
 
     pub later_reached : IsSomewhere g (map instruction_view (drop (i + 1) items)) e
     later_reached = (next_is.0, reached_behind next_is.1 Odd)
-
-  -- where a state came a chain begins that is reached
-  pub start_reached : (states : declared-states.States) (first : ℕ) (s : declared-state.State) → AreReachedStarts g states → AreEqualAll (Some s) (comes_to states first) → (l : ℕ) → Among l (first ∷ []) → IsBlockReached g l
-  start_reached states first s reached equal l among = subst (IsBlockReached g) (sym (among_one among)) (at_come (comes_to states first) refl equal)
-    where
-      at_come : (o : Option declared-state.State) → comes_to states first ≡ o → AreEqualAll (Some s) o → IsBlockReached g first
-      at_come None e none = elim none [ ]
-      at_come (Some t) e same = reached first t e

@@ -6,6 +6,7 @@ use Rattle.places.specs.declared.table.PlaceRow as declared-row
 use Rattle.places.specs.declared.table.PlaceTable as declared-table
 use Rattle.std.specs.Global.{Vec}
 use Rattle.graph_core.specs.Graphs.{End, Graph, Instruction, Marker, Recipe, Of, Name, recipe_view}
+use Rattle.graph_core.specs.Validity.{markers_of_blocks}
 use Rattle.graph_paths.specs.Reached.{IsReached}
 use Rattle.graph_core.specs.Paths.{Among}
 use Rattle.currency_notes.specs.declared.homes.Homes as declared-homes
@@ -25,12 +26,28 @@ entries_of all x = option_map_or (λ v. v.items) (slice_get all x) []
 abbrev pub is_met : declared-found.Found → (p : ℕ) → Bool
 is_met found p = get_or found.met.items p false
 
+-- The scalars that variables are are so many.
+abbrev pub AreBelow : declared-numbering.Numbering → (count : ℕ) → Type 0
+AreBelow numbering count = (variable x : ℕ) → scalar_in numbering variable ≡ Some x → x < count
+
+-- a scalar is one of these variables
+abbrev pub IsSeen : declared-numbering.Numbering → List declared-var.Var → (x : ℕ) → Type 0
+IsSeen numbering visible x = (v : declared-var.Var) × Among v visible × (scalar_in numbering v.0 ≡ Some x)
+
+-- More is told of these scalars alone.
+abbrev pub AreOnlyOf : (ℕ → Type 0) → (old new : List (Vec declared-unshown.Unshown)) → Type 0
+AreOnlyOf Is old new = (x : ℕ) (u : declared-unshown.Unshown) → Among u (entries_of new x) → Among u (entries_of old x) ⊎ Is x
+
 -- A place of a table, of the function of this number.
 pub record IsPlaceOf (table : declared-table.PlaceTable) (number p : ℕ) : Type 0 where
   pub row : declared-row.PlaceRow
   pub some : 1 ≤ p
   pub is : slice_get table.rows.items (p - 1) ≡ Some row
   pub of : row.function ≡ number
+
+-- Each place that a block of a graph begins is one of the function of this number.
+abbrev pub ArePlacesOf : declared-table.PlaceTable → (number : ℕ) → Graph → Type 0
+ArePlacesOf table number g = (p : ℕ) → Among p (markers_of_blocks g.blocks) → IsPlaceOf table number p
 
 -- A path of a graph reaches the marker of a place.
 pub record IsPlaceReached (g : Graph) (p : ℕ) : Type 0 where
@@ -55,6 +72,7 @@ module _ (m : declared-homes.Homes) (s : declared-state.State) where
 
   -- More is told, of a place alone, what shows a scalar there does, and its home does not.
   pub record IsAdded (p : ℕ) (old new : List (Vec declared-unshown.Unshown)) : Type 0 where
+    pub size : length new ≡ length old
     pub kept : (x : ℕ) (u : declared-unshown.Unshown) → Among u (entries_of old x) → Among u (entries_of new x)
     pub only : (x : ℕ) (u : declared-unshown.Unshown) → Among u (entries_of new x) → Among u (entries_of old x) ⊎ ((u.place.0 ≡ p) × Shows x u.last × (IsShownBy x → ⊥))
 
@@ -63,14 +81,14 @@ module _ (m : declared-homes.Homes) (s : declared-state.State) where
     abbrev pub AreVisibleTold : (p : ℕ) → List (Vec declared-unshown.Unshown) → List declared-var.Var → Type 0
     AreVisibleTold p all visible = (v : declared-var.Var) (x : ℕ) → Among v visible → scalar_in numbering v.0 ≡ Some x → IsTold p all x
 
-    -- A place of a function is met, which was not met before, and told of what is visible there.
-    pub record IsNewPlace (table : declared-table.PlaceTable) (number p : ℕ) (old new : declared-found.Found) : Type 0 where
+    -- A place is met, which was not met before, and told of what is visible there.
+    pub record IsNewPlace (table : declared-table.PlaceTable) (p : ℕ) (old new : declared-found.Found) : Type 0 where
       pub row : declared-row.PlaceRow
       pub some : 1 ≤ p
       pub is : slice_get table.rows.items (p - 1) ≡ Some row
-      pub of : row.function ≡ number
       pub fresh : is_met old p ≡ false
       pub room : p < length old.met.items
       pub met : new.met.items ≡ slice_set old.met.items p true
       pub added : IsAdded p old.unshown.items new.unshown.items
       pub told : AreVisibleTold p new.unshown.items row.visible.items
+      pub only : AreOnlyOf (IsSeen numbering row.visible.items) old.unshown.items new.unshown.items

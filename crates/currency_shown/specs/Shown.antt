@@ -36,6 +36,10 @@ AreTheirs found number table = (x : ℕ) (u : declared-unshown.Unshown) → Amon
 abbrev pub AreReached : Graph → List (Vec declared-unshown.Unshown) → Type 0
 AreReached g found = (x : ℕ) (u : declared-unshown.Unshown) → Among u (entries_of found x) → IsPlaceReached g u.place.0
 
+-- Each place that is told of is one where the scalar's variable is visible.
+abbrev pub AreVisible : Graph → declared-table.PlaceTable → List (Vec declared-unshown.Unshown) → Type 0
+AreVisible g table found = (x variable : ℕ) (u : declared-unshown.Unshown) → Among u (entries_of found x) → IsVariable g x variable → IsVisible table u.place.0 variable
+
 -- No two scalars are one variable.
 abbrev pub AreDifferent : Graph → Type 0
 AreDifferent g = (x y variable : ℕ) → IsVariable g x variable → IsVariable g y variable → x ≡ y

@@ -1,10 +1,11 @@
 -- What a walk over a function bears out: at each place what is found there, and in each block to which one leads what is so where it begins.
-use Rattle.std.specs.Prelude.{◌≡◌, ℕ, ◌-◌, ◌≤◌, ◌⊎◌, Bool, true, false, Option, Some, None, List, [], ◌∷◌, length, map, slice_get, get_or}
-use Rattle.std.specs.Option.{option_map_or}
+use Rattle.std.specs.Prelude.{◌≡◌, ℕ, ◌+◌, ◌-◌, ◌≤◌, ◌<◌, ◌⊎◌, min, true, false, Option, Some, List, [], ◌∷◌, length, map, slice_get}
 use Rattle.std.specs.Global.{Vec}
 use Rattle.places.specs.declared.table.PlaceRow as declared-row
+use Rattle.places.specs.declared.table.PlaceTable as declared-table
 use Rattle.graph_core.specs.declared.block.Block as declared-block
 use Rattle.graph_core.specs.Graphs.{Instruction, Marker, Binding, Block, End, Graph, Jump, instruction_view, end_view}
+use Rattle.graph_core.specs.Validity.{markers_in, markers_of_blocks, AreAllDifferent}
 use Rattle.graph_paths.specs.Reached.{IsReached}
 use Rattle.graph_core.specs.Uses.{targets_of}
 use Rattle.graph_core.specs.Paths.{Among, History, Passed}
@@ -14,56 +15,56 @@ use Rattle.currency_notes.specs.declared.function.Function as declared-function
 use Rattle.currency_notes.specs.declared.homes.Homes as declared-homes
 use Rattle.currency_notes.specs.Sources.{place_where, IsToldBy}
 use Rattle.currency_notes.specs.declared.state.State as declared-state
-use Rattle.currency_notes.specs.Notes.{IsKept, IsSo, IsWithin}
+use Rattle.currency_notes.specs.Notes.{IsKept, IsSo}
 use Rattle.currency_notes.specs.Full.{IsEqual}
 use Rattle.currency_shown.specs.declared.found.Unshown as declared-unshown
 use Rattle.currency_shown.specs.declared.found.Found as declared-found
 use Rattle.currency_shown.specs.declared.states.States as declared-states
 use Rattle.currency_shown.specs.declared.survey.Survey as declared-survey
-use Rattle.currency_shown.specs.Found.{entries_of, is_met, AreVisibleTold, IsPlaceOf, IsPlaceReached, IsShownBy, Shows}
-
--- what is so where a chain begins with a block that a path comes to
-abbrev pub comes_to : declared-states.States → (block : ℕ) → Option declared-state.State
-comes_to states l = option_map_or (λ (o : Option declared-state.State). o) (slice_get states.arrived.items l) None
-
--- some state is so, and no more than in another one
-abbrev pub IsWithinSome : Option declared-state.State → declared-state.State → Type 0
-IsWithinSome None s = ⊥
-IsWithinSome (Some t) s = IsWithin t s
-
--- there is a state where there is another one, which is equal
-abbrev pub AreEqualAll : (one other : Option declared-state.State) → Type 0
-AreEqualAll None None = Unit {0}
-AreEqualAll None (Some t) = ⊥
-AreEqualAll (Some s) None = ⊥
-AreEqualAll (Some s) (Some t) = IsEqual s t
-
--- a list begins with a number
-abbrev pub BeginsWith : List ℕ → (l : ℕ) → Type 0
-BeginsWith chain l = (more : List ℕ) × (chain ≡ l ∷ more)
-
--- what is flagged are first ones of chains
-abbrev pub AreFirst : List (Vec ℕ) → List Bool → Type 0
-AreFirst chains first = (l : ℕ) → get_or first l false ≡ true → (c : Vec ℕ) × (more : List ℕ) × Among c chains × (c.items ≡ l ∷ more)
-
--- a path comes to a block
-abbrev pub IsBlockReached : Graph → (l : ℕ) → Type 0
-IsBlockReached g l = (b : Block) → slice_get g.blocks l ≡ Some b → IsReached g l b.instructions b.end
+use Rattle.currency_shown.specs.declared.numbering.Numbering as declared-numbering
+use Rattle.currency_shown.specs.Chains.{comes_to, AreChains, IsWithinSome, Starts}
+use Rattle.currency_shown.specs.Found.{entries_of, is_met, AreBelow, ArePlacesOf, AreVisibleTold, IsPlaceOf, IsPlaceReached, IsSeen, IsShownBy, Shows}
 
 -- a path comes to what instructions and an end are left of, in some block
 abbrev pub IsSomewhere : Graph → List Instruction → End → Type 0
 IsSomewhere g rest e = (n : ℕ) × IsReached g n rest e
 
--- A path comes to the blocks where chains begin to which some state came.
-abbrev pub AreReachedStarts : Graph → declared-states.States → Type 0
-AreReachedStarts g states = (l : ℕ) (t : declared-state.State) → comes_to states l ≡ Some t → IsBlockReached g l
+-- the places that instructions begin are different ones, of which none was met
+pub record AreFresh (found : declared-found.Found) (places : List ℕ) : Type 0 where
+  pub different : AreAllDifferent places
+  pub unmet : (p : ℕ) → Among p places → is_met found p ≡ false
+
+-- a place is begun in one of these blocks
+pub record IsMarkedIn (blocks : List Block) (numbers : List ℕ) (p : ℕ) : Type 0 where
+  pub number : ℕ
+  pub block : Block
+  pub among : Among number numbers
+  pub is : slice_get blocks number ≡ Some block
+  pub marked : Among p (markers_in block.instructions)
+
+-- A variable is visible at a place, and a scalar is that variable.
+pub record IsSeenAt (table : declared-table.PlaceTable) (numbering : declared-numbering.Numbering) (x p : ℕ) : Type 0 where
+  pub row : declared-row.PlaceRow
+  pub is : slice_get table.rows.items (p - 1) ≡ Some row
+  pub seen : IsSeen numbering row.visible.items x
 
 module _ (v : declared-survey.Survey) where
-  -- each place that is told of was met, is one of the function, and is reached by a path
-  abbrev pub AreMet : declared-found.Found → Type 0
-  AreMet found =
-      (x : ℕ) (u : declared-unshown.Unshown) → Among u (entries_of found.unshown.items x)
-      → (is_met found u.place.0 ≡ true) × IsPlaceOf v.table.now v.number u.place.0 × IsPlaceReached (graph_view v.function.now.graph.now) u.place.0
+  -- What a function is walked over with fits it: its chains are of its blocks, its places are those of its number, each begun once, and its scalars those of its variables.
+  pub record IsSurvey : Type 0 where
+    pub chains : AreChains v.function.now.graph.now.blocks.items v.chains.now
+    pub places : ArePlacesOf v.table.now v.number (graph_view v.function.now.graph.now)
+    pub once : AreAllDifferent (markers_of_blocks (graph_view v.function.now.graph.now).blocks)
+    pub numbers : AreBelow v.numbering (length v.function.now.graph.now.scalars.items)
+
+  -- each place that is told of was met, is one of the function, is reached by a path, and the scalar is visible there
+  abbrev pub IsMetWith : declared-found.Found → (x p : ℕ) → Type 0
+  IsMetWith found x p = (is_met found p ≡ true) × IsPlaceOf v.table.now v.number p × IsPlaceReached (graph_view v.function.now.graph.now) p × IsSeenAt v.table.now v.numbering x p
+
+  -- There is something of each place and each scalar, and what is told of places was met.
+  pub record AreMet (found : declared-found.Found) : Type 0 where
+    pub each : (x : ℕ) (u : declared-unshown.Unshown) → Among u (entries_of found.unshown.items x) → IsMetWith found x u.place.0
+    pub places : length found.met.items ≡ min (length v.table.now.rows.items + 1) 18446744073709551615
+    pub scalars : length found.unshown.items ≡ length v.function.now.graph.now.scalars.items
 
   -- More is met and told, and nothing more of places that were met.
   pub record IsExtended (old new : declared-found.Found) : Type 0 where
@@ -79,14 +80,18 @@ pub record IsStep (f : declared-function.Function) (place : Option ℕ) (old new
   pub kept : IsKept f.homes i old new
   pub told : (log : List Logged) → AreToldOf log f.removed.now → IsToldBy log (graph_view f.graph.now) i place old new
 
-module _ (v : declared-survey.Survey) where
+module _ (v : declared-survey.Survey) (states : declared-states.States) where
   -- a chain begins with a block, and no more is so there than in a state
   abbrev pub IsStartWithin : (block : ℕ) → declared-state.State → Type 0
-  IsStartWithin l s = (get_or v.first.items l false ≡ true) × IsWithinSome (comes_to v.states l) s
+  IsStartWithin l s = Starts v.chains.now l × IsWithinSome (comes_to states l) s
 
   -- no more is so in the blocks to which an end leads than in a state
   abbrev pub IsWithinNext : End → declared-state.State → Type 0
-  IsWithinNext e s = (l : ℕ) → Among l (targets_of e) → IsStartWithin l s
+  IsWithinNext e s = (l : ℕ) → Among l (targets_of e) → l < length v.function.now.graph.now.blocks.items → IsStartWithin l s
+
+  -- no more is so where the function begins
+  abbrev pub IsWithinFirst : declared-state.State → Type 0
+  IsWithinFirst s = 0 < length v.function.now.graph.now.blocks.items → IsStartWithin 0 s
 
 module _ (v : declared-survey.Survey) (found : declared-found.Found) where
   abbrev pub homes_of_survey : declared-homes.Homes
@@ -110,18 +115,25 @@ module _ (v : declared-survey.Survey) (found : declared-found.Found) where
   IsSound n (i ∷ rest) s t =
       ((p : ℕ) → i ≡ Marker p → IsFound s p) × ((u : declared-state.State) × IsStep v.function.now (place_where (graph_view v.function.now.graph.now) n (length rest)) s u i × IsSound n rest u t)
 
+module _ (v : declared-survey.Survey) (states : declared-states.States) (found : declared-found.Found) where
   -- Blocks follow one another, from state to state, and are sound, and no more is so where the last of them leads.
   abbrev pub IsChainSound : List ℕ → End → declared-state.State → Type 0
-  IsChainSound [] e s = IsWithinNext v e s
+  IsChainSound [] e s = IsWithinNext v states e s
   IsChainSound (l ∷ more) e s =
       (e ≡ Jump l) × ((b : declared-block.Block) × (slice_get v.function.now.graph.now.blocks.items l ≡ Some b)
-      × ((t : declared-state.State) × IsSound l (map instruction_view b.instructions.items) s t × IsChainSound more (end_view b.end) t))
+      × ((t : declared-state.State) × IsSound v found l (map instruction_view b.instructions.items) s t × IsChainSound more (end_view b.end) t))
 
   -- A chain is sound from what is so where it begins, if a path comes to it.
   abbrev pub IsReachedSound : List ℕ → Type 0
   IsReachedSound chain =
-      (l : ℕ) (more : List ℕ) → chain ≡ l ∷ more → (t : declared-state.State) → comes_to v.states l ≡ Some t → (s : declared-state.State) × IsEqual s t × IsChainSound chain (Jump l) s
+      (l : ℕ) (more : List ℕ) → chain ≡ l ∷ more → (t : declared-state.State) → comes_to states l ≡ Some t → (s : declared-state.State) × IsEqual s t × IsChainSound chain (Jump l) s
 
   -- Each chain is.
   abbrev pub AreChainsSound : List (Vec ℕ) → Type 0
   AreChainsSound chains = (c : Vec ℕ) → Among c chains → IsReachedSound c.items
+
+  -- What a function was walked over with is so in the end: no more is so where it begins, each chain is sound, and what is told of places was met.
+  pub record IsWalked (entered : declared-state.State) : Type 0 where
+    pub begins : IsWithinFirst v states entered
+    pub sound : AreChainsSound v.chains.now
+    pub met : AreMet v found

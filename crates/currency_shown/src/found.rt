@@ -1,9 +1,9 @@
 //! What is found at the places of a function.
 
-ghost use Rattle.std.specs.Prelude.{◌≡◌, ◌<◌, ◌↔◌, ℕ, IfOk, Some, false, length, slice_set, true};
+ghost use Rattle.std.specs.Prelude.{◌≡◌, ◌<◌, ◌≤◌, ◌↔◌, ℕ, OnOk, Some, false, length, true};
 ghost use Rattle.graph_core.specs.Graphs.{Name, Of, recipe_view};
 ghost use Rattle.currency_shown.specs.Numbering.{scalar_in};
-ghost use Rattle.currency_shown.specs.Found.{AreVisibleTold, IsAdded, IsNewPlace, IsShownBy, IsTold, Shows, is_met};
+ghost use Rattle.currency_shown.specs.Found.{AreBelow, AreOnlyOf, AreVisibleTold, IsAdded, IsNewPlace, IsSeen, IsShownBy, IsTold, Shows, is_met};
 
 use crate::numbering::Numbering;
 use currency_notes::{Function, Noted, State};
@@ -12,12 +12,14 @@ use graph_core::{Operand, Recipe};
 use places::PlaceTable;
 use std::alloc::AllocError;
 
-/// What is last noted of a scalar on all paths to a place, where no home that it reads was written since on any, and each was last written for the name
+/// What is last noted of a scalar on all paths to a place, where no home that it reads was written since on any, and
+/// each was last written for the name
 /// that is read.
 #[derive(Clone, Copy)]
 pub struct LastNote<'a> {
     pub recipe: &'a Recipe,
-    /// The least number of the changes that removed an assignment of the scalar at a place where such a note stands that reaches; none where no change did.
+    /// The least number of the changes that removed an assignment of the scalar at a place where such a note stands
+    /// that reaches; none where no change did.
     pub change: Option<u32>,
 }
 
@@ -79,30 +81,30 @@ pub struct Found<'a> {
 }
 
 impl<'a> Found<'a> {
-    /// A scalar is visible at a place, where this is so. Tells whether it is one of the function's.
+    /// A scalar is visible at a place, where this is so.
     fn add(
         &mut self,
         function: &Function<'a>,
         state: &State<'a>,
         scalar: u32,
         place: Place,
-    ) -> Result<bool, AllocError>
-        ensures met { IfOk result (λ b. b ≡ true → self.new.met.items ≡ self.old.met.items) }
-        ensures added { IfOk result (λ b. b ≡ true → IsAdded function.now.homes state.now place.0 self.old.unshown.items self.new.unshown.items) }
-        ensures told { IfOk result (λ b. b ≡ true → IsTold function.now.homes state.now place.0 self.new.unshown.items scalar) }
+    ) -> Result<(), AllocError>
+        requires scalar { scalar < length self.old.unshown.items }
+        ensures met { OnOk result (self.new.met.items ≡ self.old.met.items) }
+        ensures added { OnOk result (IsAdded function.now.homes state.now place.0
+            self.old.unshown.items self.new.unshown.items) }
+        ensures told { OnOk result (IsTold function.now.homes state.now place.0 self.new.unshown.items scalar) }
+        ensures only { OnOk result (AreOnlyOf (λ x. x ≡ scalar) self.old.unshown.items self.new.unshown.items) }
     {
         if is_shown(function, state, scalar) {
-            return Ok(true);
-        }
-        if scalar as usize >= self.unshown.len() {
-            return Ok(false);
+            return Ok(());
         }
         let last = last_note(function, state, scalar);
         self.unshown[scalar as usize].push(Unshown { place, last })?;
-        Ok(true)
+        Ok(())
     }
 
-    /// A variable is visible at a place, where this is so. Tells whether it is one of the function's scalars, or none.
+    /// A variable is visible at a place, where this is so.
     fn add_variable(
         &mut self,
         function: &Function<'a>,
@@ -110,18 +112,26 @@ impl<'a> Found<'a> {
         numbering: &Numbering,
         var: Var,
         place: Place,
-    ) -> Result<bool, AllocError>
-        ensures met { IfOk result (λ b. b ≡ true → self.new.met.items ≡ self.old.met.items) }
-        ensures added { IfOk result (λ b. b ≡ true → IsAdded function.now.homes state.now place.0 self.old.unshown.items self.new.unshown.items) }
-        ensures told { IfOk result (λ b. b ≡ true → (x : ℕ) → scalar_in numbering.now var.0 ≡ Some x → IsTold function.now.homes state.now place.0 self.new.unshown.items x) }
+    ) -> Result<(), AllocError>
+        requires numbers { AreBelow numbering.now (length self.old.unshown.items) }
+        ensures met { OnOk result (self.new.met.items ≡ self.old.met.items) }
+        ensures added { OnOk result (IsAdded function.now.homes state.now place.0
+            self.old.unshown.items self.new.unshown.items) }
+        ensures told { OnOk result ((x : ℕ) → scalar_in numbering.now var.0 ≡ Some x
+            → IsTold function.now.homes state.now place.0 self.new.unshown.items x) }
+        ensures only { OnOk result (AreOnlyOf (λ x. scalar_in numbering.now var.0 ≡ Some x)
+            self.old.unshown.items self.new.unshown.items) }
     {
         match numbering.scalar_of(var) {
-            Some(scalar) => Ok(self.add(function, state, scalar, place)?),
-            None => Ok(true),
+            Some(scalar) => {
+                self.add(function, state, scalar, place)?;
+                Ok(())
+            }
+            None => Ok(()),
         }
     }
 
-    /// Variables are visible at a place, where this is so. Tells whether each is one of the function's scalars, or none.
+    /// Variables are visible at a place, where this is so.
     fn add_all(
         &mut self,
         function: &Function<'a>,
@@ -129,52 +139,42 @@ impl<'a> Found<'a> {
         numbering: &Numbering,
         visible: &[Var],
         place: Place,
-    ) -> Result<bool, AllocError>
-        ensures met { IfOk result (λ b. b ≡ true → self.new.met.items ≡ self.old.met.items) }
-        ensures added { IfOk result (λ b. b ≡ true → IsAdded function.now.homes state.now place.0 self.old.unshown.items self.new.unshown.items) }
-        ensures told { IfOk result (λ b. b ≡ true → AreVisibleTold function.now.homes state.now numbering.now place.0 self.new.unshown.items visible.now) }
+    ) -> Result<(), AllocError>
+        requires numbers { AreBelow numbering.now (length self.old.unshown.items) }
+        ensures met { OnOk result (self.new.met.items ≡ self.old.met.items) }
+        ensures added { OnOk result (IsAdded function.now.homes state.now place.0
+            self.old.unshown.items self.new.unshown.items) }
+        ensures told { OnOk result (AreVisibleTold function.now.homes state.now numbering.now place.0
+            self.new.unshown.items visible.now) }
+        ensures only { OnOk result (AreOnlyOf (IsSeen numbering.now visible.now)
+            self.old.unshown.items self.new.unshown.items) }
     {
         for var in visible {
-            if !self.add_variable(function, state, numbering, *var, place)? {
-                return Ok(false);
-            }
+            self.add_variable(function, state, numbering, *var, place)?;
         }
-        Ok(true)
+        Ok(())
     }
 
-    /// A place begins, where this is so. Tells whether it is one of the function, which has this number, and was not met before.
+    /// A place begins, which was not met before, where this is so.
     pub fn add_place(
         &mut self,
         function: &Function<'a>,
         state: &State<'a>,
         numbering: &Numbering,
         table: &PlaceTable,
-        number: u32,
         place: Place,
-    ) -> Result<bool, AllocError>
-        ensures { IfOk result (λ b. b ≡ true → IsNewPlace function.now.homes state.now numbering.now table.now number place.0 self.old self.new) }
+    ) -> Result<(), AllocError>
+        requires some { 1 ≤ place.0 }
+        requires within { place.0 ≤ length table.now.rows.items }
+        requires room { place.0 < length self.old.met.items }
+        requires fresh { is_met self.old place.0 ≡ false }
+        requires numbers { AreBelow numbering.now (length self.old.unshown.items) }
+        ensures { OnOk result (IsNewPlace function.now.homes state.now numbering.now table.now place.0
+            self.old self.new) }
     {
-        if place.0 == 0 || place.0 as usize > table.rows.len() {
-            return Ok(false);
-        }
         let row = &table.rows[place.0 as usize - 1];
-        if row.function != number || !self.meet(place.0) {
-            return Ok(false);
-        }
-        Ok(self.add_all(function, state, numbering, &row.visible, place)?)
-    }
-
-    /// A place is met. Tells whether it is one, and was not met before.
-    fn meet(&mut self, place: u32) -> bool
-        ensures unshown { self.new.unshown.items ≡ self.old.unshown.items }
-        ensures room { result ≡ true → place < length self.old.met.items }
-        ensures fresh { result ≡ true → is_met self.old place ≡ false }
-        ensures met { result ≡ true → self.new.met.items ≡ slice_set self.old.met.items place true }
-    {
-        if place as usize >= self.met.len() || self.met[place as usize] {
-            return false;
-        }
-        self.met[place as usize] = true;
-        true
+        self.met[place.0 as usize] = true;
+        self.add_all(function, state, numbering, &row.visible, place)?;
+        Ok(())
     }
 }

@@ -1,4 +1,5 @@
-//! Which notes reach a place last, whether the homes that they read were written since, and which homes hold the values of their names.
+//! Which notes reach a place last, whether the homes that they read were written since, and which homes hold the values
+//! of their names.
 #![tactic(auto)]
 
 mod chains;

@@ -1,7 +1,8 @@
 //! The scalars of a function by their variables.
 
-ghost use Rattle.std.specs.Prelude.{◌≡◌, IfOk, IfSome, true};
-ghost use Rattle.currency_shown.specs.Numbering.{AreNumbered, scalar_in};
+ghost use Rattle.std.specs.Prelude.{◌≡◌, ◌^◌, ◌≤◌, ◌<◌, ℕ, IfOk, Some, length, slice_get, slice_set};
+ghost use Rattle.graph_core.specs.declared.graph.Scalar as declared-scalar;
+ghost use Rattle.currency_shown.specs.Numbering.{AreDistinctVariables, AreNumbered, IsNumberOf, scalar_in};
 
 use debug_records::Var;
 use graph_core::Scalar;
@@ -15,44 +16,54 @@ pub struct Numbering {
 }
 
 /// The least variable of scalars.
-fn first_variable(scalars: &[Scalar]) -> u32 {
-    match scalars.first() {
-        Some(scalar) => scalar.var.0,
-        None => 0,
+fn least_variable(scalars: &[Scalar]) -> u32
+    ensures { (x : ℕ) (s : declared-scalar.Scalar) → slice_get scalars.now x ≡ Some s → result ≤ s.var.0 }
+{
+    let mut least = u32::MAX;
+    for scalar in scalars {
+        least = least.min(scalar.var.0);
     }
+    least
 }
 
-/// How many variables there are from the least of scalars to the last.
-fn variable_count(scalars: &[Scalar]) -> usize {
-    match scalars.last() {
-        Some(scalar) => (scalar.var.0 as usize)
-            .saturating_sub(first_variable(scalars) as usize)
-            .saturating_add(1),
-        None => 0,
+/// The greatest variable of scalars.
+fn greatest_variable(scalars: &[Scalar]) -> u32
+    ensures { (x : ℕ) (s : declared-scalar.Scalar) → slice_get scalars.now x ≡ Some s → s.var.0 ≤ result }
+{
+    let mut greatest = 0u32;
+    for scalar in scalars {
+        greatest = greatest.max(scalar.var.0);
+    }
+    greatest
+}
+
+/// A variable is this scalar, if it is one of so many.
+fn put_scalar(names: &mut Vec<Option<u32>>, variable: u32, scalar: u32)
+    ensures { names.new.items ≡ slice_set names.old.items variable (Some scalar) }
+{
+    if (variable as usize) < names.len() {
+        names[variable as usize] = Some(scalar);
     }
 }
 
 impl Numbering {
-    /// The numbers of scalars, which stand by position. None where two are one variable, or a variable is not between the first and the last.
-    pub fn new(alloc: Global, scalars: &[Scalar]) -> Result<Option<Numbering>, AllocError>
-        ensures { IfOk result (λ o. IfSome o (λ made. AreNumbered made scalars.now)) }
+    /// The numbers of scalars, which stand by position.
+    pub fn new(alloc: Global, scalars: &[Scalar]) -> Result<Numbering, AllocError>
+        requires few { length scalars.now < 2 ^ 32 }
+        requires different { AreDistinctVariables scalars.now }
+        ensures numbered { IfOk result (λ made. AreNumbered made scalars.now) }
+        ensures only { IfOk result (λ made. (variable x : ℕ) → scalar_in made variable ≡ Some x
+            → IsNumberOf scalars.now variable x) }
     {
-        let first = first_variable(scalars);
-        let mut names = vec![in alloc; None; variable_count(scalars)]?;
-        let mut name = 0u32;
-        for scalar in scalars {
-            let at = scalar.var.0.saturating_sub(first);
-            if let Some(found) = names.get_mut(at as usize) {
-                *found = Some(name);
-            }
-            name = name.saturating_add(1);
+        let first = least_variable(scalars);
+        let last = greatest_variable(scalars);
+        let count = (last as usize).saturating_sub(first as usize) + 1;
+        let mut names = vec![in alloc; None; count]?;
+        for name in 0..scalars.len() {
+            let variable = scalars[name].var.0.saturating_sub(first);
+            put_scalar(&mut names, variable, name as u32);
         }
-        let made = Numbering { first, names };
-        if made.has_all(scalars) {
-            Ok(Some(made))
-        } else {
-            Ok(None)
-        }
+        Ok(Numbering { first, names })
     }
 
     /// The scalar that a variable is, if it is one of the function.
@@ -66,20 +77,5 @@ impl Numbering {
             Some(found) => *found,
             None => None,
         }
-    }
-
-    /// Whether each scalar is that of its variable.
-    fn has_all(&self, scalars: &[Scalar]) -> bool
-        ensures { result ≡ true → AreNumbered self.now scalars.now }
-    {
-        for number in 0..scalars.len() {
-            match self.scalar_of(scalars[number].var) {
-                Some(found) => if found as usize != number {
-                    return false;
-                },
-                None => return false,
-            }
-        }
-        true
     }
 }

@@ -1,12 +1,12 @@
 //! What is so where chains of blocks begin.
 
-ghost use Rattle.std.specs.Prelude.{◌≡◌, ◌<◌, ◌∷◌, ℕ, IfOk, List, OnOk, Some, get_or, length, slice_get, true};
+ghost use Rattle.std.specs.Prelude.{◌≡◌, ◌<◌, ◌≤◌, ◌∷◌, ℕ, IfOk, List, OnOk, Some, false, get_or, length, slice_get, true};
 ghost use Rattle.graph_core.specs.Graphs.{end_view};
 ghost use Rattle.graph_core.specs.Paths.{Among};
 ghost use Rattle.graph_core.specs.Uses.{targets_of};
+ghost use Rattle.currency_notes.specs.Ranks.{rank};
 ghost use Rattle.currency_notes.specs.declared.state.State as declared-state;
-ghost use Rattle.currency_shown.specs.Chains.{AreFull, AreLinked, IsComeTo, IsFullAtEnd, IsFullAtStart, IsLinked, last_in};
-ghost use Rattle.currency_shown.specs.Survey.{AreEqualAll, IsWithinSome, comes_to};
+ghost use Rattle.currency_shown.specs.Chains.{AreEqualAll, AreFull, AreFullNext, AreLinked, IsComeTo, IsFullAtEnd, IsFullAtStart, IsLinked, IsWithinSome, comes_to, last_in, rank_or, ranks};
 
 use currency_notes::{Function, State};
 use graph_core::End;
@@ -24,10 +24,12 @@ pub struct States<'a> {
 
 /// Nothing has come to so many blocks.
 fn nothing<'a>(alloc: Global, count: usize) -> Result<Vec<Option<State<'a>>>, AllocError>
-    ensures { IfOk result (λ arrived. (l : ℕ) (t : declared-state.State) → slice_get arrived.items l ≡ Some (Some t) → ⊥) }
+    ensures none { IfOk result (λ arrived. (l : ℕ) (t : declared-state.State)
+        → slice_get arrived.items l ≡ Some (Some t) → ⊥) }
+    ensures count { IfOk result (λ arrived. length arrived.items ≡ count) }
 {
     let mut arrived = Vec::new(alloc);
-    for _ in 0..count {
+    while arrived.len() < count {
         arrived.push(None)?;
     }
     Ok(arrived)
@@ -46,55 +48,74 @@ fn walk_block<'a>(function: &Function<'a>, number: u32, state: &mut State<'a>)
 
 /// Steps over the blocks of a chain.
 fn walk<'a>(function: &Function<'a>, chain: &[u32], state: &mut State<'a>)
-    ensures { (first last : ℕ) (more : List ℕ) → IsLinked function.now.graph.now.blocks.items chain.now → chain.now ≡ first ∷ more → last_in chain.now ≡ Some last → IsFullAtStart function.now state.old first → IsFullAtEnd function.now state.new last }
+    ensures { (first last : ℕ) (more : List ℕ) → IsLinked function.now.graph.now.blocks.items chain.now
+        → chain.now ≡ first ∷ more → last_in chain.now ≡ Some last → IsFullAtStart function.now state.old first
+        → IsFullAtEnd function.now state.new last }
 {
     for number in chain {
         walk_block(function, *number, state);
     }
 }
 
-/// A state comes where this was so before, or nothing. Tells whether less is so there than before.
+/// A state comes where this was so before, or nothing.
 fn come<'a>(
     alloc: Global,
     found: &mut Option<State<'a>>,
     state: &State<'a>,
-) -> Result<bool, AllocError>
-    ensures { OnOk result (IsComeTo found.old state.now found.new) }
+) -> Result<(), AllocError>
+    ensures come { OnOk result (IsComeTo found.old state.now found.new) }
+    ensures falls { OnOk result ((IsWithinSome found.old state.now → ⊥) → (most : ℕ) → rank state.now ≤ most
+        → rank_or most found.new < rank_or most found.old) }
 {
     match found {
-        Some(old) => Ok(old.join(state)),
+        Some(old) => {
+            old.join(state);
+            Ok(())
+        }
         None => {
             *found = Some(state.duplicate(alloc)?);
-            Ok(true)
+            Ok(())
         }
     }
 }
 
 impl<'a> States<'a> {
-    /// A state comes to a block.
-    fn arrive(
+    /// A state comes to a block. Tells whether less is so there than before.
+    pub fn arrive(
         &mut self,
         alloc: Global,
         function: &Function<'a>,
         to: u32,
         state: &State<'a>,
-    ) -> Result<(), AllocError>
-        ensures { OnOk result (AreFull function.now self.old → IsFullAtStart function.now state.now to → AreFull function.now self.new) }
+    ) -> Result<bool, AllocError>
+        ensures full { OnOk result (AreFull function.now self.old → IsFullAtStart function.now state.now to
+            → AreFull function.now self.new) }
+        ensures quiet { IfOk result (λ is_new. is_new ≡ false → self.new ≡ self.old) }
+        ensures within { IfOk result (λ is_new. is_new ≡ false → to < length self.old.arrived.items
+            → IsWithinSome (comes_to self.old to) state.now) }
+        ensures falls { IfOk result (λ is_new. is_new ≡ true → AreFull function.now self.old
+            → IsFullAtStart function.now state.now to → ranks function.now self.new < ranks function.now self.old) }
     {
         if to as usize >= self.arrived.len() {
-            return Ok(());
+            return Ok(false);
         }
-        let is_new = come(alloc, &mut self.arrived[to as usize], state)?;
-        self.wake(to, is_new);
-        Ok(())
+        if self.is_within(to, state) {
+            return Ok(false);
+        }
+        come(alloc, &mut self.arrived[to as usize], state)?;
+        put_flag(&mut self.waiting, to, true);
+        Ok(true)
     }
 
-    /// A block is to be left again, if less is so there than before.
-    fn wake(&mut self, block: u32, is_new: bool)
-        ensures { self.new.arrived.items ≡ self.old.arrived.items }
+    /// Whether a state is no less than what is so where a chain begins that a path comes to.
+    fn is_within(&self, block: u32, state: &State<'a>) -> bool
+        ensures within { result ≡ true → IsWithinSome (comes_to self.now block) state.now }
+        ensures apart { result ≡ false → IsWithinSome (comes_to self.now block) state.now → ⊥ }
     {
-        if is_new {
-            put_flag(&mut self.waiting, block, true);
+        match self.arrived.get(block as usize) {
+            Some(Some(found)) => found.is_within(state),
+            Some(None) => false,
+            None => false,
         }
     }
 
@@ -108,41 +129,38 @@ impl<'a> States<'a> {
         }
     }
 
-    /// Whether a state is no less than what is so where a chain begins that a path comes to.
-    pub fn is_within(&self, block: u32, state: &State<'a>) -> bool
-        ensures { result ≡ true → IsWithinSome (comes_to self.now block) state.now }
-    {
-        match self.arrived.get(block as usize) {
-            Some(Some(found)) => found.is_within(state),
-            _ => false,
-        }
-    }
-
-    /// A state comes to the blocks to which one leads.
-    fn go_on(
+    /// A state comes to the blocks to which one leads. Tells whether less is so in one of them than before.
+    pub fn go_on(
         &mut self,
         alloc: Global,
         function: &Function<'a>,
         end: &End,
         state: &State<'a>,
-    ) -> Result<(), AllocError>
-        ensures { OnOk result (AreFull function.now self.old → ((l : ℕ) → Among l (targets_of (end_view end.now)) → IsFullAtStart function.now state.now l) → AreFull function.now self.new) }
+    ) -> Result<bool, AllocError>
+        ensures full { OnOk result (AreFull function.now self.old
+            → AreFullNext function.now (end_view end.now) state.now → AreFull function.now self.new) }
+        ensures quiet { IfOk result (λ is_new. is_new ≡ false → self.new ≡ self.old) }
+        ensures within { IfOk result (λ is_new. is_new ≡ false → (l : ℕ) → Among l (targets_of (end_view end.now))
+            → l < length self.old.arrived.items → IsWithinSome (comes_to self.old l) state.now) }
+        ensures falls { IfOk result (λ is_new. is_new ≡ true → AreFull function.now self.old
+            → AreFullNext function.now (end_view end.now) state.now
+            → ranks function.now self.new < ranks function.now self.old) }
     {
         match end {
             End::Jump(label) => {
-                self.arrive(alloc, function, label.0, state)?;
-                Ok(())
+                let is_new = self.arrive(alloc, function, label.0, state)?;
+                Ok(is_new)
             }
             End::Branch {
                 then,
                 otherwise,
                 ..
             } => {
-                self.arrive(alloc, function, then.0, state)?;
-                self.arrive(alloc, function, otherwise.0, state)?;
-                Ok(())
+                let is_new = self.arrive(alloc, function, then.0, state)?;
+                let is_newer = self.arrive(alloc, function, otherwise.0, state)?;
+                Ok(is_new || is_newer)
             }
-            End::Return(_) => Ok(()),
+            End::Return(_) => Ok(false),
         }
     }
 
@@ -153,7 +171,9 @@ impl<'a> States<'a> {
         function: &Function<'a>,
         chain: &[u32],
     ) -> Result<(), AllocError>
-        ensures { OnOk result (IsLinked function.now.graph.now.blocks.items chain.now → AreFull function.now self.old → AreFull function.now self.new) }
+        ensures { OnOk result
+            (IsLinked function.now.graph.now.blocks.items chain.now → AreFull function.now self.old
+            → AreFull function.now self.new) }
     {
         if chain.is_empty() {
             return Ok(());
@@ -176,7 +196,10 @@ impl<'a> States<'a> {
         mut state: State<'a>,
     ) -> Result<(), AllocError>
         requires { 0 < length chain.now }
-        ensures { OnOk result (IsLinked function.now.graph.now.blocks.items chain.now → IsFullAtStart function.now state.entry (get_or chain.now 0 0) → AreFull function.now self.old → AreFull function.now self.new) }
+        ensures { OnOk result
+            (IsLinked function.now.graph.now.blocks.items chain.now
+            → IsFullAtStart function.now state.entry (get_or chain.now 0 0) → AreFull function.now self.old
+            → AreFull function.now self.new) }
     {
         walk(function, chain, &mut state);
         let last = chain[chain.len() - 1];
@@ -195,7 +218,9 @@ impl<'a> States<'a> {
         function: &Function<'a>,
         chain: &[u32],
     ) -> Result<bool, AllocError>
-        ensures { OnOk result (IsLinked function.now.graph.now.blocks.items chain.now → AreFull function.now self.old → AreFull function.now self.new) }
+        ensures { OnOk result
+            (IsLinked function.now.graph.now.blocks.items chain.now → AreFull function.now self.old
+            → AreFull function.now self.new) }
     {
         if chain.is_empty() || !flag(&self.waiting, chain[0]) {
             return Ok(false);
@@ -212,7 +237,9 @@ impl<'a> States<'a> {
         function: &Function<'a>,
         chains: &[Vec<u32>],
     ) -> Result<bool, AllocError>
-        ensures { OnOk result (AreLinked function.now.graph.now.blocks.items chains.now → AreFull function.now self.old → AreFull function.now self.new) }
+        ensures { OnOk result
+            (AreLinked function.now.graph.now.blocks.items chains.now → AreFull function.now self.old
+            → AreFull function.now self.new) }
     {
         let mut is_new = false;
         for chain in chains {
@@ -222,7 +249,8 @@ impl<'a> States<'a> {
         Ok(is_new)
     }
 
-    /// What is so where the chains of a function begin. So many rounds suffice, since in each but the last some chain has less of a scalar or a home, or a
+    /// What is so where the chains of a function begin, as far as so many rounds come. In each but the last some chain
+    /// has less of a scalar or a home, or a
     /// lesser change.
     pub fn new(
         alloc: Global,
@@ -230,7 +258,8 @@ impl<'a> States<'a> {
         chains: &[Vec<u32>],
         changes: usize,
     ) -> Result<States<'a>, AllocError>
-        ensures { IfOk result (λ states. AreLinked function.now.graph.now.blocks.items chains.now → AreFull function.now states) }
+        ensures { IfOk result (λ states.
+            AreLinked function.now.graph.now.blocks.items chains.now → AreFull function.now states) }
     {
         let count = function.graph.blocks.len();
         let mut states = States {

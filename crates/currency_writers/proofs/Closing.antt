@@ -1,7 +1,8 @@
 -- Each place to which execution may come gets its number.
 use Rattle.std.proofs.Common.{◌≡◌, ◌≢◌, inl, inr, ℕ, ◌+◌, ◌<◌, ◌≤◌, Bool, true, false, None, Option, Some, List, [], ◌∷◌, ◌++◌, length, get_or, take, refl, sym, ap, subst, ◌∙◌, arith, append_assoc, true≢false}
 use Rattle.std.specs.Prelude.{All, Contains, IsSomeAnd, ◌⊎◌}
-use Rattle.std.proofs.lemmas.List.{take-append-le}
+use Rattle.std.specs.List.Sorted.{IsNonDecreasing}
+use Rattle.std.proofs.lemmas.List.{get_or_default, take-append-le}
 use Rattle.std.proofs.lemmas.List.Elements.{All-contains, All-more, All-weaker, Contains-append_left, Contains-push}
 use Rattle.std.proofs.lemmas.Option.{same_Some}
 use Rattle.currency_writers.specs.declared.flow.Flow as declared-flow
@@ -34,10 +35,6 @@ module _ {T : Type 0} (f : declared-flow.Flow) where
       | inr r ↦ subst (λ q. Contains after q) (sym r.0) (here (subst (λ q. mark_at new q ≢ None) r.0 some) (subst (λ q. assigned f q ≡ false) r.0 free))
     ];
   }
-
-  -- no place is told
-  pub more_kept : (old new : declared-marks.Marks T) (ahead : List ℕ) → ((p : ℕ) → mark_at new p ≡ mark_at old p) → AreMoreAhead f old new ahead ahead
-  more_kept old new ahead kept = record { rest = []; is = append_none ahead; all = λ p none some free. absurd (some (kept p ∙ none)) }
 
   -- a place is told that assigns the variable
   pub more_blocked : (old new : declared-marks.Marks T) (ahead : List ℕ) (place : ℕ) (value : T) → IsBlocked f → ((p : ℕ) → (mark_at new p ≡ mark_at old p) ⊎ ((p ≡ place) × (mark_at new p ≡ Some value))) → mark_at f.assigns place ≢ None → AreMoreAhead f old new ahead ahead
@@ -111,6 +108,17 @@ module _ (f : declared-flow.Flow) where
     | inl e ↦ (let small = below p start (sym e ∙ at) in omega (arith, small, le))
     | inr r ↦ (let same : place ≡ start = same_Some place start (sym r.1 ∙ at) in omega (arith, same))
   ]
+
+  -- what was marked so far is so with nothing above the places from an index on
+  abbrev pub AreBelowRest : declared-marks.Marks ℕ → List ℕ → (k : ℕ) → Type 0
+  AreBelowRest starts list k = (j d : ℕ) → k ≤ j → j < length list → AreBelow starts (get_or list j d)
+
+  pub rest_next : (starts : declared-marks.Marks ℕ) (list : List ℕ) (k d : ℕ) → IsNonDecreasing list → k < length list → AreBelow starts (get_or list k d) → AreBelowRest starts list (k + 1)
+  rest_next starts list k d ascends lt below j e le within p start at =
+      (let small = below p start at in
+      let same : get_or list k d ≡ get_or list k e = get_or_default list k d e lt in
+      let later : get_or list k e ≤ get_or list j e = ascends k j e (omega (arith, le)) within in
+      omega (arith, small, same, later))
 
   least_kept : (old new : declared-marks.Marks ℕ) (place : ℕ) → IsToldFrom f place place old new → (s : ℕ) → IsLeastOf old s → IsLeastOf new s
   least_kept old new place told s least p comes =

@@ -1,10 +1,12 @@
 -- From place to place, and what assigns variables.
-use Rattle.std.proofs.Common.{◌≡◌, inl, inr, ℕ, zero, suc, ◌<◌, ◌≤◌, Bool, true, false, List, [], ◌∷◌, length, get_or, take, refl, sym, ap, subst, ◌∙◌, arith, true≢false, eqb-true, eq-eqb}
-use Rattle.std.specs.Prelude.{All, Contains, ◌==◌, ◌&&◌, ◌||◌}
+use Rattle.std.proofs.Common.{◌≡◌, inl, inr, ℕ, zero, suc, ◌+◌, ◌<◌, ◌≤◌, Bool, true, false, List, [], ◌∷◌, length, get_or, take, refl, sym, ap, subst, ◌∙◌, arith, true≢false, eqb-true, eq-eqb}
+use Rattle.std.specs.Prelude.{All, AllPairs, Contains, ◌==◌, ◌&&◌, ◌||◌, ◌⊎◌}
 use Rattle.std.specs.List.{list_any}
 use Rattle.places.specs.declared.flow.FlowStep.{FlowStep}
 use Rattle.places.specs.declared.flow.Assignment.{Assignment}
-use Rattle.places.specs.Flow.{can_go, assigns}
+use Rattle.places.specs.Flow.{IsAssignmentBefore, can_go, assigns}
+use Rattle.std.proofs.lemmas.List.{get_or_default}
+use Rattle.std.proofs.lemmas.List.Elements.{All-more, All-weaker}
 use Rattle.currency_writers.specs.declared.lists.Lists as declared-lists
 use Rattle.currency_writers.specs.declared.flow.Flow as declared-flow
 use Rattle.currency_writers.specs.Lists.{entries_of}
@@ -78,3 +80,43 @@ following_all all after k le each p q e =
     let there : Contains (entries_of after (get_or all f.1 f.0).from.0) (get_or all f.1 f.0).to.0 = subst (λ (l : List FlowStep). All (λ (s : FlowStep). Contains (entries_of after s.from.0) s.to.0) l) whole each f.1 f.0 f.2 in
     let one : Contains (entries_of after f.0.from.0) f.0.to.0 = subst (λ (s : FlowStep). Contains (entries_of after s.from.0) s.to.0) f.3 there in
     subst (λ n. Contains (entries_of after n) q) f.4 (subst (λ n. Contains (entries_of after f.0.from.0) n) f.5 one)
+
+-- what is assigned by the first assignments of a list is not behind the others
+abbrev pub AreNotBehind : List Assignment → declared-lists.Lists → (k : ℕ) → Type 0
+AreNotBehind all assigning k = (x p : ℕ) → Contains (entries_of assigning x) p → (j : ℕ) (d : Assignment) → k ≤ j → j < length all → p ≤ (get_or all j d).place.0
+
+no_later_place : (a b : Assignment) → IsAssignmentBefore a b → a.place.0 ≤ b.place.0
+no_later_place a b before = elim before [ inl lt ↦ omega (arith, lt) | inr e ↦ (let same = e.0 in omega (arith, same)) ]
+
+pub behind_next : (all : List Assignment) (old new : declared-lists.Lists) (k : ℕ) (d : Assignment) → AllPairs IsAssignmentBefore all → k < length all → ((x p : ℕ) → Contains (entries_of new x) p → Contains (entries_of old x) p ⊎ ((x ≡ (get_or all k d).var.0) × (p ≡ (get_or all k d).place.0)))
+    → AreNotBehind all old k → AreNotBehind all new (k + 1)
+behind_next all old new k d ordered lt only before x p there j e le within = elim (only x p there) [
+  | inl was ↦ before x p was j e (omega (arith, le)) within
+  | inr here ↦ (let same = here.1 in
+      let own : (get_or all k d).place.0 ≡ (get_or all k e).place.0 = ap (λ (a : Assignment). a.place.0) (get_or_default all k d e lt) in
+      let later = no_later_place (get_or all k e) (get_or all j e) (ordered k j e (omega (arith, le)) within) in
+      omega (arith, same, own, later))
+]
+
+-- each variable that is assigned is below a number
+pub assigned_above : (all : List Assignment) (count k : ℕ) → length all ≤ k → All (λ (a : Assignment). a.var.0 < count) (take k all) → (p x : ℕ) → assigns all p x ≡ true → x < count
+assigned_above all count k le each p x e =
+    let f = assigns_found all p x e in
+    let whole : All (λ (a : Assignment). a.var.0 < count) all = subst (λ (l : List Assignment). All (λ (a : Assignment). a.var.0 < count) l) (take_whole all k le) each in
+    let one : (get_or all f.1 f.0).var.0 < count = whole f.1 f.0 f.2 in
+    subst (λ n. n < count) (ap (λ (a : Assignment). a.var.0) f.3 ∙ f.5) one
+
+-- more variables than so far
+pub above_next : (all : List Assignment) (old new k : ℕ) (d : Assignment) → k < length all → old ≤ new → (get_or all k d).var.0 < new → All (λ (a : Assignment). a.var.0 < old) (take k all) → All (λ (a : Assignment). a.var.0 < new) (take (k + 1) all)
+above_next all old new k d lt le here before =
+    All-more (λ (a : Assignment). a.var.0 < new) all k d lt (All-weaker (λ (a : Assignment). a.var.0 < old) (λ (a : Assignment). a.var.0 < new) (λ a small. omega (arith, small, le)) (take k all) before) here
+
+-- a variable that an assignment assigns has a list
+pub listed_at : (all : List Assignment) (k : ℕ) (d : Assignment) (above count : ℕ) → k < length all → ((p x : ℕ) → assigns all p x ≡ true → x < above) → count ≡ above → (get_or all k d).var.0 < count
+listed_at all k d above count lt each same =
+    (let inside = each (get_or all k d).place.0 (get_or all k d).var.0 (assigns_at all k d (get_or all k d).place.0 (get_or all k d).var.0 lt refl refl) in omega (arith, inside, same))
+
+-- a place from which a step leads has a list
+pub leads_at : (all : List FlowStep) (k : ℕ) (d : FlowStep) (places count : ℕ) → k < length all → ((p q : ℕ) → can_go all p q ≡ true → p < places) → count ≡ places → (get_or all k d).from.0 < count
+leads_at all k d places count lt from same =
+    (let inside = from (get_or all k d).from.0 (get_or all k d).to.0 (step_at all k d (get_or all k d).from.0 (get_or all k d).to.0 lt refl refl) in omega (arith, inside, same))

@@ -1,5 +1,5 @@
 -- Writes by homes and names.
-use Rattle.std.proofs.Common.{◌≡◌, ◌≢◌, inl, inr, ℕ, zero, suc, ◌-◌, ◌<◌, ◌≤◌, Option, Some, List, [], ◌∷◌, ◌++◌, length, refl, sym, ap, subst, ◌∙◌, arith}
+use Rattle.std.proofs.Common.{◌≡◌, ◌≢◌, inl, inr, ℕ, zero, suc, ◌<◌, ◌≤◌, Option, Some, List, [], ◌∷◌, ◌++◌, length, refl, sym, ap, subst, ◌∙◌, arith}
 use Rattle.std.specs.Prelude.{slice_get, slice_set, All, Contains, ◌⊎◌}
 use Rattle.std.specs.Option.{option_map_or}
 use Rattle.std.specs.Global.{Vec}
@@ -13,10 +13,9 @@ use Rattle.graph_homes.specs.declared.home.Home.{Home}
 use Rattle.currency_writers.specs.declared.writers.Writers as declared-writers
 use Rattle.currency_writers.specs.declared.writers.Written as declared-written
 use Rattle.currency_writers.specs.declared.writers.Write as declared-write
-use Rattle.currency_writers.specs.declared.writers.Writer as declared-writer
 use Rattle.currency_writers.specs.Order.{IsNoLater, rank_of}
 use Rattle.currency_writers.specs.Writers.{AreWritesBy, IsIndexed, IsWriteBy, home_key, writes_in}
-use Rattle.currency_writers.proofs.Order.{no_later_on, no_later_same}
+use Rattle.currency_writers.proofs.Order.{no_later_same}
 
 pub get_kept : {A : Type 0} (all : List A) (one z : A) (k : ℕ) → slice_get all k ≡ Some z → slice_get (all ++ (one ∷ [])) k ≡ Some z
 get_kept [] one z k e = absurd (none-some z e)
@@ -151,10 +150,3 @@ indexed_moved old new was all homes home name = record {
   by_name = λ n. subst (λ (l : List declared-written.Written). AreWritesBy l (λ y. y) n (writes_in new.by_name.items n)) (sym all)
       (writes_moved old.all.items (λ y. y) n (writes_in old.by_name.items n) (writes_in new.by_name.items n) (name n) (was.by_name n));
 }
-
--- what is no later than the last one
-pub next_last : (v : declared-writers.Writers) (count : ℕ) (last : declared-written.Written) (w : declared-writer.Writer) → IsIndexed v → count ≡ length v.all.items → 1 ≤ count → slice_get v.all.items (count - 1) ≡ Some last → IsNoLater (rank_of last.writer) (rank_of w)
-    → (k : ℕ) (z : declared-written.Written) → slice_get v.all.items k ≡ Some z → IsNoLater (rank_of z.writer) (rank_of w)
-next_last v count last w is same some at later k z here =
-    (let lt : k < length v.all.items = slice_get_within v.all.items k z here in
-    no_later_on (rank_of z.writer) (rank_of last.writer) (rank_of w) (is.ordered k (count - 1) z last (omega (arith, lt, same, some)) here at) later)

@@ -1,4 +1,4 @@
-mod Pushing
+pub mod Pushing
 pub mod Entering
 mod Going
 mod Marking
@@ -7,5 +7,6 @@ mod Closing
 pub mod Routes
 mod Copied
 pub mod Order
+mod Ordering
 pub mod Indexed
 mod Written

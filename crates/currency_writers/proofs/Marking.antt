@@ -12,6 +12,10 @@ take_whole [] (suc k) le = refl
 take_whole (y ∷ ys) zero le = absurd (omega (arith, le))
 take_whole (y ∷ ys) (suc k) le = ap (λ zs. y ∷ zs) (take_whole ys k (omega (arith, le)))
 
+-- one of such places may be marked
+pub within_at : (list : List ℕ) (k d room there : ℕ) → All (λ p. p < room) list → k < length list → there ≡ room → get_or list k d < there
+within_at list k d room there all lt same = (let inside = all k d lt in omega (arith, inside, same))
+
 pub only_next : {T : Type 0} (first old new : declared-marks.Marks T) (list : List ℕ) (k d : ℕ) (value : T) → k < length list → ((p : ℕ) → mark_at old p ≢ None → (mark_at first p ≢ None) ⊎ Contains list p)
     → ((p : ℕ) → (mark_at new p ≡ mark_at old p) ⊎ ((p ≡ get_or list k d) × (mark_at new p ≡ Some value))) → (p : ℕ) → mark_at new p ≢ None → (mark_at first p ≢ None) ⊎ Contains list p
 only_next first old new list k d value lt before put p some = elim (put p) [

@@ -22,7 +22,7 @@ use Rattle.currency_writers.specs.Writers.{AreBindings, AreBlocks, AreInstructio
 use Rattle.graph_core.proofs.Among.{behind_last, behind_one}
 
 pub more_on : (u v w : declared-writers.Writers) → AreMore u v → AreMore v w → AreMore u w
-more_on u v w one two = record { function = two.function ∙ one.function; graph = two.graph ∙ one.graph; homes = two.homes ∙ one.homes; kept = λ z c. two.kept z (one.kept z c) }
+more_on u v w one two = record { function = two.function ∙ one.function; graph = two.graph ∙ one.graph; homes = two.homes ∙ one.homes; by_home = two.by_home ∙ one.by_home; by_name = two.by_name ∙ one.by_name; kept = λ z c. two.kept z (one.kept z c) }
 
 -- what was known
 known_on : (old new : declared-writers.Writers) → AreMore old new → (p x : ℕ) (w : declared-writer.Writer) → IsKnown old p x w → IsKnown new p x w

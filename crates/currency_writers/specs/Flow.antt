@@ -1,14 +1,23 @@
 -- The flow of a program as a search has it, for one variable.
-use Rattle.std.specs.Prelude.{◌≡◌, ◌≢◌, ◌⊎◌, ℕ, ◌≤◌, Bool, true, false, List, ◌++◌, Contains, IsSomeAnd, None, Some}
+use Rattle.std.specs.Prelude.{◌≡◌, ◌≢◌, ◌⊎◌, ℕ, ◌<◌, ◌≤◌, Bool, true, false, List, ◌++◌, AllPairs, Contains, IsSomeAnd, None, Some}
+use Rattle.std.specs.List.Sorted.{IsNonDecreasing}
 use Rattle.places.specs.declared.flow.FlowStep.{FlowStep}
 use Rattle.places.specs.declared.flow.Assignment.{Assignment}
-use Rattle.places.specs.Flow.{can_go, assigns}
+use Rattle.places.specs.declared.flow.FlowTable.{FlowTable}
+use Rattle.places.specs.Flow.{IsAssignmentBefore, can_go, assigns}
 use Rattle.currency_writers.specs.declared.lists.Lists as declared-lists
 use Rattle.currency_writers.specs.declared.marks.Marks as declared-marks
 use Rattle.currency_writers.specs.declared.flow.Flow as declared-flow
 use Rattle.currency_writers.specs.Lists.{entries_of}
-use Rattle.currency_writers.specs.Marks.{mark_at}
+use Rattle.currency_writers.specs.Marks.{mark_at, room_of}
 use Rattle.currency_writers.specs.Ways.{Comes}
+
+-- A flow is of places below a number: its steps lead from such places to such, they alone assign variables, and what is assigned is in order.
+pub record IsFlowOfPlaces (table : FlowTable) (places : ℕ) : Type 0 where
+  pub from : (p q : ℕ) → can_go table.steps.items p q ≡ true → p < places
+  pub to : (p q : ℕ) → can_go table.steps.items p q ≡ true → q < places
+  pub assigning : (p x : ℕ) → assigns table.assignments.items p x ≡ true → p < places
+  pub ordered : AllPairs IsAssignmentBefore table.assignments.items
 
 -- The list of a place has the places to which execution may go from it.
 pub record AreFollowing (steps : List FlowStep) (after : declared-lists.Lists) : Type 0 where
@@ -29,10 +38,16 @@ module _ (f : declared-flow.Flow) where
   abbrev pub ComesOn : (from p : ℕ) → Type 0
   ComesOn from p = Comes f.table.now.steps.items (λ q. assigns f.table.now.assignments.items q f.var.0) from p
 
-  -- The lists are those of the flow.
+  -- The lists are those of the flow, the places that assign a variable are in order, and the places of the flow are those that may be marked.
   pub record IsFlow : Type 0 where
     pub after : AreFollowing f.table.now.steps.items f.after
     pub assigning : AreAssigning f.table.now.assignments.items f.assigning
+    pub ordered : (x : ℕ) → IsNonDecreasing (entries_of f.assigning x)
+    pub places : IsFlowOfPlaces f.table.now (room_of f.assigns)
+
+  -- Each place that may be marked as one that assigns the variable may be marked here too.
+  abbrev pub HasRoom : {T : Type 0} → declared-marks.Marks T → Type 0
+  HasRoom told = room_of f.assigns ≤ room_of told
 
   -- The places that assign the variable in question are marked, and no others.
   pub record IsBlocked : Type 0 where

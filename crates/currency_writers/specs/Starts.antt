@@ -1,12 +1,17 @@
 -- From which places execution may come to others.
 use Rattle.std.specs.Prelude.{◌≡◌, ◌⊎◌, ℕ, ◌≤◌, true, false}
 use Rattle.currency_writers.specs.declared.search.Search as declared-search
-use Rattle.currency_writers.specs.Flow.{AreLeast, AreStarts, assigned, ComesOn, IsBlocked, IsFlow}
+use Rattle.currency_writers.specs.Flow.{AreLeast, AreStarts, assigned, ComesOn, HasRoom, IsBlocked, IsFlow}
 
 module _ (s : declared-search.Search) where
+  -- A search is in a flow, and each place of it may get a start.
+  pub record IsSearch : Type 0 where
+    pub flow : IsFlow s.flow
+    pub room : HasRoom s.flow s.starts
+
   -- The questions are on one variable: the places that assign it are marked, and the start of a place is the least of them from which execution may come there.
   pub record IsTurned : Type 0 where
-    pub flow : IsFlow s.flow
+    pub search : IsSearch
     pub blocked : IsBlocked s.flow
     pub starts : AreStarts s.flow s.starts
     pub least : AreLeast s.flow s.starts

@@ -1,8 +1,9 @@
 -- What writes the homes of names.
-use Rattle.std.specs.Prelude.{◌≡◌, ◌<◌, ◌≤◌, ℕ, true, Option, Some, option_map, List, [], ◌∷◌, ◌++◌, All, Contains, length, slice_get}
+use Rattle.std.specs.Prelude.{◌≡◌, ◌+◌, ◌<◌, ◌≤◌, ℕ, min, true, Option, Some, option_map, List, [], ◌∷◌, ◌++◌, All, Contains, length, slice_get}
 use Rattle.std.specs.Option.{option_map_or}
 use Rattle.std.specs.Global.{Vec}
 use Rattle.debug_records.specs.declared.change.Place.{Place}
+use Rattle.graph_homes.specs.declared.home.Home.{Home}
 use Rattle.graph_homes.specs.Homes.{is_same_home}
 use Rattle.graph_core.specs.Graphs.{Instruction, Block, End, Graph, ToScalar, graph_view}
 use Rattle.graph_core.specs.Uses.{target_of}
@@ -28,6 +29,15 @@ placed place = option_map (λ (p : Place). p.0) place
 -- the writes of a number; none where there is no such number
 abbrev pub writes_in : List (Vec declared-write.Write) → (n : ℕ) → List declared-write.Write
 writes_in lists n = option_map_or (λ v. v.items) (slice_get lists n) []
+
+-- A name has a home, and that has a number below how many homes there are at most.
+pub record HasHome (homes : List Home) (x : ℕ) : Type 0 where
+  pub named : x < length homes
+  pub numbered : number_at (home_in homes x) < min (length homes + 32) 18446744073709551615
+
+-- Each name that a function writes has one.
+abbrev pub AreHomed : (f : ℕ) → Graph → List Home → Type 0
+AreHomed f g homes = (p x : ℕ) (w : declared-writer.Writer) → IsWriter f g p x w → HasHome homes x
 
 -- given: what writes names, and a number for each name
 module _ (all : List declared-written.Written) (key : ℕ → ℕ) (n : ℕ) where
@@ -55,6 +65,19 @@ module _ (v : declared-writers.Writers) where
   -- two names have one home
   abbrev pub HaveOneHome : (y x : ℕ) → Type 0
   HaveOneHome y x = is_same_home (home_in v.homes.now y) (home_in v.homes.now x) ≡ true
+
+  -- By homes and by names there is a list for a name.
+  pub record HasLists (x : ℕ) : Type 0 where
+    pub by_home : home_key x < length v.by_home.items
+    pub by_name : x < length v.by_name.items
+
+  -- There are such lists for each name that is written.
+  abbrev pub HaveLists : Type 0
+  HaveLists = (p x : ℕ) (w : declared-writer.Writer) → Writes p x w → HasLists x
+
+  -- What is known to write names comes no later than what has these numbers in order.
+  abbrev pub AreNoLater : (rank : List ℕ) → Type 0
+  AreNoLater rank = (k : ℕ) (z : declared-written.Written) → slice_get v.all.items k ≡ Some z → IsNoLater (rank_of z.writer) rank
 
   -- What is told to write names does.
   abbrev pub AreSound : Type 0
@@ -90,9 +113,11 @@ module _ (v : declared-writers.Writers) where
     pub all : (p x : ℕ) (w : declared-writer.Writer) → Writes p x w → IsKnown p x w
     pub indexed : IsIndexed
 
--- Nothing of what is known is lost, and it is of the same function.
+-- Nothing of what is known is lost, and it is of the same function, with as many lists.
 pub record AreMore (old new : declared-writers.Writers) : Type 0 where
   pub function : new.function ≡ old.function
   pub graph : new.graph.now ≡ old.graph.now
   pub homes : new.homes.now ≡ old.homes.now
+  pub by_home : length new.by_home.items ≡ length old.by_home.items
+  pub by_name : length new.by_name.items ≡ length old.by_name.items
   pub kept : (z : declared-written.Written) → Contains old.all.items z → Contains new.all.items z

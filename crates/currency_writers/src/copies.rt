@@ -26,7 +26,9 @@ pub struct Copies<'a> {
 
 /// The target of a copy of a name, and the name.
 fn copy_of(instruction: &Instr) -> Option<(u32, u32)>
-    ensures { MatchOption result ((p x : ℕ) (place : Option ℕ) → first_among p x place (instruction_view instruction.now ∷ []) ≡ None) (λ copy. instruction_view instruction.now ≡ Move copy.0 (NameOf copy.1)) }
+    ensures { MatchOption result
+        ((p x : ℕ) (place : Option ℕ) → first_among p x place (instruction_view instruction.now ∷ []) ≡ None)
+        (λ copy. instruction_view instruction.now ≡ Move copy.0 (NameOf copy.1)) }
 {
     match instruction {
         Instr::Move {
@@ -94,7 +96,9 @@ impl<'a> Copies<'a> {
 
     /// The copies in a block.
     fn add_block(&mut self, block: &Block) -> Result<(), AllocError>
-        ensures { OnOk result (AreCopied self.old self.new (placed block.now.place) (map instruction_view block.now.instructions.items)) }
+        ensures { OnOk result
+            (AreCopied self.old self.new (placed block.now.place)
+            (map instruction_view block.now.instructions.items)) }
     {
         let mut place = block.place;
         for instruction in &block.instructions {
@@ -122,9 +126,12 @@ impl<'a> Copies<'a> {
     /// The temporary of which the first copy to a scalar in a place is, if it is one of a temporary.
     pub fn temporary(&self, place: Place, scalar: u32) -> Option<u32>
         requires { AreCopies self.now }
-        ensures copied { IfSome result (λ t. first_copy place.0 scalar (graph_view self.now.graph.now).blocks ≡ Some t) }
+        ensures copied { IfSome result
+            (λ t. first_copy place.0 scalar (graph_view self.now.graph.now).blocks ≡ Some t) }
         ensures temporary { IfSome result (λ t. length (graph_view self.now.graph.now).scalars ≤ t) }
-        ensures all { (t : ℕ) → scalar < length (graph_view self.now.graph.now).scalars → first_copy place.0 scalar (graph_view self.now.graph.now).blocks ≡ Some t → length (graph_view self.now.graph.now).scalars ≤ t → result ≡ Some t }
+        ensures all { (t : ℕ) → scalar < length (graph_view self.now.graph.now).scalars
+            → first_copy place.0 scalar (graph_view self.now.graph.now).blocks ≡ Some t
+            → length (graph_view self.now.graph.now).scalars ≤ t → result ≡ Some t }
     {
         let copies = self.by_target.get(scalar as usize)?;
         match first_in(copies, place.0) {

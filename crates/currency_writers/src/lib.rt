@@ -9,7 +9,7 @@ mod search;
 mod writers;
 
 pub use copies::Copies;
-pub use lists::Lists;
+pub use lists::{Lists, count_with};
 pub use marks::Marks;
 pub use search::Search;
 pub use writers::{Write, Writer, Writers};

@@ -1,7 +1,7 @@
 //! Lists by number.
 
-ghost use Rattle.std.specs.Prelude.{◌≡◌, ◌⊎◌, ℕ, Contains, IfOk, OnOk, [], true};
-ghost use Rattle.currency_writers.specs.Lists.{entries_of};
+ghost use Rattle.std.specs.Prelude.{◌≡◌, ◌≢◌, ◌<◌, ◌≤◌, ◌++◌, ℕ, IfOk, OnOk, [], ◌∷◌};
+ghost use Rattle.currency_writers.specs.Lists.{count_of, entries_of};
 
 use std::alloc::{AllocError, Global};
 
@@ -11,13 +11,22 @@ pub struct Lists {
     lists: Vec<Vec<u32>>,
 }
 
+/// How many lists there are to be, where there are to be so many already and one of this number.
+pub fn count_with(count: usize, number: u32) -> usize
+    ensures least { count ≤ result }
+    ensures above { number < result }
+{
+    count.max(number as usize + 1)
+}
+
 impl Lists {
     /// So many lists without entries.
     pub fn new(alloc: Global, count: usize) -> Result<Lists, AllocError>
-        ensures { IfOk result (λ made. (k : ℕ) → entries_of made k ≡ []) }
+        ensures none { IfOk result (λ made. (k : ℕ) → entries_of made k ≡ []) }
+        ensures count { IfOk result (λ made. count_of made ≡ count) }
     {
         let mut lists = Vec::new(alloc);
-        for _ in 0..count {
+        for _made in 0..count {
             lists.push(Vec::new(alloc))?;
         }
         Ok(Lists { lists })
@@ -33,21 +42,14 @@ impl Lists {
         }
     }
 
-    /// How many lists there are.
-    pub fn count(&self) -> usize {
-        self.lists.len()
-    }
-
-    /// Appends to the list of this number. Tells whether there is one; where there is none, nothing is changed.
-    pub fn push(&mut self, number: u32, entry: u32) -> Result<bool, AllocError>
-        ensures only { OnOk result ((k x : ℕ) → Contains (entries_of self.new k) x → Contains (entries_of self.old k) x ⊎ ((k ≡ number) × (x ≡ entry))) }
-        ensures kept { OnOk result ((k x : ℕ) → Contains (entries_of self.old k) x → Contains (entries_of self.new k) x) }
-        ensures there { IfOk result (λ b. b ≡ true → Contains (entries_of self.new number) entry) }
+    /// Appends to the list of this number.
+    pub fn push(&mut self, number: u32, entry: u32) -> Result<(), AllocError>
+        requires { number < count_of self.old }
+        ensures pushed { OnOk result (entries_of self.new number ≡ entries_of self.old number ++ (entry ∷ [])) }
+        ensures others { OnOk result ((k : ℕ) → k ≢ number → entries_of self.new k ≡ entries_of self.old k) }
+        ensures count { OnOk result (count_of self.new ≡ count_of self.old) }
     {
-        if number as usize >= self.lists.len() {
-            return Ok(false);
-        }
         self.lists[number as usize].push(entry)?;
-        Ok(true)
+        Ok(())
     }
 }

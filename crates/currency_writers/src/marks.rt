@@ -1,6 +1,6 @@
 //! What places are marked with, for many questions.
 
-ghost use Rattle.std.specs.Prelude.{ℕ, IfOk};
+ghost use Rattle.std.specs.Prelude.{◌≡◌, ℕ, IfOk, length};
 ghost use Rattle.currency_writers.specs.Entries.{AreUpTo};
 
 use std::alloc::{AllocError, Global};
@@ -15,7 +15,8 @@ pub struct Marks<T: Copy> {
 
 /// So many entries that are of no round.
 fn no_entries<T: Copy>(alloc: Global, count: usize, value: T) -> Result<Vec<(u64, T)>, AllocError>
-    ensures { IfOk result (λ made. AreUpTo 0 made.items) }
+    ensures up_to { IfOk result (λ made. AreUpTo 0 made.items) }
+    ensures count { IfOk result (λ made. length made.items ≡ count) }
 {
     let mut entries = Vec::with_capacity(alloc, count)?;
     for _made in 0..count {
@@ -26,7 +27,8 @@ fn no_entries<T: Copy>(alloc: Global, count: usize, value: T) -> Result<Vec<(u64
 
 /// All entries are of no round from here on.
 fn clear<T: Copy>(entries: &mut Vec<(u64, T)>)
-    ensures { AreUpTo 0 entries.new.items }
+    ensures up_to { AreUpTo 0 entries.new.items }
+    ensures count { length entries.new.items ≡ length entries.old.items }
 {
     for k in 0..entries.len() {
         entries[k].0 = 0;
@@ -34,12 +36,13 @@ fn clear<T: Copy>(entries: &mut Vec<(u64, T)>)
 }
 
 impl<T: Copy> Marks<T> {
-    ghost use Rattle.std.specs.Prelude.{◌≡◌, ◌≢◌, ◌⊎◌, ◌↔◌, All, Contains, None, Some, false, true};
-    ghost use Rattle.currency_writers.specs.Marks.{mark_at};
+    ghost use Rattle.std.specs.Prelude.{◌≢◌, ◌<◌, ◌⊎◌, ◌↔◌, All, Contains, None, Some, true};
+    ghost use Rattle.currency_writers.specs.Marks.{mark_at, room_of};
 
     /// No place below a number is marked. Until one is, its entry holds this.
     pub fn new(alloc: Global, places: usize, value: T) -> Result<Marks<T>, AllocError>
-        ensures { IfOk result (λ made. (p : ℕ) → mark_at made p ≡ None) }
+        ensures none { IfOk result (λ made. (p : ℕ) → mark_at made p ≡ None) }
+        ensures room { IfOk result (λ made. room_of made ≡ places) }
     {
         Ok(Marks {
             entries: no_entries(alloc, places, value)?,
@@ -49,7 +52,8 @@ impl<T: Copy> Marks<T> {
 
     /// No place is marked any more.
     pub fn forget(&mut self)
-        ensures { (p : ℕ) → mark_at self.new p ≡ None }
+        ensures none { (p : ℕ) → mark_at self.new p ≡ None }
+        ensures room { room_of self.new ≡ room_of self.old }
     {
         if self.round < u64::MAX {
             self.round += 1;
@@ -76,29 +80,26 @@ impl<T: Copy> Marks<T> {
         self.at(place).is_some()
     }
 
-    /// These places are marked with this from here on. Tells whether all are places.
-    pub fn mark(&mut self, places: &[u32], value: T) -> bool
+    /// These places are marked with this from here on.
+    pub fn mark(&mut self, places: &[u32], value: T)
+        requires { All (λ p. p < room_of self.old) places.now }
         ensures only { (p : ℕ) → mark_at self.new p ≢ None → (mark_at self.old p ≢ None) ⊎ Contains places.now p }
-        ensures all { result ≡ true → All (λ p. mark_at self.new p ≢ None) places.now }
+        ensures all { All (λ p. mark_at self.new p ≢ None) places.now }
+        ensures room { room_of self.new ≡ room_of self.old }
     {
         for place in places {
-            if !self.put(*place, value) {
-                return false;
-            }
+            self.put(*place, value);
         }
-        true
     }
 
-    /// A place is marked with this from here on. Tells whether it is one; where it is none, nothing is changed.
-    pub fn put(&mut self, place: u32, value: T) -> bool
-        ensures put { (p : ℕ) → (mark_at self.new p ≡ mark_at self.old p) ⊎ ((p ≡ place) × (mark_at self.new p ≡ Some value)) }
-        ensures there { result ≡ true → mark_at self.new place ≡ Some value }
-        ensures kept { result ≡ false → (p : ℕ) → mark_at self.new p ≡ mark_at self.old p }
+    /// A place is marked with this from here on.
+    pub fn put(&mut self, place: u32, value: T)
+        requires { place < room_of self.old }
+        ensures put { (p : ℕ) → (mark_at self.new p ≡ mark_at self.old p)
+            ⊎ ((p ≡ place) × (mark_at self.new p ≡ Some value)) }
+        ensures there { mark_at self.new place ≡ Some value }
+        ensures room { room_of self.new ≡ room_of self.old }
     {
-        if place as usize >= self.entries.len() {
-            return false;
-        }
         self.entries[place as usize] = (self.round, value);
-        true
     }
 }

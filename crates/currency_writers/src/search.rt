@@ -1,8 +1,9 @@
 //! Where execution may come from to a place with nothing on its way that assigns a variable.
 
-ghost use Rattle.std.specs.Prelude.{◌≡◌, ◌↔◌, IfOk, IfSome, MatchOption, OnOk, true};
-ghost use Rattle.currency_writers.specs.Flow.{AreTold, IsClosed, IsFlow, IsToldFrom, assigned};
-ghost use Rattle.currency_writers.specs.Starts.{HasNoStart, IsLeastStartBy, IsTurned};
+ghost use Rattle.std.specs.Prelude.{◌≡◌, IfOk, MatchOption, OnOk};
+ghost use Rattle.currency_writers.specs.Flow.{AreTold, HasRoom, IsClosed, IsFlowOfPlaces, IsToldFrom, assigned};
+ghost use Rattle.currency_writers.specs.Marks.{room_of};
+ghost use Rattle.currency_writers.specs.Starts.{HasNoStart, IsLeastStartBy, IsSearch, IsTurned};
 
 use crate::flow::{Flow, after_of, assigning_of};
 use crate::marks::Marks;
@@ -14,26 +15,21 @@ use std::alloc::{AllocError, Global};
 #[derive(Drop)]
 pub struct Search<'a> {
     flow: Flow<'a>,
-    /// For each place the least one that assigns the variable and from which execution may come there, by at least one step, with nothing between that assigns it.
+    /// For each place the least one that assigns the variable and from which execution may come there, by at least one
+    /// step, with nothing between that assigns it.
     starts: Marks<u32>,
 }
 
 impl<'a> Search<'a> {
-    /// The flow of a program with places below a number. None where an assignment is of no variable or a step leads from no place, which is never so.
-    pub fn new(
-        alloc: Global,
-        table: &'a FlowTable,
-        places: usize,
-    ) -> Result<Option<Search<'a>>, AllocError>
-        ensures flow { IfOk result (λ o. IfSome o (λ made. IsFlow made.flow)) }
-        ensures table { IfOk result (λ o. IfSome o (λ made. made.flow.table.now ≡ table.now)) }
+    /// The flow of a program with places below a number.
+    pub fn new(alloc: Global, table: &'a FlowTable, places: usize) -> Result<Search<'a>, AllocError>
+        requires { IsFlowOfPlaces table.now places }
+        ensures search { IfOk result (λ made. IsSearch made) }
+        ensures table { IfOk result (λ made. made.flow.table.now ≡ table.now) }
+        ensures room { IfOk result (λ made. room_of made.flow.assigns ≡ places) }
     {
-        let Some(after) = after_of(alloc, &table.steps, places)? else {
-            return Ok(None);
-        };
-        let Some(assigning) = assigning_of(alloc, &table.assignments)? else {
-            return Ok(None);
-        };
+        let after = after_of(alloc, &table.steps, places)?;
+        let assigning = assigning_of(alloc, &table.assignments)?;
         let flow = Flow {
             table,
             after,
@@ -42,22 +38,21 @@ impl<'a> Search<'a> {
             assigns: Marks::new(alloc, places, ())?,
         };
         let starts = Marks::new(alloc, places, 0)?;
-        Ok(Some(Search { flow, starts }))
+        Ok(Search { flow, starts })
     }
 
-    /// The questions are on this variable from here on. Tells whether the places that assign it are such of the program, in order.
-    pub fn turn_to(&mut self, alloc: Global, var: Var) -> Result<bool, AllocError>
-        requires { IsFlow self.old.flow }
-        ensures flow { OnOk result (IsFlow self.new.flow) }
+    /// The questions are on this variable from here on.
+    pub fn turn_to(&mut self, alloc: Global, var: Var) -> Result<(), AllocError>
+        requires { IsSearch self.old }
+        ensures turned { OnOk result (IsTurned self.new) }
         ensures table { OnOk result (self.new.flow.table.now ≡ self.old.flow.table.now) }
-        ensures var { IfOk result (λ b. b ≡ true → self.new.flow.var.0 ≡ var.0) }
-        ensures turned { IfOk result (λ b. b ≡ true → IsTurned self.new) }
+        ensures var { OnOk result (self.new.flow.var.0 ≡ var.0) }
+        ensures room { OnOk result (room_of self.new.flow.assigns ≡ room_of self.old.flow.assigns) }
     {
         self.starts.forget();
-        if !self.flow.turn_to(var) {
-            return Ok(false);
-        }
-        Ok(self.flow.find_starts(alloc, &mut self.starts)?)
+        self.flow.turn_to(var);
+        self.flow.find_starts(alloc, &mut self.starts)?;
+        Ok(())
     }
 
     /// The variable in question.
@@ -75,7 +70,8 @@ impl<'a> Search<'a> {
         self.flow.assigns.has(place)
     }
 
-    /// The least place that assigns the variable and from which a way leads by this one, if there is one. From one that assigns the variable it is that itself.
+    /// The least place that assigns the variable and from which a way leads by this one, if there is one. From one that
+    /// assigns the variable it is that itself.
     pub fn start_of(&self, place: u32) -> Option<u32>
         requires { IsTurned self.now }
         ensures { MatchOption result (HasNoStart self.now place) (λ start. IsLeastStartBy self.now start place) }
@@ -86,20 +82,23 @@ impl<'a> Search<'a> {
         self.starts.at(place)
     }
 
-    /// Marks with this each place that is not marked yet, and to which execution may come from a place, by one step at least, with nothing between that assigns the
-    /// variable. Tells whether all are marked then.
+    /// Marks with this each place that is not marked yet, and to which execution may come from a place, by one step at
+    /// least, with nothing between that assigns the
+    /// variable.
     pub fn tell_from<T: Copy>(
         &self,
         alloc: Global,
         place: u32,
         value: T,
         told: &mut Marks<T>,
-    ) -> Result<bool, AllocError>
+    ) -> Result<(), AllocError>
         requires turned { IsTurned self.now }
         requires closed { IsClosed self.now.flow told.old }
+        requires room { HasRoom self.now.flow told.old }
         ensures told { OnOk result (IsToldFrom self.now.flow place value told.old told.new) }
-        ensures closed { IfOk result (λ b. b ≡ true → IsClosed self.now.flow told.new) }
-        ensures all { IfOk result (λ b. b ≡ true → AreTold self.now.flow place told.new) }
+        ensures closed { OnOk result (IsClosed self.now.flow told.new) }
+        ensures all { OnOk result (AreTold self.now.flow place told.new) }
+        ensures room { OnOk result (room_of told.new ≡ room_of told.old) }
     {
         self.flow.flood(alloc, place, value, told)
     }

@@ -1,6 +1,6 @@
 //! What writes the homes of names, by these homes.
 
-ghost use Rattle.std.specs.Prelude.{◌≡◌, ◌≢◌, ◌↔◌, ℕ, ◌<◌, [], ◌∷◌, ◌++◌, IfOk, IfSome, OnOk, Some, length, map, slice_get, true};
+ghost use Rattle.std.specs.Prelude.{◌≡◌, ◌≢◌, ◌↔◌, ℕ, ◌+◌, ◌<◌, List, [], ◌∷◌, ◌++◌, IfOk, IfSome, OnOk, Some, length, map, slice_get, true};
 ghost use Rattle.std.specs.List.Sorted.{IsPermutation};
 ghost use Rattle.graph_homes.specs.Homes.{is_same_home};
 ghost use Rattle.graph_core.specs.Graphs.{ToScalar, binding_view, graph_view, instruction_view};
@@ -9,7 +9,7 @@ ghost use Rattle.currency_notes.specs.Homes.{home_in};
 ghost use Rattle.currency_writers.specs.declared.writers.Written as declared-written;
 ghost use Rattle.currency_writers.specs.declared.writers.Writer.TheVariants.{Binding as BindingOf};
 ghost use Rattle.currency_writers.specs.Order.{IsNoLater, rank_of};
-ghost use Rattle.currency_writers.specs.Writers.{AreBindings, AreBlocks, AreInstructions, AreMore, AreSound, AreWriters, AreWritesBy, HaveOneHome, IsIndexed, IsKnown, Writes, home_key, placed, writes_in};
+ghost use Rattle.currency_writers.specs.Writers.{AreBindings, AreBlocks, AreHomed, AreInstructions, AreMore, AreNoLater, AreSound, AreWriters, AreWritesBy, HasLists, HaveLists, HaveOneHome, IsIndexed, IsKnown, Writes, home_key, placed, writes_in};
 
 use currency_notes::{home_count, home_number};
 use debug_records::Place;
@@ -33,57 +33,6 @@ pub enum Writer {
     },
 }
 
-impl Writer {
-    /// Whether this comes no later than another: the bindings of parameters come first, and then instructions by block and index.
-    pub fn is_no_later(self, other: Writer) -> bool
-        ensures { result ≡ true → IsNoLater (rank_of self) (rank_of other) }
-    {
-        match self {
-            Writer::Binding { parameter, .. } => is_binding_no_later(parameter, other),
-            Writer::Instruction { block, index, .. } => {
-                is_instruction_no_later(block, index, other)
-            }
-        }
-    }
-}
-
-/// Whether the binding of a parameter comes no later than what writes a name.
-fn is_binding_no_later(parameter: usize, other: Writer) -> bool
-    ensures { result ≡ true → IsNoLater (0 ∷ parameter ∷ []) (rank_of other) }
-{
-    match other {
-        Writer::Binding {
-            parameter: behind,
-            ..
-        } => parameter <= behind,
-        Writer::Instruction { .. } => true,
-    }
-}
-
-/// Whether an instruction comes no later than what writes a name.
-fn is_instruction_no_later(block: usize, index: usize, other: Writer) -> bool
-    ensures { result ≡ true → IsNoLater (1 ∷ block ∷ index ∷ []) (rank_of other) }
-{
-    match other {
-        Writer::Binding { .. } => false,
-        Writer::Instruction {
-            block: next,
-            index: behind,
-            ..
-        } => is_index_no_later(block, index, next, behind),
-    }
-}
-
-/// Whether an index in a block comes no later than another in a block.
-fn is_index_no_later(block: usize, index: usize, next: usize, behind: usize) -> bool
-    ensures { result ≡ true → IsNoLater (block ∷ index ∷ []) (next ∷ behind ∷ []) }
-{
-    if block != next {
-        return block < next;
-    }
-    index <= behind
-}
-
 /// A name is written in a place.
 #[derive(Clone, Copy)]
 pub struct Written {
@@ -92,7 +41,8 @@ pub struct Written {
     pub writer: Writer,
 }
 
-/// The place where a name is written, and the number of what writes it. In order they come by places, and in one place the bindings of parameters first,
+/// The place where a name is written, and the number of what writes it. In order they come by places, and in one place
+/// the bindings of parameters first,
 /// and then instructions by block and index.
 #[derive(Clone, Copy, PartialEq, Eq, PartialOrd, Ord)]
 pub struct Write {
@@ -117,25 +67,25 @@ pub struct Writers<'a> {
 
 /// So many lists without entries.
 fn no_writes(alloc: Global, count: usize) -> Result<Vec<Vec<Write>>, AllocError>
-    ensures { IfOk result (λ made. (n : ℕ) → writes_in made.items n ≡ []) }
+    ensures none { IfOk result (λ made. (n : ℕ) → writes_in made.items n ≡ []) }
+    ensures count { IfOk result (λ made. length made.items ≡ count) }
 {
     let mut lists = Vec::new(alloc);
-    for _ in 0..count {
+    for _made in 0..count {
         lists.push(Vec::new(alloc))?;
     }
     Ok(lists)
 }
 
-/// Appends to the list of this number. Tells whether there is one.
-fn push_write(lists: &mut Vec<Vec<Write>>, number: u32, write: Write) -> Result<bool, AllocError>
-    ensures pushed { IfOk result (λ b. b ≡ true → writes_in lists.new.items number ≡ writes_in lists.old.items number ++ (write ∷ [])) }
+/// Appends to the list of this number.
+fn push_write(lists: &mut Vec<Vec<Write>>, number: u32, write: Write) -> Result<(), AllocError>
+    requires { number < length lists.old.items }
+    ensures pushed { OnOk result (writes_in lists.new.items number ≡ writes_in lists.old.items number ++ (write ∷ [])) }
     ensures others { OnOk result ((n : ℕ) → n ≢ number → writes_in lists.new.items n ≡ writes_in lists.old.items n) }
+    ensures count { OnOk result (length lists.new.items ≡ length lists.old.items) }
 {
-    if number as usize >= lists.len() {
-        return Ok(false);
-    }
     lists[number as usize].push(write)?;
-    Ok(true)
+    Ok(())
 }
 
 /// The list of this number; no entries where there is none.
@@ -177,29 +127,20 @@ fn home_of(homes: &[Home], name: u32) -> Home
 }
 
 impl<'a> Writers<'a> {
-    /// Whether what writes a name comes no earlier than what is known to.
-    fn is_next(&self, writer: Writer) -> bool
-        requires { IsIndexed self.now }
-        ensures { result ≡ true → (k : ℕ) (z : declared-written.Written) → slice_get self.now.all.items k ≡ Some z → IsNoLater (rank_of z.writer) (rank_of writer) }
-    {
-        let count = self.all.len();
-        if count == 0 {
-            return true;
-        }
-        let last = self.all[count - 1];
-        last.writer.is_no_later(writer)
-    }
-
-    /// The write of a name in a place, of this number. Tells whether it has a home.
-    fn push(&mut self, number: usize, written: Written) -> Result<bool, AllocError>
+    /// The write of a name in a place, of this number.
+    fn push(&mut self, number: usize, written: Written) -> Result<(), AllocError>
         requires sound { AreSound self.old }
         requires writes { Writes self.old written.place written.name written.writer }
+        requires lists { HasLists self.old written.name }
         requires indexed { IsIndexed self.old }
-        requires next { (k : ℕ) (z : declared-written.Written) → slice_get self.old.all.items k ≡ Some z → IsNoLater (rank_of z.writer) (rank_of written.writer) }
+        requires next { AreNoLater self.old (rank_of written.writer) }
         requires number { number ≡ length self.old.all.items }
         ensures more { OnOk result (AreMore self.old self.new) }
         ensures sound { OnOk result (AreSound self.new) }
-        ensures indexed { IfOk result (λ b. b ≡ true → IsIndexed self.new) }
+        ensures indexed { OnOk result (IsIndexed self.new) }
+        ensures next { OnOk result
+            ((rank : List ℕ) → IsNoLater (rank_of written.writer) rank → AreNoLater self.old rank
+            → AreNoLater self.new rank) }
         ensures there { OnOk result (IsKnown self.new written.place written.name written.writer) }
     {
         self.all.push(written)?;
@@ -208,46 +149,54 @@ impl<'a> Writers<'a> {
             number,
         };
         let home = home_number(self.homes, written.name);
-        if !push_write(&mut self.by_home, home, write)? {
-            return Ok(false);
-        }
-        Ok(push_write(&mut self.by_name, written.name, write)?)
+        push_write(&mut self.by_home, home, write)?;
+        push_write(&mut self.by_name, written.name, write)?;
+        Ok(())
     }
 
-    /// A name is written in a place. Tells whether it has a home, and the write comes no earlier than those that are known.
-    fn add(&mut self, place: Option<Place>, name: u32, writer: Writer) -> Result<bool, AllocError>
+    /// A name is written in a place, and nothing that is known comes later.
+    fn add(&mut self, place: Option<Place>, name: u32, writer: Writer) -> Result<(), AllocError>
         requires sound { AreSound self.old }
         requires writes { (p : ℕ) → placed place ≡ Some p → Writes self.old p name writer }
+        requires lists { HaveLists self.old }
         requires indexed { IsIndexed self.old }
+        requires next { AreNoLater self.old (rank_of writer) }
         ensures more { OnOk result (AreMore self.old self.new) }
         ensures sound { OnOk result (AreSound self.new) }
-        ensures indexed { IfOk result (λ b. b ≡ true → IsIndexed self.new) }
-        ensures there { IfOk result (λ b. b ≡ true → (p : ℕ) → placed place ≡ Some p → IsKnown self.new p name writer) }
+        ensures indexed { OnOk result (IsIndexed self.new) }
+        ensures next { OnOk result
+            ((rank : List ℕ) → IsNoLater (rank_of writer) rank → AreNoLater self.old rank
+            → AreNoLater self.new rank) }
+        ensures there { OnOk result ((p : ℕ) → placed place ≡ Some p → IsKnown self.new p name writer) }
     {
         let Some(place) = place else {
-            return Ok(true);
+            return Ok(());
         };
-        if !self.is_next(writer) {
-            return Ok(false);
-        }
         let number = self.all.len();
         let written = Written {
             place: place.0,
             name,
             writer,
         };
-        Ok(self.push(number, written)?)
+        self.push(number, written)?;
+        Ok(())
     }
 
-    /// The binding of a parameter. Tells whether it has a home, if it is a scalar.
-    fn add_binding(&mut self, parameter: usize, binding: &Binding) -> Result<bool, AllocError>
+    /// The binding of a parameter.
+    fn add_binding(&mut self, parameter: usize, binding: &Binding) -> Result<(), AllocError>
         requires sound { AreSound self.old }
+        requires lists { HaveLists self.old }
         requires indexed { IsIndexed self.old }
-        requires binding { slice_get (graph_view self.old.graph.now).parameters parameter ≡ Some (binding_view binding.now) }
+        requires next { AreNoLater self.old (0 ∷ parameter ∷ []) }
+        requires binding { slice_get (graph_view self.old.graph.now).parameters parameter
+            ≡ Some (binding_view binding.now) }
         ensures more { OnOk result (AreMore self.old self.new) }
         ensures sound { OnOk result (AreSound self.new) }
-        ensures indexed { IfOk result (λ b. b ≡ true → IsIndexed self.new) }
-        ensures there { IfOk result (λ b. b ≡ true → (x : ℕ) → binding_view binding.now ≡ ToScalar x → IsKnown self.new (graph_view self.new.graph.now).entry x (BindingOf self.new.function parameter)) }
+        ensures indexed { OnOk result (IsIndexed self.new) }
+        ensures next { OnOk result (AreNoLater self.new (0 ∷ parameter ∷ [])) }
+        ensures there { OnOk result
+            ((x : ℕ) → binding_view binding.now ≡ ToScalar x
+            → IsKnown self.new (graph_view self.new.graph.now).entry x (BindingOf self.new.function parameter)) }
     {
         match binding {
             Binding::Scalar(name) => {
@@ -255,60 +204,76 @@ impl<'a> Writers<'a> {
                     function: self.function,
                     parameter,
                 };
-                Ok(self.add(Some(self.graph.entry), name.0, writer)?)
+                self.add(Some(self.graph.entry), name.0, writer)?;
+                Ok(())
             }
-            Binding::Object(_) => Ok(true),
+            Binding::Object(_) => Ok(()),
         }
     }
 
-    /// The bindings of the parameters. Tells whether each has a home.
-    fn add_bindings(&mut self) -> Result<bool, AllocError>
+    /// The bindings of the parameters.
+    fn add_bindings(&mut self) -> Result<(), AllocError>
         requires sound { AreSound self.old }
+        requires lists { HaveLists self.old }
         requires indexed { IsIndexed self.old }
+        requires next { AreNoLater self.old (0 ∷ 0 ∷ []) }
         ensures more { OnOk result (AreMore self.old self.new) }
         ensures sound { OnOk result (AreSound self.new) }
-        ensures indexed { IfOk result (λ b. b ≡ true → IsIndexed self.new) }
-        ensures all { IfOk result (λ b. b ≡ true → AreBindings self.new (length self.new.graph.now.parameters.items)) }
+        ensures indexed { OnOk result (IsIndexed self.new) }
+        ensures next { OnOk result (AreNoLater self.new (1 ∷ 0 ∷ 0 ∷ [])) }
+        ensures all { OnOk result (AreBindings self.new (length self.new.graph.now.parameters.items)) }
     {
         let bindings = &self.graph.parameters;
         for k in 0..bindings.len() {
-            if !self.add_binding(k, &bindings[k])? {
-                return Ok(false);
-            }
+            self.add_binding(k, &bindings[k])?;
         }
-        Ok(true)
+        Ok(())
     }
 
-    /// What an instruction writes in a place. Tells whether that has a home.
+    /// What an instruction writes in a place.
     fn add_instruction(
         &mut self,
         place: Option<Place>,
         instruction: &Instr,
         writer: Writer,
-    ) -> Result<bool, AllocError>
+    ) -> Result<(), AllocError>
         requires sound { AreSound self.old }
-        requires writes { (p x : ℕ) → placed place ≡ Some p → target_of (instruction_view instruction.now) ≡ Some x → Writes self.old p x writer }
+        requires writes { (p x : ℕ) → placed place ≡ Some p → target_of (instruction_view instruction.now) ≡ Some x
+            → Writes self.old p x writer }
+        requires lists { HaveLists self.old }
         requires indexed { IsIndexed self.old }
+        requires next { AreNoLater self.old (rank_of writer) }
         ensures more { OnOk result (AreMore self.old self.new) }
         ensures sound { OnOk result (AreSound self.new) }
-        ensures indexed { IfOk result (λ b. b ≡ true → IsIndexed self.new) }
-        ensures there { IfOk result (λ b. b ≡ true → (p x : ℕ) → placed place ≡ Some p → target_of (instruction_view instruction.now) ≡ Some x → IsKnown self.new p x writer) }
+        ensures indexed { OnOk result (IsIndexed self.new) }
+        ensures next { OnOk result (AreNoLater self.new (rank_of writer)) }
+        ensures there { OnOk result
+            ((p x : ℕ) → placed place ≡ Some p → target_of (instruction_view instruction.now) ≡ Some x
+            → IsKnown self.new p x writer) }
     {
         match instruction.target() {
-            Some(target) => Ok(self.add(place, target.0, writer)?),
-            None => Ok(true),
+            Some(target) => {
+                self.add(place, target.0, writer)?;
+                Ok(())
+            }
+            None => Ok(()),
         }
     }
 
-    /// The instructions of a block. Tells whether each name that they write has a home.
-    fn add_block(&mut self, number: usize, block: &Block) -> Result<bool, AllocError>
+    /// The instructions of a block.
+    fn add_block(&mut self, number: usize, block: &Block) -> Result<(), AllocError>
         requires sound { AreSound self.old }
+        requires lists { HaveLists self.old }
         requires indexed { IsIndexed self.old }
+        requires next { AreNoLater self.old (1 ∷ number ∷ 0 ∷ []) }
         requires block { slice_get self.old.graph.now.blocks.items number ≡ Some block.now }
         ensures more { OnOk result (AreMore self.old self.new) }
         ensures sound { OnOk result (AreSound self.new) }
-        ensures indexed { IfOk result (λ b. b ≡ true → IsIndexed self.new) }
-        ensures all { IfOk result (λ b. b ≡ true → AreInstructions self.new number (map instruction_view block.now.instructions.items) (placed block.now.place) (length block.now.instructions.items)) }
+        ensures indexed { OnOk result (IsIndexed self.new) }
+        ensures next { OnOk result (AreNoLater self.new (1 ∷ (number + 1) ∷ 0 ∷ [])) }
+        ensures all { OnOk result
+            (AreInstructions self.new number (map instruction_view block.now.instructions.items)
+            (placed block.now.place) (length block.now.instructions.items)) }
     {
         let mut place = block.place;
         for k in 0..block.instructions.len() {
@@ -318,43 +283,42 @@ impl<'a> Writers<'a> {
                 block: number,
                 index: k,
             };
-            if !self.add_instruction(place, instruction, writer)? {
-                return Ok(false);
-            }
+            self.add_instruction(place, instruction, writer)?;
             place = instruction.marker().or(place);
         }
-        Ok(true)
+        Ok(())
     }
 
-    /// The blocks of the function. Tells whether each name that they write has a home.
-    fn add_blocks(&mut self) -> Result<bool, AllocError>
+    /// The blocks of the function.
+    fn add_blocks(&mut self) -> Result<(), AllocError>
         requires sound { AreSound self.old }
+        requires lists { HaveLists self.old }
         requires indexed { IsIndexed self.old }
+        requires next { AreNoLater self.old (1 ∷ 0 ∷ 0 ∷ []) }
         ensures more { OnOk result (AreMore self.old self.new) }
         ensures sound { OnOk result (AreSound self.new) }
-        ensures indexed { IfOk result (λ b. b ≡ true → IsIndexed self.new) }
-        ensures all { IfOk result (λ b. b ≡ true → AreBlocks self.new (length self.new.graph.now.blocks.items)) }
+        ensures indexed { OnOk result (IsIndexed self.new) }
+        ensures all { OnOk result (AreBlocks self.new (length self.new.graph.now.blocks.items)) }
     {
         let blocks = &self.graph.blocks;
         for n in 0..blocks.len() {
-            if !self.add_block(n, &blocks[n])? {
-                return Ok(false);
-            }
+            self.add_block(n, &blocks[n])?;
         }
-        Ok(true)
+        Ok(())
     }
 
-    /// What writes the homes of a function's names. None where one has no home.
+    /// What writes the homes of a function's names. The homes are those of its names.
     pub fn new(
         alloc: Global,
         function: u32,
         graph: &'a Graph,
         homes: &'a [Home],
-    ) -> Result<Option<Writers<'a>>, AllocError>
-        ensures writers { IfOk result (λ o. IfSome o (λ made. AreWriters made)) }
-        ensures function { IfOk result (λ o. IfSome o (λ made. made.function ≡ function)) }
-        ensures graph { IfOk result (λ o. IfSome o (λ made. made.graph.now ≡ graph.now)) }
-        ensures homes { IfOk result (λ o. IfSome o (λ made. made.homes.now ≡ homes.now)) }
+    ) -> Result<Writers<'a>, AllocError>
+        requires { AreHomed function (graph_view graph.now) homes.now }
+        ensures writers { IfOk result (λ made. AreWriters made) }
+        ensures function { IfOk result (λ made. made.function ≡ function) }
+        ensures graph { IfOk result (λ made. made.graph.now ≡ graph.now) }
+        ensures homes { IfOk result (λ made. made.homes.now ≡ homes.now) }
     {
         let mut writers = Writers {
             function,
@@ -364,12 +328,11 @@ impl<'a> Writers<'a> {
             by_home: no_writes(alloc, home_count(homes))?,
             by_name: no_writes(alloc, homes.len())?,
         };
-        if !writers.add_bindings()? || !writers.add_blocks()? {
-            return Ok(None);
-        }
+        writers.add_bindings()?;
+        writers.add_blocks()?;
         sort_all(&mut writers.by_home);
         sort_all(&mut writers.by_name);
-        Ok(Some(writers))
+        Ok(writers)
     }
 
     /// What writes the homes of the number of a name's home, in order.
@@ -393,7 +356,8 @@ impl<'a> Writers<'a> {
         requires { AreSound self.now }
         ensures writes { IfSome result (λ z. Writes self.now place z.name z.writer) }
         ensures some { IfSome result (λ z. (slice_get self.now.all.items number ≡ Some z) × (z.place ≡ place)) }
-        ensures all { (z : declared-written.Written) → slice_get self.now.all.items number ≡ Some z → z.place ≡ place → result ≡ Some z }
+        ensures all { (z : declared-written.Written) → slice_get self.now.all.items number ≡ Some z → z.place ≡ place
+            → result ≡ Some z }
     {
         if number >= self.all.len() {
             return None;

@@ -7,10 +7,7 @@ pub loop-var-init : goal.loop-var-init
 loop-var-init c = record { sights = sights_first c.args.place c.args.visible.now c.args.rows.now.items; told = λ w among. inl among }
 
 pub returns-clause-sights : goal.returns-clause-sights
-returns-clause-sights c = λ e. sights_all c.args.place c.args.visible.now c.loop-var.var-index (map sight c.args.rows.now.items) (map sight c.loop-var.rows.items) (omega arith) c.loop-var.invariant.sights
-
-pub returns-clause-told : goal.returns-clause-told
-returns-clause-told c = λ e. c.loop-var.invariant.told
+returns-clause-sights c = sights_all c.args.place c.args.visible.now c.loop-var.var-index (map sight c.args.rows.now.items) (map sight c.loop-var.rows.items) (omega arith) c.loop-var.invariant.sights
 
 pub loop-var-preserved : goal.loop-var-preserved
 loop-var-preserved c =

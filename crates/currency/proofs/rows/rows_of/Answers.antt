@@ -1,38 +1,13 @@
-use Rattle.std.proofs.Common.{◌≡◌, ◌+◌, ◌<◌, List, Some, ap, arith, get_or, length, subst, sym, ◌∙◌}
-use Rattle.std.proofs.lemmas.Option.{slice_get-get_or}
-use Rattle.debug_records.specs.declared.change.Var as declared-var
-use Rattle.currency.specs.declared.telling.ToldVariable as declared-variable
-use Rattle.currency.specs.Telling.{AreTold, told_at}
-use Rattle.currency.specs.Visible.{sights_from}
-use Rattle.currency.proofs.OnRows.{rows_more, sights_done, sights_more}
+use Rattle.std.proofs.Common.{◌≡◌, ℕ, ap, arith, length, replicate, subst}
+use Rattle.std.proofs.lemmas.List.{length-replicate}
+use Rattle.currency.specs.Telling.{AreBelow, told_at}
 use Rattle.currency.proofs.rows.rows_of.Goals as goal
 
-pub loop-row-preserved : goal.loop-row-preserved
-loop-row-preserved c =
-    let table = c.args.places.now in
-    let told = c.args.told.now in
-    let all = table.rows.items in
-    let k = c.loop-row.row-index in
-    let p = c.loop-row.place in
-    let row = c.row-item.result in
-    let lt : k < length all = subst (λ xs. k < length xs) c.deref-row-items.ensures.value c.loop-row-test.true in
-    let is : row ≡ get_or all k row = subst (λ xs. row ≡ get_or xs k row) c.deref-row-items.ensures.value c.row-item.is in
-    let rows = c.loop-row.rows.items in
-    let new = c.push_place.new.rows.items in
-    let inv = c.loop-row.invariant in
-    let pushed = c.in_ok-push_place.ensures in
-    let more : AreTold (told_at told (k + 1)) (k + 1) row.visible.items rows new =
-    subst (λ n. AreTold (told_at told n) n row.visible.items rows new) inv.place
-    (subst (λ (vars : List declared-var.Var). AreTold (told_at told p) p vars rows new) c.deref.ensures.value
-    (subst (λ (l : List declared-variable.ToldVariable). AreTold l p c.deref.result.now rows new) c.at.ensures (pushed.told c.if-not-branch.false))) in
-    record {
-      place = omega (arith, inv.place);
-      sights = sights_more p c.saturating_add-place.result rows new all k row c.deref.result.now (sights_from 1 all) lt is c.deref.ensures.value (pushed.sights c.if-not-branch.false) c.saturating_add-place.ensures inv.sights;
-      told = rows_more table told k row rows new (slice_get-get_or all k row lt ∙ ap Some (sym is)) inv.told more;
-    }
-
-pub returns-clause-told : goal.returns-clause-told
-returns-clause-told c = c.loop-row.invariant.told
-
-pub returns-clause-sights : goal.returns-clause-sights
-returns-clause-sights c = sights_done c.loop-row.place c.loop-row.rows.items c.args.places.now.rows.items c.loop-row.row-index (sights_from 1 c.args.places.now.rows.items) (omega arith) c.loop-row.invariant.sights
+pub rows_by-requires-clause-below : goal.rows_by-requires-clause-below
+rows_by-requires-clause-below c =
+    (let filled : c.in_ok-slots.slots.items ≡ replicate {A = ℕ} c.args.variables 0 = c.in_ok-slots.ensures.items_if_clones_equal (λ y e. e) in
+    let count = ap length filled in
+    let long = length-replicate {A = ℕ} c.args.variables 0 in
+    let same = ap length c.deref_mut.ensures.value in
+    let size : c.args.variables ≡ length c.deref_mut.result.now = omega (arith, count, long, same) in
+    λ p. subst (λ n. AreBelow n (told_at c.args.told.now p)) size (c.requires.below p))

@@ -1,4 +1,4 @@
-use Rattle.std.proofs.Common.{◌≡◌}
+use Rattle.std.proofs.Common.{◌≡◌, ◌+◌, length}
 use Rattle.graph_homes.specs.Homed.{homed_view}
 use Rattle.currency_hiding.specs.Changes.{log_of}
 use Rattle.currency_hiding.specs.Found.{IsTeller}
@@ -13,4 +13,5 @@ invariant-loop-f l = record {
   log : log_of l.teller.changes ≡ (homed_view l.homed).unit.log;
   flow : l.teller.search.flow.table.now ≡ l.flow;
   evident : AreToldEvident (homed_view l.homed).unit.log l.flow (homed_view l.homed) l.told;
+  count : length l.told.by_place.items ≡ length l.places.rows.items + 1;
 }

@@ -12,4 +12,4 @@ pub returns : goal.returns
 returns c =
     (let b = c.index-block.result.now in
     let at = slice_get-get_or c.args.function.now.graph.now.blocks.items c.args.number b (omega arith) ∙ ap Some (sym c.index-block.ensures) in
-    end_walked c.args.function.now c.args.state.now c.walk.new.self c.args.number b at (λ whole. record { reached = reached_at_end (graph_view c.args.function.now.graph.now) c.args.number (block_view b).instructions (end_view b.end) whole.reached; full = λ exact. c.walk.ensures.full c.args.number (end_view b.end) exact (whole.full exact); attained = λ log told. c.walk.ensures.attained log c.args.number (end_view b.end) told (view_at c.args.function.now c.args.number b at) (whole.attained log told) }))
+    end_walked c.args.function.now c.args.state.now c.walk.new.self c.args.number b at (λ whole. record { reached = reached_at_end (graph_view c.args.function.now.graph.now) c.args.number (block_view b).instructions (end_view b.end) whole.reached; sized = c.walk.ensures.sized whole.sized; full = λ exact. c.walk.ensures.full c.args.number (end_view b.end) exact (whole.full exact); attained = λ log told. c.walk.ensures.attained log c.args.number (end_view b.end) told (view_at c.args.function.now c.args.number b at) (whole.attained log told) }))

@@ -1,3 +1,4 @@
+use Rattle.std.proofs.Common.{◌≡◌, length}
 use Rattle.currency_hiding.specs.Found.{IsSameFunction, IsSameTeller}
 use Rattle.currency.specs.Evident.{AreNew, IsHidingScalar}
 use Rattle.currency.proofs.Entries.{AreScalarsTold}
@@ -9,4 +10,5 @@ invariant-loop-x l = record {
   teller : IsSameTeller l.fn.teller l.teller;
   function : IsSameFunction l.fn.function l.function;
   hiding : AreNew (IsHidingScalar l.fn.teller l.fn.function.writers l.scalars) l.fn.self l.self;
+  count : length l.self.by_place.items ≡ length l.fn.self.by_place.items;
 }

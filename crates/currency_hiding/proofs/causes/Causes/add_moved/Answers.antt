@@ -1,22 +1,52 @@
-use Rattle.std.proofs.Common.{arith}
+use Rattle.std.proofs.Common.{List, ◌<◌, [], ◌∷◌, arith, inl, inr, refl, subst, sym}
+use Rattle.std.specs.Prelude.{AllPairs}
 use Rattle.debug_records.specs.declared.change.Change.{Change}
 use Rattle.currency_hiding.specs.Found.{AreMovesFound}
+use Rattle.currency_hiding.proofs.Coming.{above_first, are_same, before_on, changes_first, changes_next}
 use Rattle.currency_hiding.proofs.First.{done_all, moves_done, moves_next}
+use Rattle.currency_hiding.proofs.Found.{found_of}
 use Rattle.currency_hiding.proofs.causes.Causes.add_moved.Goals as goal
+
+pub loop-change-init : goal.loop-change-init
+loop-change-init c = record {
+  causes = c.requires.causes;
+  kept = λ z there. there;
+  all = λ k d lt. absurd (omega (arith, lt));
+  next = changes_first c.args.self.now.found.items (λ n. 1 ∷ n ∷ []) c.deref-change-items.result.now (1 ∷ []) (λ n. inr (refl, tt)) c.requires.next;
+  kind = before_on c.args.self.now.found.items (1 ∷ []) (2 ∷ []) (inl (omega arith)) c.requires.next;
+}
+
+pub add_moved_one-requires : goal.add_moved_one-requires
+add_moved_one-requires c =
+    (let q = c.args.question in
+    let same = c.deref-change-items.ensures.value in
+    let k = c.loop-change.change-index in
+    let list = c.deref-change-items.result.now in
+    record {
+      asked = c.requires.asked;
+      moved = found_of q.changes.now q.search.now q.function.now _ c.var.result.0 list k _ c.var.ensures (are_same q.changes.now c.var.result.0 _ c.in_ok-moved.moved.items list (sym same) c.in_ok-moved.ensures) c.loop-change-test.true;
+      next = c.loop-change.invariant.next k _ (omega arith) c.loop-change-test.true;
+      causes = c.loop-change.invariant.causes;
+    })
 
 pub loop-change-preserved : goal.loop-change-preserved
 loop-change-preserved c =
     (let q = c.args.question in
     let said = c.in_ok-add_moved_one.ensures in
-    let done = c.if-not-branch.false in
+    let list = c.deref-change-items.result.now in
+    let k = c.loop-change.change-index in
+    let ordered : AllPairs (λ (d e : Change). d.number < e.number) list = subst (λ (l : List Change). AllPairs (λ (d e : Change). d.number < e.number) l) (sym c.deref-change-items.ensures.value) c.in_ok-moved.ensures.ordered in
+    let found = c.add_moved_one.new.self.found.items in
     record {
-      causes = said.causes done;
-      kept = λ z there. said.kept done z (c.loop-change.invariant.kept z there);
-      all = moves_next q.changes.now q.search.now q.function.now c.loop-change.self c.add_moved_one.new.self c.deref-change-items.result.now c.loop-change.change-index _ c.loop-change-test.true (said.kept done) (said.all done) c.loop-change.invariant.all;
+      causes = said.causes;
+      kept = λ z there. said.kept z (c.loop-change.invariant.kept z there);
+      all = moves_next q.changes.now q.search.now q.function.now c.loop-change.self c.add_moved_one.new.self list k _ c.loop-change-test.true said.kept said.all c.loop-change.invariant.all;
+      next = changes_next found (λ n. 1 ∷ n ∷ []) list k _ (1 ∷ _ ∷ []) ordered c.loop-change-test.true (λ n lt. inr (refl, above_first _ n lt)) said.next;
+      kind = before_on found (1 ∷ _ ∷ []) (2 ∷ []) (inl (omega arith)) said.next;
     })
 
 pub returns-clause-all : goal.returns-clause-all
-returns-clause-all c = λ e.
+returns-clause-all c =
     (let q = c.args.question in
     let all = c.loop-change.self.found.items in
     let list = c.in_ok-moved.moved.items in

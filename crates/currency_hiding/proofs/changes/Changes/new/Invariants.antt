@@ -1,11 +1,10 @@
-use Rattle.std.proofs.Common.{◌≡◌, ℕ, ◌+◌, ◌<◌, Some}
-use Rattle.std.specs.Prelude.{Contains, slice_get}
-use Rattle.debug_records.specs.declared.change.Change.{Change}
-use Rattle.currency_writers.specs.Lists.{entries_of}
+use Rattle.std.proofs.Common.{◌≡◌}
+use Rattle.currency_writers.specs.Lists.{count_of}
+use Rattle.currency_hiding.proofs.Numbering.{IsListing}
 use Rattle.currency_hiding.proofs.changes.Changes.new.Given as goal
 
-abbrev pub invariant-loop-k : goal.invariant-loop-k
-invariant-loop-k l = record {
-  numbers : (j : ℕ) (d : Change) → j < l.k → slice_get l.all j ≡ Some d → d.number ≡ j + 1;
-  listed : (j : ℕ) (d : Change) → j < l.k → slice_get l.all j ≡ Some d → Contains (entries_of l.by_variable d.var.0) (j + 1);
+abbrev pub invariant-loop-change : goal.invariant-loop-change
+invariant-loop-change l = record {
+  listing : IsListing l.all l.by_variable l.change-index;
+  count : count_of l.by_variable ≡ count_of l.initial.by_variable;
 }

@@ -46,3 +46,6 @@ returns-clause-full c = λ exact b at.
 
 pub returns-clause-told : goal.returns-clause-told
 returns-clause-told c = λ x d said. (let found = told_recipe c.loop-binding.state.noted.items x d said in c.loop-binding.invariant.none x found.0 found.1)
+
+pub returns-clause-sized : goal.returns-clause-sized
+returns-clause-sized c = (c.loop-binding.invariant.scalars ∙ sym (length-map c.args.function.now.graph.now.scalars.items scalar_view), c.loop-binding.invariant.homes)

@@ -5,7 +5,7 @@ use Rattle.graph_core.specs.Graphs.{Instruction, block_view, graph_view, instruc
 use Rattle.graph_core.specs.Validity.{place_behind}
 use Rattle.currency_notes.specs.Full.{IsFullAt}
 use Rattle.currency_notes.specs.Sources.{IsAttained, IsToldBy}
-use Rattle.currency_notes.proofs.Filling.{full_step}
+use Rattle.currency_notes.proofs.Filling.{full_step, kept_sized}
 use Rattle.currency_notes.proofs.Lists.{drop_end, drop_more}
 use Rattle.currency_notes.proofs.Sourcing.{attained_step, place_behind_first, place_next, place_there}
 use Rattle.currency_notes.proofs.state.State.walk.Goals as goal
@@ -26,6 +26,7 @@ loop-instruction-preserved c =
     let place : option_map (λ (p : declared-place.Place). p.0) c.place_behind-place.result ≡ place_behind_first instruction_view items begun (i + 1) =
     c.place_behind-place.ensures ∙ ap (λ o. place_behind (instruction_view item ∷ []) o) c.loop-instruction.invariant.place ∙ ap (λ a. place_behind (instruction_view a ∷ []) (place_behind_first instruction_view items begun i)) this ∙ sym (place_next instruction_view items begun i item lt) in
     record {
+      sized = λ sized. kept_sized f (instruction_view item) s c.step.new.self c.step.ensures.kept (c.loop-instruction.invariant.sized sized);
       full = λ n e exact full.
           (let before = subst (λ (is : List declared-instr.Instr). IsFullAt f s n (map instruction_view (drop i is)) e) (sym same) (c.loop-instruction.invariant.full n e exact full) in
           let here = subst (λ (is : List Instruction). IsFullAt f s n is e) (ap (λ is. map instruction_view is) (drop_more res i item c.loop-instruction-test.true c.instruction-item.is)) before in

@@ -1,5 +1,5 @@
 use Rattle.std.proofs.Common.{get_or, subst}
-use Rattle.currency_shown.specs.Survey.{AreEqualAll, comes_to}
+use Rattle.currency_shown.specs.Chains.{comes_to, AreEqualAll}
 use Rattle.currency_shown.proofs.Chaining.{start_of}
 use Rattle.currency_shown.proofs.states.States.leave.Goals as goal
 

@@ -12,4 +12,4 @@ returns c = λ linked start before.
     let size = c.requires in
     let last = last_at chain (length chain - 1) 0 (omega (arith, size)) in
     let end = c.walk.ensures (get_or chain 0 0) (get_or chain (length chain - 1) 0) begins.0 linked begins.1 last start in
-    c.in_ok-go_on.ensures before (start_each f c.walk.new.state (get_or chain (length chain - 1) 0) b (slice_get-get_or f.graph.now.blocks.items (get_or chain (length chain - 1) 0) b (omega arith) ∙ ap Some (sym c.index-block.ensures)) end))
+    c.in_ok-go_on.ensures.full before (start_each f c.walk.new.state (get_or chain (length chain - 1) 0) b (slice_get-get_or f.graph.now.blocks.items (get_or chain (length chain - 1) 0) b (omega arith) ∙ ap Some (sym c.index-block.ensures)) end))

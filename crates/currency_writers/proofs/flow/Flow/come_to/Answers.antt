@@ -1,8 +1,5 @@
-use Rattle.currency_writers.proofs.Closing.{more_blocked, more_kept, more_pushed}
+use Rattle.currency_writers.proofs.Closing.{more_blocked, more_pushed}
 use Rattle.currency_writers.proofs.flow.Flow.come_to.Goals as goal
-
-pub returns-then-not-put-clause-more : goal.returns-then-not-put-clause-more
-returns-then-not-put-clause-more g c = more_kept c.args.self.now c.args.told.now c.put.new.self c.args.ahead.now.items (c.put.ensures.kept c.if-not-put.true)
 
 pub returns-then-has-2-clause-more : goal.returns-then-has-2-clause-more
 returns-then-has-2-clause-more g c = more_blocked c.args.self.now c.args.told.now c.put.new.self c.args.ahead.now.items c.args.place c.args.value c.requires.blocked c.put.ensures.put (c.has-2.ensures.0 c.if-has-2.true)

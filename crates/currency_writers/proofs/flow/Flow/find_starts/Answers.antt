@@ -1,15 +1,26 @@
-use Rattle.std.proofs.Common.{◌∙◌, arith, get_or, refl, sym}
+use Rattle.std.proofs.Common.{◌∙◌, ◌≤◌, ℕ, List, arith, get_or, refl, subst, sym}
 use Rattle.std.proofs.lemmas.Option.{none-some}
+use Rattle.std.specs.List.Sorted.{IsNonDecreasing}
+use Rattle.currency_writers.specs.Marks.{room_of}
 use Rattle.currency_writers.proofs.Telling.{starts_next}
-use Rattle.currency_writers.proofs.Closing.{below_next, least_done, least_next}
+use Rattle.currency_writers.proofs.Closing.{below_next, least_done, least_next, rest_next}
 use Rattle.currency_writers.proofs.flow.Flow.find_starts.Goals as goal
 
 pub loop-place-init : goal.loop-place-init
 loop-place-init c = record {
   starts = λ p start at. absurd (none-some start (sym (c.requires.none p) ∙ at));
   closed = λ q some. absurd (some (c.requires.none q));
-  below = λ p start at. absurd (none-some start (sym (c.requires.none p) ∙ at));
+  below = λ j d le lt p start at. absurd (none-some start (sym (c.requires.none p) ∙ at));
   least = λ k d lt. absurd (omega (arith, lt));
+  room = refl;
+}
+
+pub flood-requires : goal.flood-requires
+flood-requires c = record {
+  flow = c.requires.flow;
+  blocked = c.requires.blocked;
+  closed = c.loop-place.invariant.closed;
+  room = subst (λ n. room_of c.args.self.now.assigns ≤ n) (sym c.loop-place.invariant.room) c.requires.room;
 }
 
 pub loop-place-preserved : goal.loop-place-preserved
@@ -21,16 +32,16 @@ loop-place-preserved c =
     let k = c.loop-place.place-index in
     let known = c.loop-place.invariant in
     let said = c.in_ok-flood.ensures in
-    let below = below_next f old new c.loop-place.last (get_or list k 0) (omega arith) said.told known.below in
+    let lt = c.loop-place-test.true in
+    let ascends : IsNonDecreasing list = subst (λ (l : List ℕ). IsNonDecreasing l) (sym c.get-place-items.ensures) (c.requires.flow.ordered f.var.0) in
+    let below = below_next f old new (get_or list k 0) (get_or list k 0) (omega arith) said.told (known.below k 0 (omega arith) lt) in
     record {
-      starts = starts_next f old new list k 0 c.requires.flow c.get-place-items.ensures c.loop-place-test.true known.starts said.told;
-      closed = said.closed c.if-not-branch.false;
-      below = below;
-      least = least_next f old new list k 0 (get_or list k 0) c.loop-place-test.true refl said.told (said.all c.if-not-branch.false) below known.least;
+      starts = starts_next f old new list k 0 c.requires.flow c.get-place-items.ensures lt known.starts said.told;
+      closed = said.closed;
+      below = rest_next f new list k 0 ascends lt below;
+      least = least_next f old new list k 0 (get_or list k 0) lt refl said.told said.all below known.least;
+      room = said.room ∙ known.room;
     })
 
-pub returns-then-not-branch-clause-starts : goal.returns-then-not-branch-clause-starts
-returns-then-not-branch-clause-starts c = starts_next c.args.self.now c.loop-place.starts c.flood.new.told c.get-place-items.result.now c.loop-place.place-index 0 c.requires.flow c.get-place-items.ensures c.loop-place-test.true c.loop-place.invariant.starts c.in_ok-flood.ensures.told
-
 pub returns-clause-least : goal.returns-clause-least
-returns-clause-least c = λ e. least_done c.args.self.now c.loop-place.starts c.get-place-items.result.now c.loop-place.place-index c.requires.flow c.get-place-items.ensures (omega arith) c.loop-place.invariant.least
+returns-clause-least c = least_done c.args.self.now c.loop-place.starts c.get-place-items.result.now c.loop-place.place-index c.requires.flow c.get-place-items.ensures (omega arith) c.loop-place.invariant.least

@@ -1,16 +1,12 @@
-use Rattle.std.proofs.Common.{◌<◌, ◌≤◌, length, arith, subst}
+use Rattle.std.proofs.Common.{◌∙◌, ◌<◌, ◌≤◌, length, arith, subst, sym}
 use Rattle.currency_writers.specs.Flow.{AreNextTold}
+use Rattle.currency_writers.specs.Marks.{room_of}
 use Rattle.currency_writers.proofs.Telling.{told_on}
 use Rattle.currency_writers.proofs.Closing.{closed_new, done_more, more_on, told_all}
 use Rattle.currency_writers.proofs.flow.Flow.flood.Goals as goal
 
-pub returns-then-at-len-clause-closed : goal.returns-then-at-len-clause-closed
-returns-then-at-len-clause-closed g c = λ e. (let le : length c.loop-at.ahead.items ≤ c.loop-at.at = omega arith in
-    closed_new c.args.self.now c.args.from c.args.value c.args.told.now c.loop-at.told c.loop-at.ahead.items c.loop-at.at le c.loop-at.invariant.told c.requires.closed c.loop-at.invariant.more c.loop-at.invariant.done)
-
-pub returns-then-at-len-clause-all : goal.returns-then-at-len-clause-all
-returns-then-at-len-clause-all g c = λ e. (let le : length c.loop-at.ahead.items ≤ c.loop-at.at = omega arith in
-    told_all c.args.self.now c.args.from c.args.value c.args.told.now c.loop-at.told c.loop-at.ahead.items c.loop-at.at le c.loop-at.invariant.told c.requires.closed c.loop-at.invariant.more c.loop-at.invariant.done)
+pub go_on-requires-clause-room : goal.go_on-requires-clause-room
+go_on-requires-clause-room g c = subst (λ n. room_of c.args.self.now.assigns ≤ n) (sym c.loop-at.invariant.room) c.requires.room
 
 pub loop-at-preserved : goal.loop-at-preserved
 loop-at-preserved g c =
@@ -22,5 +18,16 @@ loop-at-preserved g c =
       ahead = said.ahead;
       more = more_on f c.args.told.now c.loop-at.told c.go_on.new.told _ c.loop-at.ahead.items c.go_on.new.ahead.items c.loop-at.invariant.more said.more;
       done = done_more f c.args.from c.args.value c.loop-at.told c.go_on.new.told c.loop-at.ahead.items c.go_on.new.ahead.items c.loop-at.at c.index-next.result.now lt said.told said.more c.loop-at.invariant.done
-          (subst (λ n. AreNextTold f n c.go_on.new.told) c.index-next.ensures (said.next c.if-not-branch.false));
+          (subst (λ n. AreNextTold f n c.go_on.new.told) c.index-next.ensures said.next);
+      room = said.room ∙ c.loop-at.invariant.room;
     })
+
+pub returns-clause-closed : goal.returns-clause-closed
+returns-clause-closed g c =
+    (let le : length c.loop-at.ahead.items ≤ c.loop-at.at = omega arith in
+    closed_new c.args.self.now c.args.from c.args.value c.args.told.now c.loop-at.told c.loop-at.ahead.items c.loop-at.at le c.loop-at.invariant.told c.requires.closed c.loop-at.invariant.more c.loop-at.invariant.done)
+
+pub returns-clause-all : goal.returns-clause-all
+returns-clause-all g c =
+    (let le : length c.loop-at.ahead.items ≤ c.loop-at.at = omega arith in
+    told_all c.args.self.now c.args.from c.args.value c.args.told.now c.loop-at.told c.loop-at.ahead.items c.loop-at.at le c.loop-at.invariant.told c.requires.closed c.loop-at.invariant.more c.loop-at.invariant.done)

@@ -1,5 +1,6 @@
 use Rattle.std.specs.Prelude.{All}
-use Rattle.std.proofs.Common.{[], ◌∷◌, take}
+use Rattle.std.proofs.Common.{◌≡◌, ◌-◌, [], ◌∷◌, take}
+use Rattle.currency_writers.specs.Marks.{room_of}
 use Rattle.currency_writers.specs.Flow.{AreMoreAhead, AreNextTold, IsAhead, IsToldFrom}
 use Rattle.currency_writers.proofs.flow.Flow.flood.Given as goal
 
@@ -9,4 +10,8 @@ invariant-loop-at g l = record {
   ahead : All (λ q. IsAhead l.self l.from q) l.ahead.items;
   more : AreMoreAhead l.self l.fn.told l.told (l.from ∷ []) l.ahead.items;
   done : All (λ q. AreNextTold l.self q l.told) (take l.at l.ahead.items);
+  room : room_of l.told ≡ room_of l.fn.told;
 }
+
+abbrev pub decreases-loop-at : goal.decreases-loop-at
+decreases-loop-at g l = 18446744073709551615 - l.at

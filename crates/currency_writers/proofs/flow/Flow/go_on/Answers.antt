@@ -1,5 +1,5 @@
-use Rattle.std.proofs.Common.{arith}
-use Rattle.currency_writers.proofs.Telling.{come_on, told_on, told_same}
+use Rattle.std.proofs.Common.{◌∙◌, arith, refl}
+use Rattle.currency_writers.proofs.Telling.{come_on, come_within, told_on, told_same}
 use Rattle.currency_writers.proofs.Closing.{more_none, more_on, next_told, told_more}
 use Rattle.currency_writers.proofs.flow.Flow.go_on.Goals as goal
 
@@ -9,12 +9,14 @@ loop-place-init g c = record {
   ahead = c.requires.ahead;
   more = more_none c.args.self.now c.args.told.now c.args.ahead.now.items;
   next = λ k d lt. absurd (omega (arith, lt));
+  room = refl;
 }
 
 pub come_to-requires : goal.come_to-requires
 come_to-requires g c = record {
   blocked = c.requires.blocked;
   comes = come_on c.args.self.now c.args.from c.args.next c.get-place-items.result.now c.loop-place.place-index _ c.requires.flow c.requires.next c.get-place-items.ensures c.loop-place-test.true;
+  room = come_within c.args.self.now c.args.next c.get-place-items.result.now c.loop-place.place-index _ _ _ c.requires.flow c.get-place-items.ensures c.requires.room c.loop-place-test.true c.loop-place.invariant.room;
   ahead = c.loop-place.invariant.ahead;
 }
 
@@ -23,14 +25,9 @@ loop-place-preserved g c = record {
   told = told_on c.args.self.now c.args.from c.args.value c.args.told.now c.loop-place.told c.come_to.new.told c.loop-place.invariant.told c.in_ok-come_to.ensures.told;
   ahead = c.in_ok-come_to.ensures.ahead;
   more = more_on c.args.self.now c.args.told.now c.loop-place.told c.come_to.new.told c.args.ahead.now.items c.loop-place.ahead.items c.come_to.new.ahead.items c.loop-place.invariant.more c.in_ok-come_to.ensures.more;
-  next = told_more c.args.self.now c.args.from c.args.value c.loop-place.told c.come_to.new.told c.get-place-items.result.now c.loop-place.place-index _ c.loop-place-test.true c.in_ok-come_to.ensures.told c.loop-place.invariant.next (c.in_ok-come_to.ensures.there c.if-not-branch.false);
+  next = told_more c.args.self.now c.args.from c.args.value c.loop-place.told c.come_to.new.told c.get-place-items.result.now c.loop-place.place-index _ c.loop-place-test.true c.in_ok-come_to.ensures.told c.loop-place.invariant.next c.in_ok-come_to.ensures.there;
+  room = c.in_ok-come_to.ensures.room ∙ c.loop-place.invariant.room;
 }
 
-pub returns-then-not-branch-clause-told : goal.returns-then-not-branch-clause-told
-returns-then-not-branch-clause-told g c = told_on c.args.self.now c.args.from c.args.value c.args.told.now c.loop-place.told c.come_to.new.told c.loop-place.invariant.told c.in_ok-come_to.ensures.told
-
-pub returns-then-not-branch-clause-more : goal.returns-then-not-branch-clause-more
-returns-then-not-branch-clause-more g c = more_on c.args.self.now c.args.told.now c.loop-place.told c.come_to.new.told c.args.ahead.now.items c.loop-place.ahead.items c.come_to.new.ahead.items c.loop-place.invariant.more c.in_ok-come_to.ensures.more
-
 pub returns-clause-next : goal.returns-clause-next
-returns-clause-next g c = λ e. next_told c.args.self.now c.args.next c.loop-place.told c.get-place-items.result.now c.loop-place.place-index c.requires.flow c.get-place-items.ensures (omega arith) c.loop-place.invariant.next
+returns-clause-next g c = next_told c.args.self.now c.args.next c.loop-place.told c.get-place-items.result.now c.loop-place.place-index c.requires.flow c.get-place-items.ensures (omega arith) c.loop-place.invariant.next

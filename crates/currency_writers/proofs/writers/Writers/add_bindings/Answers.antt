@@ -4,6 +4,7 @@ use Rattle.std.proofs.lemmas.Option.{same_Some}
 use Rattle.graph_core.specs.declared.graph.Graph as declared-graph
 use Rattle.graph_core.specs.Graphs.{ToScalar, binding_view, graph_view}
 use Rattle.currency_writers.proofs.Written.{binding_at, bindings_more, bindings_on, more_on}
+use Rattle.currency_writers.proofs.Ordering.{blocks_behind, lists_on, parameter_next}
 use Rattle.currency_writers.proofs.writers.Writers.add_bindings.Goals as goal
 
 pub loop-k-preserved : goal.loop-k-preserved
@@ -19,7 +20,12 @@ loop-k-preserved c =
     record {
       more = more_on old mid new known.more said.more;
       sound = said.sound;
-      indexed = said.indexed c.if-not-branch.false;
+      indexed = said.indexed;
+      lists = lists_on mid new said.more known.lists;
+      next = parameter_next new k said.next;
       all = bindings_more new k (bindings_on mid new k said.more known.all)
-          (λ x at. said.there c.if-not-branch.false x (same_Some (binding_view b) (ToScalar x) (sym (binding_at old.graph.now k k b b refl lt c.index.ensures) ∙ ap (λ (g : declared-graph.Graph). slice_get (graph_view g).parameters k) (sym (said.more.graph ∙ known.more.graph)) ∙ at)));
+          (λ x at. said.there x (same_Some (binding_view b) (ToScalar x) (sym (binding_at old.graph.now k k b b refl lt c.index.ensures) ∙ ap (λ (g : declared-graph.Graph). slice_get (graph_view g).parameters k) (sym (said.more.graph ∙ known.more.graph)) ∙ at)));
     })
+
+pub returns-clause-next : goal.returns-clause-next
+returns-clause-next c = blocks_behind c.loop-k.self c.loop-k.k c.loop-k.invariant.next

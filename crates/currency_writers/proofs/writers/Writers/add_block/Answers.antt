@@ -4,6 +4,7 @@ use Rattle.currency_writers.specs.declared.writers.Writer as declared-writer
 use Rattle.currency_writers.specs.declared.writers.Writer.TheVariants as writer
 use Rattle.currency_writers.specs.Writers.{IsKnown, placed}
 use Rattle.currency_writers.proofs.Written.{at_index, block_still, instructions_next, more_on, place_next, writes_there}
+use Rattle.currency_writers.proofs.Ordering.{block_next, instruction_next, lists_on}
 use Rattle.currency_writers.proofs.writers.Writers.add_block.Goals as goal
 
 pub add_instruction-requires-clause-writes : goal.add_instruction-requires-clause-writes
@@ -31,8 +32,13 @@ loop-k-preserved c =
     record {
       more = more_on old mid new known.more said.more;
       sound = said.sound;
-      indexed = said.indexed c.if-not-branch.false;
+      indexed = said.indexed;
+      lists = lists_on mid new said.more known.lists;
+      next = instruction_next new c.args.number k said.next;
       place = ap placed c.or-place.ensures ∙ place_next instruction_view items k i i lt c.index-instruction.ensures c.marker.result c.loop-k.place before c.marker.ensures known.place;
       all = instructions_next mid new c.args.number items before k i i c.loop-k.place lt c.index-instruction.ensures known.place known.all said.more
-          (λ p x at target. subst (λ (w : declared-writer.Writer). IsKnown new p x w) (ap (λ m. writer.Instruction m c.args.number k) (sym said.more.function)) (said.there c.if-not-branch.false p x at target));
+          (λ p x at target. subst (λ (w : declared-writer.Writer). IsKnown new p x w) (ap (λ m. writer.Instruction m c.args.number k) (sym said.more.function)) (said.there p x at target));
     })
+
+pub returns-clause-next : goal.returns-clause-next
+returns-clause-next c = block_next c.loop-k.self c.args.number c.loop-k.k c.loop-k.invariant.next

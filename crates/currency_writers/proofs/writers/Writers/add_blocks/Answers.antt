@@ -1,6 +1,7 @@
 use Rattle.std.proofs.Common.{Some, ◌∙◌, ◌<◌, ap, arith, length, sym}
 use Rattle.std.proofs.lemmas.Option.{slice_get-get_or}
 use Rattle.currency_writers.proofs.Written.{block_still, blocks_more, blocks_on, more_on}
+use Rattle.currency_writers.proofs.Ordering.{lists_on}
 use Rattle.currency_writers.proofs.writers.Writers.add_blocks.Goals as goal
 
 pub loop-n-preserved : goal.loop-n-preserved
@@ -17,6 +18,8 @@ loop-n-preserved c =
     record {
       more = more;
       sound = said.sound;
-      indexed = said.indexed c.if-not-branch.false;
-      all = blocks_more new n b (block_still old new n b more (slice_get-get_or old.graph.now.blocks.items n b lt ∙ ap Some (sym c.index.ensures))) (blocks_on mid new n said.more known.all) (said.all c.if-not-branch.false);
+      indexed = said.indexed;
+      lists = lists_on mid new said.more known.lists;
+      next = said.next;
+      all = blocks_more new n b (block_still old new n b more (slice_get-get_or old.graph.now.blocks.items n b lt ∙ ap Some (sym c.index.ensures))) (blocks_on mid new n said.more known.all) said.all;
     })
