@@ -6,3 +6,5 @@ mod Ahead
 pub mod Kept
 mod Belonging
 mod Needed
+mod NodesOnce
+pub mod NodeRules

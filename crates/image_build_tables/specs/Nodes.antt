@@ -1,11 +1,18 @@
 -- The nodes of recipes.
-use Rattle.std.specs.Prelude.{◌≡◌, ℕ, ◌+◌, ◌*◌, ◌%◌, ◌^◌, ◌++◌, ◌<◌, ◌≤◌, ◌⊎◌, get_or, length, List, Some, slice_get}
+use Rattle.std.specs.Prelude.{◌≡◌, ℕ, ◌+◌, ◌*◌, ◌%◌, ◌^◌, ◌++◌, ◌<◌, ◌≤◌, ◌⊎◌, get_or, length, List, Some, slice_get, slice_index}
+use Rattle.std.specs.BTreeMap as tree
+use Rattle.std.specs.BTreeMap.{BTreeMap}
+use Rattle.std.specs.List.{AllByRecursion}
 use Rattle.std.specs.Option.{option_map_or}
 use Rattle.graph_homes.specs.declared.home.Home.{Home}
 use Rattle.graph_homes.specs.declared.home.Home.TheVariants.{Register, Slot}
 use Rattle.graph_core.specs.Graphs.{Graph, Operand, Name, Constant, StaticAddress, Recipe, Of, Truncated, Operated, Scalar, graph_view}
 use Rattle.image_form.specs.declared.recipes.Node.{Node}
 use Rattle.image_form.specs.declared.recipes.Node.TheVariants as node
+use Rattle.image_form.specs.Lists.{AreDistinct}
+use Rattle.image_form.specs.Numbers.{node_numbers}
+use Rattle.image_form.specs.RulesOfNodes.{operands}
+use Rattle.image_form_sections.specs.Layouts.{node_cmp}
 use Rattle.image_build_tables.specs.Variables.{counted}
 use Rattle.image_build_tables.specs.declared.nodes.Naming as declared-naming
 
@@ -34,6 +41,22 @@ operand_node n (Name x) = name_node n x
 operand_node n (Constant w) = node.Constant w
 operand_node n (StaticAddress object offset) = node.Constant ((get_or n.statics object 0 + offset) % 2 ^ 32)
 
+-- what a node is and its operands, as three numbers
+abbrev pub key : Node → ℕ × ℕ × ℕ
+key n = (slice_index (node_numbers n) 0, slice_index (node_numbers n) 1, slice_index (node_numbers n) 2)
+
+-- A map tells the number of each node by what the node is, where there are fewer than 2^32.
+abbrev pub TellsNumbers : BTreeMap (ℕ × ℕ × ℕ) ℕ → List Node → Type 0
+TellsNumbers numbers nodes = length nodes < 2 ^ 32 → (k : ℕ) (n : Node) → slice_get nodes k ≡ Some n → tree.get node_cmp numbers (key n) ≡ Some k
+
+-- the operands of each node are earlier ones
+abbrev pub AreEarlier : List Node → Type 0
+AreEarlier nodes = (k : ℕ) (n : Node) → slice_get nodes k ≡ Some n → AllByRecursion (λ j. j < k) (operands n)
+
+-- no two nodes are alike
+abbrev pub AreOnce : List Node → Type 0
+AreOnce nodes = AreDistinct (λ n. n) nodes
+
 -- THE NODE OF THIS NUMBER IS A RECIPE'S: it is the node of its operand, or it truncates or operates on the nodes of its parts.
 abbrev pub IsNodeOf : List Node → Naming → Recipe → ℕ → Type 0
 IsNodeOf nodes n (Of a) k = slice_get nodes k ≡ Some (operand_node n a)
@@ -49,6 +72,12 @@ abbrev pub IsPartOf : Recipe → (whole : Recipe) → Type 0
 IsPartOf part (Of a) = part ≡ Of a
 IsPartOf part (Truncated t r) = (part ≡ Truncated t r) ⊎ IsPartOf part r
 IsPartOf part (Operated o r s) = (part ≡ Operated o r s) ⊎ (IsPartOf part r ⊎ IsPartOf part s)
+
+-- how many parts a recipe has, itself among them
+abbrev pub size_of : Recipe → ℕ
+size_of (Of a) = 1
+size_of (Truncated t r) = 1 + size_of r
+size_of (Operated o r s) = 1 + size_of r + size_of s
 
 -- each node behind the old ones is that of a recipe or of a part of it
 abbrev pub AreNewOf : (old new : List Node) → Naming → Recipe → Type 0

@@ -6,6 +6,7 @@ use Rattle.graph_homes.specs.declared.home.Home.{Home}
 use Rattle.graph_core.specs.declared.recipe.Recipe as declared-recipe
 use Rattle.graph_core.specs.Paths.{Among}
 use Rattle.graph_core.specs.Graphs.{Block, Graph, Recipe, graph_view, recipe_view}
+use Rattle.graph_core.specs.Validity.{depth_of}
 use Rattle.graph_homes.specs.declared.homed.FunctionHomes as declared-homes
 use Rattle.graph_homes.specs.Homed.{HomedForm}
 use Rattle.currency_writers.specs.declared.writers.Writer as declared-writer
@@ -19,7 +20,7 @@ use Rattle.image_form.specs.declared.verdicts.Verdict.TheVariants as verdict
 use Rattle.image_form.specs.declared.verdicts.VisibleRow.{VisibleRow}
 use Rattle.image_build_tables.specs.Variables.{counted}
 use Rattle.image_build_tables.specs.declared.rows.Telling as declared-telling
-use Rattle.image_build_tables.specs.Nodes.{AreNewOf, IsNodeOf, IsPartOf, Naming}
+use Rattle.image_build_tables.specs.Nodes.{AreNewOf, IsNodeOf, IsPartOf, Naming, size_of}
 
 -- for each block how many instructions stand before it, where so many stand before the first
 abbrev pub firsts_from : (count : ℕ) → List Block → List ℕ
@@ -122,6 +123,17 @@ pub record IsNodeToldBy (t : Telling) (nodes : List Node) (all : List told-row.P
 -- each node is needed
 abbrev pub AreNodesOf : Telling → List Node → List told-row.PlaceVerdict → Type 0
 AreNodesOf t nodes all = (k : ℕ) → k < length nodes → IsNodeToldBy t nodes all k
+
+-- how many nodes what is told asks for at most: one for each part of its recipe, if it gives one
+abbrev pub size_told : told-verdict.Verdict → ℕ
+size_told told.Home = 0
+size_told (told.Recovered r change) = size_of (recipe_view r)
+size_told (told.Noncurrent change start w) = 0
+size_told (told.Nonresident change start w) = 0
+
+-- the recipes that are told have at most four levels
+abbrev pub AreShallow : List told-row.PlaceVerdict → Type 0
+AreShallow all = (w : told-row.PlaceVerdict) (r : declared-recipe.Recipe) (change : ℕ) → Among w all → w.verdict ≡ told.Recovered r change → depth_of (recipe_view r) ≤ 4
 
 -- Each verdict says that the home of its variable shows it.
 abbrev pub AreShown : List told-row.PlaceVerdict → Type 0

@@ -1,12 +1,14 @@
 //! The image, part by part.
 
-ghost use Rattle.std.specs.Prelude.{◌≡◌, ◌+◌, ◌++◌, ◌<◌, ◌^◌, [], IfOk, length, map};
+ghost use Rattle.std.specs.Prelude.{◌≡◌, ◌+◌, ◌++◌, ◌<◌, ◌≤◌, ◌^◌, [], IfOk, length, map};
 ghost use Rattle.rv_emit_tables.specs.Emitted.{emitted_view};
+ghost use Rattle.graph_core.specs.Validity.{total};
 ghost use Rattle.graph_homes.specs.Homed.{homed_view};
+ghost use Rattle.image_build_tables.specs.Nodes.{AreEarlier, AreOnce};
 ghost use Rattle.image_build_tables.specs.Spans.{code_span, saved, span};
 ghost use Rattle.image_build_tables.specs.Storages.{storages_of};
 ghost use Rattle.image_build_tables.specs.Places.{address, addresses_of};
-ghost use Rattle.image_build_tables.specs.Rows.{AreNodesOf, AreRowsOf, AreShown, telling_of};
+ghost use Rattle.image_build_tables.specs.Rows.{AreNodesOf, AreRowsOf, AreShown, size_told, telling_of};
 ghost use Rattle.c_tree.specs.Programs.{program_view};
 ghost use Rattle.image_build_tables.specs.Variables.{declared_names, entry, length_of_name, name_length, owned_from, owner, owners_of, pass_names, shape, shapes_of, storage};
 ghost use Rattle.image_build_tables.specs.Tables.{assigned_pair, change_record, flow_pair, plain_version, sight, sight_of_verdict, spot, spot_of_row};
@@ -81,6 +83,10 @@ pub fn image_of(alloc: Global, parts: &Parts<'_>, emitted: Emitted) -> Result<Im
         → AreNodesOf
         (telling_of (homed_view parts.now.homed.now) parts.now.places.now.rows.items (emitted_view emitted))
         m.nodes.items parts.now.verdicts.now) }
+    ensures once { IfOk result (λ m. length m.nodes.items < 2 ^ 32 → AreOnce m.nodes.items) }
+    ensures earlier { IfOk result (λ m. length m.nodes.items < 2 ^ 32 → AreEarlier m.nodes.items) }
+    ensures few { IfOk result (λ m.
+        length m.nodes.items ≤ total (λ w. size_told w.verdict) parts.now.verdicts.now) }
     ensures bare { AreShown parts.now.verdicts.now → IfOk result (λ m. m.nodes.items ≡ []) }
     ensures rows { IfOk result (λ m.
         length m.nodes.items < 2 ^ 32

@@ -1,8 +1,11 @@
 //! The table of recipe nodes.
 
-ghost use Rattle.std.specs.Prelude.{◌≡◌, ◌<◌, ◌≤◌, ◌^◌, ℕ, [], Some, IfOk, IfSome, IsTrue, OnOk, length, slice_get};
+ghost use Rattle.std.specs.Prelude.{◌≡◌, ◌+◌, ◌<◌, ◌≤◌, ◌^◌, ℕ, [], None, Some, IfOk, IfSome, IsTrue, OnOk, length, slice_get};
+ghost use Rattle.std.specs.List.{AllByRecursion};
+ghost use Rattle.image_form.specs.Numbers.{operation_number, truncation_number};
+ghost use Rattle.image_form.specs.RulesOfNodes.{operands};
 ghost use Rattle.graph_core.specs.Graphs.{operand_view, recipe_view};
-ghost use Rattle.image_build_tables.specs.Nodes.{AreNewOf, Begin, IsNodeOf, home_node, name_node, naming_view, operand_node};
+ghost use Rattle.image_build_tables.specs.Nodes.{AreEarlier, AreNewOf, AreOnce, Begin, IsNodeOf, TellsNumbers, home_node, key, name_node, naming_view, operand_node, size_of};
 
 use crate::{entry, number_of};
 use graph_core::{Graph, Operand, Recipe};
@@ -29,10 +32,13 @@ pub struct Nodes {
     pub nodes: Vec<Node>,
     /// For each node, by what it is and its operands, its number.
     numbers: BTreeMap<(u32, u32, u32), u32>,
+    ghost told: { TellsNumbers numbers nodes.items },
 }
 
 /// The number of an operation among kinds of nodes.
-fn operation_kind(operation: Operation) -> u32 {
+fn operation_kind(operation: Operation) -> u32
+    ensures { result ≡ operation_number operation }
+{
     match operation {
         Operation::Add => 3,
         Operation::Sub => 4,
@@ -53,7 +59,9 @@ fn operation_kind(operation: Operation) -> u32 {
 }
 
 /// The number of a truncation among kinds of nodes.
-fn truncation_kind(truncation: Truncation) -> u32 {
+fn truncation_kind(truncation: Truncation) -> u32
+    ensures { result ≡ truncation_number truncation }
+{
     match truncation {
         Truncation::Unsigned8 => 18,
         Truncation::Signed16 => 19,
@@ -63,7 +71,9 @@ fn truncation_kind(truncation: Truncation) -> u32 {
 }
 
 /// What a node is and its operands, each other for two nodes that differ.
-fn key_of(node: Node) -> (u32, u32, u32) {
+fn key_of(node: Node) -> (u32, u32, u32)
+    ensures { result ≡ key node }
+{
     match node {
         Node::Constant(word) => (0, word, 0),
         Node::Variable(variable) => (1, variable, 0),
@@ -82,7 +92,8 @@ fn key_of(node: Node) -> (u32, u32, u32) {
 
 /// Whether two nodes are one.
 fn is_same(one: Node, other: Node) -> bool
-    ensures { IsTrue result → one ≡ other }
+    ensures tells { IsTrue result → one ≡ other }
+    ensures knows { one ≡ other → IsTrue result }
 {
     match (one, other) {
         (Node::Constant(word), Node::Constant(another)) => word == another,
@@ -168,7 +179,9 @@ impl Nodes {
 
     /// The number of a node that is there.
     fn find(&self, node: Node) -> Option<u32>
-        ensures { IfSome result (λ number. slice_get self.now.nodes.items number ≡ Some node) }
+        ensures there { IfSome result (λ number. slice_get self.now.nodes.items number ≡ Some node) }
+        ensures none { result ≡ None → length self.now.nodes.items < 2 ^ 32 → (k : ℕ)
+            → slice_get self.now.nodes.items k ≡ Some node → ⊥ }
     {
         let number = *self.numbers.get(&key_of(node))?;
         let found = self.nodes.get(number as usize)?;
@@ -187,6 +200,11 @@ impl Nodes {
             → slice_get self.new.nodes.items k ≡ Some node) }
         ensures node { length self.new.nodes.items < 2 ^ 32
             → IfOk result (λ number. slice_get self.new.nodes.items number ≡ Some node) }
+        ensures once { length self.new.nodes.items < 2 ^ 32 → OnOk result
+            (AreOnce self.old.nodes.items → AreOnce self.new.nodes.items) }
+        ensures earlier { AllByRecursion (λ k. k < length self.old.nodes.items) (operands node)
+            → OnOk result (AreEarlier self.old.nodes.items → AreEarlier self.new.nodes.items) }
+        ensures few { OnOk result (length self.new.nodes.items ≤ length self.old.nodes.items + 1) }
     {
         if let Some(number) = self.find(node) {
             return Ok(number);
@@ -207,6 +225,12 @@ impl Nodes {
         ensures node { length self.new.nodes.items < 2 ^ 32
             → IfOk result (λ number.
             IsNodeOf self.new.nodes.items (naming_view naming.entry) (recipe_view recipe.now) number) }
+        ensures once { length self.new.nodes.items < 2 ^ 32 → OnOk result
+            (AreOnce self.old.nodes.items → AreOnce self.new.nodes.items) }
+        ensures earlier { length self.new.nodes.items < 2 ^ 32 → OnOk result
+            (AreEarlier self.old.nodes.items → AreEarlier self.new.nodes.items) }
+        ensures few { OnOk result
+            (length self.new.nodes.items ≤ length self.old.nodes.items + size_of (recipe_view recipe.now)) }
     {
         match recipe {
             Recipe::Operand(operand) => self.add(naming.operand_node(*operand)),

@@ -1,11 +1,12 @@
 //! The rows of visible variables.
 
-ghost use Rattle.std.specs.Prelude.{◌≡◌, ◌<◌, ◌^◌, [], IfOk, OnOk, get_or, length, map, option_and_then, option_map, slice_get};
+ghost use Rattle.std.specs.Prelude.{◌≡◌, ◌+◌, ◌<◌, ◌≤◌, ◌^◌, [], IfOk, OnOk, get_or, length, map, option_and_then, option_map, slice_get};
 ghost use Rattle.currency.specs.declared.verdict.Verdict.TheVariants.{Home};
 ghost use Rattle.rv_emit_tables.specs.Emitted.{FunctionCode, function_view};
 ghost use Rattle.graph_core.specs.Graphs.{block_view, graph_view, recipe_view};
-ghost use Rattle.image_build_tables.specs.Nodes.{Begin, naming_view};
-ghost use Rattle.image_build_tables.specs.Rows.{AreNewBy, AreNewIn, AreNodesOf, AreRowsOf, AreShown, IsNodeIn, IsVerdictOf, address_of_some, address_of_writer, firsts_from, naming_at, naming_in, telling_view};
+ghost use Rattle.graph_core.specs.Validity.{total};
+ghost use Rattle.image_build_tables.specs.Nodes.{AreEarlier, AreOnce, Begin, naming_view, size_of};
+ghost use Rattle.image_build_tables.specs.Rows.{AreNewBy, AreNewIn, AreNodesOf, AreRowsOf, AreShown, IsNodeIn, IsVerdictOf, address_of_some, address_of_writer, firsts_from, naming_at, naming_in, size_told, telling_view};
 ghost use Rattle.image_build_tables.specs.Tables.{sight, sight_of_verdict};
 
 use crate::nodes::{Naming, Nodes};
@@ -164,6 +165,12 @@ fn node_at(
     ensures node { length nodes.new.nodes.items < 2 ^ 32
         → IfOk result (λ k.
         IsNodeIn nodes.new.nodes.items (naming_at (telling_view telling.entry) place) (recipe_view recipe.now) k) }
+    ensures once { length nodes.new.nodes.items < 2 ^ 32
+        → OnOk result (AreOnce nodes.old.nodes.items → AreOnce nodes.new.nodes.items) }
+    ensures earlier { length nodes.new.nodes.items < 2 ^ 32
+        → OnOk result (AreEarlier nodes.old.nodes.items → AreEarlier nodes.new.nodes.items) }
+    ensures few { OnOk result
+        (length nodes.new.nodes.items ≤ length nodes.old.nodes.items + size_of (recipe_view recipe.now)) }
 {
     match telling.naming_at(place) {
         Some(naming) => nodes.add_recipe(naming, recipe),
@@ -190,6 +197,12 @@ fn verdict_of(
     ensures verdict { length nodes.new.nodes.items < 2 ^ 32
         → IfOk result (λ v.
         IsVerdictOf (telling_view telling.entry) nodes.new.nodes.items told.now.place.0 told.now.verdict v) }
+    ensures once { length nodes.new.nodes.items < 2 ^ 32
+        → OnOk result (AreOnce nodes.old.nodes.items → AreOnce nodes.new.nodes.items) }
+    ensures earlier { length nodes.new.nodes.items < 2 ^ 32
+        → OnOk result (AreEarlier nodes.old.nodes.items → AreEarlier nodes.new.nodes.items) }
+    ensures few { OnOk result
+        (length nodes.new.nodes.items ≤ length nodes.old.nodes.items + size_told told.now.verdict) }
 {
     match &told.verdict {
         Told::Home => Ok(Verdict::Home),
@@ -230,6 +243,9 @@ pub fn rows_of(
     ensures sights { IfOk result (λ r. map sight r.0.items ≡ map sight_of_verdict verdicts.now) }
     ensures nodes { IfOk result
         (λ r. length r.1.items < 2 ^ 32 → AreNodesOf (telling_view telling.entry) r.1.items verdicts.now) }
+    ensures once { IfOk result (λ r. length r.1.items < 2 ^ 32 → AreOnce r.1.items) }
+    ensures earlier { IfOk result (λ r. length r.1.items < 2 ^ 32 → AreEarlier r.1.items) }
+    ensures few { IfOk result (λ r. length r.1.items ≤ total (λ w. size_told w.verdict) verdicts.now) }
     ensures bare { AreShown verdicts.now → IfOk result (λ r. r.1.items ≡ []) }
     ensures rows { IfOk result (λ r.
         length r.1.items < 2 ^ 32 → AreRowsOf (telling_view telling.entry) r.1.items verdicts.now r.0.items) }

@@ -14,6 +14,7 @@ use Rattle.c_tree.specs.TypedStatements.{InitialTree, Zero, Scalar, Elements, Li
 use Rattle.c_tree.specs.TypedStatements as statement
 use Rattle.c_tree.specs.Programs.{ProgramTree, TypedFunctionTree}
 use Rattle.debug_records.specs.declared.source.Spot.{Spot}
+use Rattle.c_type_laws.specs.Laws.{IsWellFormed}
 use Rattle.c_places.specs.Places.{Place, brought, brought_by_start, close_of, number_at, numbers_from, parameters_of, places_of, places_of_all, places_of_declarators, places_of_function, places_of_functions, places_of_head, places_of_program, places_of_start, places_of_step, stop}
 use Rattle.c_flow.specs.declared.assigned.Assigned.{Assigned}
 use Rattle.c_flow.specs.Assigns.{among, assigned, assigned_by, assigned_by_all, assigned_by_declarators, assigned_by_entry, assigned_by_function, assigned_by_functions, assigned_by_initial, assigned_by_option, assigned_by_program, assigned_by_start, assigned_by_statements, assigned_by_step, assigned_by_values, assigned_within, assigns_object, assignments_of_program, named, numbered_assigned, numbered_for, variable_number}
@@ -211,6 +212,17 @@ numbered_of : (p : ProgramTree) (places : List Place) (all : List Assigned) (i :
 numbered_of p places [] i x is = absurd (none-some x is)
 numbered_of p places (a ∷ all) i x is = one_numbered p places a all x (λ k at. numbered_of p places all k x at) (variable_number p a.object) refl i is
 
+-- a place that assigns is one of the program's
+pub assignment_placed : (p : ProgramTree) → IsWellFormed p → (a : Assignment) → Contains (assignments_of_program p) a → (1 ≤ a.place.0) × (a.place.0 ≤ length (places_of_program p))
+assignment_placed p formed a there =
+    let at = contained (assignments_of_program p) a there in
+    let of = numbered_of p (places_of_program p) (assigned_by_program p) at.0 a at.1 in
+    let position = all_at (λ (b : Assigned). IsPosition (places_of_program p) b.at) (assigned_by_program p) of.index of.from (functions_at (places_of_program p) 0 p.functions (λ q k is. (k, q, is, refl))) of.is in
+    let low = numbered_low p of.from.at (λ k q is. numbered_at (places_of_program p) k q (facts_of p formed).positions is) position in
+    let place = of.place in
+    let one = low.0 in let two = low.1 in
+    (omega (arith, one, place), omega (arith, two, place))
+
 module _ (p : ProgramTree) (h : HomedForm) (e : EmittedForm) (rows : List PlaceRow) (m : Form) (given : Given p h e rows m) (assignments : (a : Assignment) → Contains h.unit.assignments a ↔ Contains (assignments_of_program p) a) (ordered : AllPairs IsAssignmentBefore h.unit.assignments) where
   is_assignment : (i : ℕ) (x : AssignedPair) → slice_get m.assigned i ≡ Some x → (a : Assignment) × (slice_get h.unit.assignments i ≡ Some a) × (assigned_pair a ≡ x)
   is_assignment i x is = from_map assigned_pair h.unit.assignments i x (ap (λ l. slice_get l i) (sym given.tables.assigned) ∙ is)
@@ -219,14 +231,13 @@ module _ (p : ProgramTree) (h : HomedForm) (e : EmittedForm) (rows : List PlaceR
   assignment_fits a i is =
       let many = places_many p h e rows m given in
       let variables = variables_many p h e rows m given in
-      let at = contained (assignments_of_program p) a ((assignments a).0 (contains h.unit.assignments i a is)) in
+      let there : Contains (assignments_of_program p) a = (assignments a).0 (contains h.unit.assignments i a is) in
+      let at = contained (assignments_of_program p) a there in
       let of = numbered_of p (places_of_program p) (assigned_by_program p) at.0 a at.1 in
-      let position = all_at (λ (b : Assigned). IsPosition (places_of_program p) b.at) (assigned_by_program p) of.index of.from (functions_at (places_of_program p) 0 p.functions (λ q k is. (k, q, is, refl))) of.is in
-      let low = numbered_low p of.from.at (λ k q is. numbered_at (places_of_program p) k q (facts_of p given.formed).positions is) position in
-      let place = of.place in
-      let one = low.0 in let two = low.1 in
+      let placed = assignment_placed p given.formed a there in
+      let one = placed.0 in let two = placed.1 in
       let less = variable_low p of.from.object a.var.0 of.variable in
-      ((omega (arith, one, place), omega (arith, two, place, many)), omega (arith, less, variables))
+      ((one, omega (arith, two, many)), omega (arith, less, variables))
 
   -- WHAT PLACES ASSIGN KEEPS ITS RULES.
   pub assigned_rules : AssignedRules m

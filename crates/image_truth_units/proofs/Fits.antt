@@ -36,6 +36,7 @@ use Rattle.image_form_sections.specs.declared.version.Level.TheVariants.{Plain}
 use Rattle.image_form_drafts.specs.Fitting.{AreFit}
 use Rattle.image_build_tables.specs.Variables.{automatic_shape, length_of_name, literal_shape, name_length, shape, static_shape}
 use Rattle.image_build_tables.specs.Tables.{Sight, plain_version, sight}
+use Rattle.image_truth_units.specs.Changes.{most_told}
 use Rattle.image_truth_units.specs.Tables.{visible_from}
 use Rattle.image_truth_units.proofs.Accepted.{both, facts_of, is_less}
 use Rattle.image_truth_units.proofs.Functions.{has_entry, places_many}
@@ -163,10 +164,19 @@ module _ (p : ProgramTree) (h : HomedForm) (e : EmittedForm) (rows : List PlaceR
       let f = length-map p.automatics automatic_shape in
       omega (arith, many, same, a, b, c, d, f)
 
+  -- The rows are not too many.
+  pub rows_most : map sight m.rows ≡ visible_from 1 (rows_of_program p) → length m.rows ≤ 1000000
+  rows_most seen =
+      let r1 = length-map m.rows sight in
+      let r2 = ap length seen in
+      let r3 = seen_few p 1 (places_of_program p) in
+      let r4 = (facts_of p given.formed).visible in
+      omega (arith, r1, r2, r3, r4)
+
   -- THE LENGTHS OF SECTIONS KEEP THEIR RULES.
-  pub size_rules : HasSpots p → AreFew m → m.changes ≡ [] → length m.names ≤ 63 * length m.functions + 63 * length m.variables → map sight m.rows ≡ visible_from 1 (rows_of_program p) → SizeRules m
+  pub size_rules : HasSpots p → AreFew m → length m.changes ≤ most_told → length m.names ≤ 63 * length m.functions + 63 * length m.variables + 16 * length m.changes → map sight m.rows ≡ visible_from 1 (rows_of_program p) → SizeRules m
   unfolding size
-  size_rules spots are_few unchanged names_few seen =
+  size_rules spots are_few changes_few names_few seen =
       let facts = facts_of p given.formed in
       let code = ap (λ (l : List ℕ). length l) given.tables.code in
       let given_short = given.emits.code.short in
@@ -195,12 +205,8 @@ module _ (p : ProgramTree) (h : HomedForm) (e : EmittedForm) (rows : List PlaceR
       let automatics_few = few 1048576 (map (λ (a : AutomaticTree). a.spot.at) p.automatics) facts.automatics spots.automatics in
       let al = length-map p.automatics (λ (a : AutomaticTree). a.spot.at) in
       let variables = variables_many in
-      let r1 = length-map m.rows sight in
-      let r2 = ap length seen in
-      let r3 = seen_few p 1 (places_of_program p) in
-      let r4 = facts.visible in
-      let rows_few : length m.rows ≤ 1000000 = omega (arith, r1, r2, r3, r4) in
-      let changes_few = ap length unchanged in
+      let rows_few = rows_most seen in
+      let changes_most : length m.changes ≤ 33000000 = changes_few in
       let no_calls = ap length given.tables.calls in
       let no_members = ap length given.tables.members in
       let size_is : size m ≡ behind Plain (record_count m) order = ap (λ (v : Version). behind v.level (record_count m) order) given.tables.version in
@@ -220,5 +226,5 @@ module _ (p : ProgramTree) (h : HomedForm) (e : EmittedForm) (rows : List PlaceR
         some_function = omega (arith, f1, f2, f3, main_low);
         some_place = omega (arith, places, first_low);
         rows = rows_few;
-        whole = subst (λ n. n < 2 ^ 32) (sym size_is) (omega (arith, no_calls, no_members, code, owners, owned, short, initial_few, functions_most, places_most, variables_most, rows_few, changes_few, flow_few, assigned_few, nodes_few, names_few));
+        whole = subst (λ n. n < 2 ^ 32) (sym size_is) (omega (arith, no_calls, no_members, code, owners, owned, short, initial_few, functions_most, places_most, variables_most, rows_few, changes_most, flow_few, assigned_few, nodes_few, names_few));
       }

@@ -7,6 +7,7 @@ use Rattle.places.specs.declared.flow.FlowStep.{FlowStep}
 use Rattle.places.specs.declared.table.PlaceRow.{PlaceRow}
 use Rattle.places.specs.Flow.{AreInOrder, IsStepBefore}
 use Rattle.c_tree.specs.Programs.{ProgramTree, TypedFunctionTree}
+use Rattle.c_type_laws.specs.Laws.{IsWellFormed}
 use Rattle.c_places.specs.Flow.{reaches_end}
 use Rattle.c_places.specs.Places.{Place, brought_by_body, close_of, number_at, parameters_of, places_of_all, places_of_function, places_of_functions, places_of_program, stop}
 use Rattle.c_flow.specs.declared.edge.Edge.{Edge}
@@ -108,25 +109,30 @@ numbered_low p at facts position =
     let low = slice_get_within (places_of_program p) position.0 position.1 position.2 in
     (omega (arith, number, same), omega (arith, number, same, low))
 
-module _ (p : ProgramTree) (h : HomedForm) (e : EmittedForm) (rows : List PlaceRow) (m : Form) (given : Given p h e rows m) (steps : (s : FlowStep) → Contains h.unit.steps s ↔ Contains (steps_of_program p) s) (ordered : AreInOrder h.unit.steps) where
-  numbers : (k : ℕ) (q : Place) → slice_get (places_of_program p) k ≡ Some q → number_at (places_of_program p) q.spot.at ≡ k + 1
-  numbers k q is = numbered_at (places_of_program p) k q (facts_of p given.formed).positions is
+-- execution goes from places of the program to such places
+pub step_placed : (p : ProgramTree) → IsWellFormed p → (s : FlowStep) → Contains (steps_of_program p) s → ((1 ≤ s.from.0) × (s.from.0 ≤ length (places_of_program p))) × ((1 ≤ s.to.0) × (s.to.0 ≤ length (places_of_program p)))
+step_placed p formed s there =
+    let numbers : (k : ℕ) (q : Place) → slice_get (places_of_program p) k ≡ Some q → number_at (places_of_program p) q.spot.at ≡ k + 1 = λ k q is. numbered_at (places_of_program p) k q (facts_of p formed).positions is in
+    let at = contained (steps_of_program p) s there in
+    let of = from_map (numbered (places_of_program p)) (flow_of_program p) at.0 s at.1 in
+    let fits = functions_fit (places_of_program p) 0 p.functions (λ q k is. (k, q, is, refl)) at.0 of.0 of.1 in
+    let from = numbered_low p of.0.from numbers fits.0 in
+    let to = numbered_low p of.0.to numbers fits.1 in
+    let from_is : number_at (places_of_program p) of.0.from ≡ s.from.0 = ap (λ (x : FlowStep). x.from.0) of.2 in
+    let to_is : number_at (places_of_program p) of.0.to ≡ s.to.0 = ap (λ (x : FlowStep). x.to.0) of.2 in
+    let a = from.0 in let b = from.1 in let c = to.0 in let d = to.1 in
+    ((omega (arith, a, from_is), omega (arith, b, from_is)), (omega (arith, c, to_is), omega (arith, d, to_is)))
 
+module _ (p : ProgramTree) (h : HomedForm) (e : EmittedForm) (rows : List PlaceRow) (m : Form) (given : Given p h e rows m) (steps : (s : FlowStep) → Contains h.unit.steps s ↔ Contains (steps_of_program p) s) (ordered : AreInOrder h.unit.steps) where
   is_step : (i : ℕ) (x : FlowPair) → slice_get m.flow i ≡ Some x → (s : FlowStep) × (slice_get h.unit.steps i ≡ Some s) × (flow_pair s ≡ x)
   is_step i x is = from_map flow_pair h.unit.steps i x (ap (λ l. slice_get l i) (sym given.tables.flow) ∙ is)
 
   step_fits : (s : FlowStep) (i : ℕ) → slice_get h.unit.steps i ≡ Some s → IsPlaceNumber m s.from.0 × IsPlaceNumber m s.to.0
   step_fits s i is =
       let many = places_many p h e rows m given in
-      let at = contained (steps_of_program p) s ((steps s).0 (contains h.unit.steps i s is)) in
-      let of = from_map (numbered (places_of_program p)) (flow_of_program p) at.0 s at.1 in
-      let fits = functions_fit (places_of_program p) 0 p.functions (λ q k is. (k, q, is, refl)) at.0 of.0 of.1 in
-      let from = numbered_low p of.0.from numbers fits.0 in
-      let to = numbered_low p of.0.to numbers fits.1 in
-      let from_is : number_at (places_of_program p) of.0.from ≡ s.from.0 = ap (λ (x : FlowStep). x.from.0) of.2 in
-      let to_is : number_at (places_of_program p) of.0.to ≡ s.to.0 = ap (λ (x : FlowStep). x.to.0) of.2 in
-      let a = from.0 in let b = from.1 in let c = to.0 in let d = to.1 in
-      ((omega (arith, a, from_is), omega (arith, b, from_is, many)), (omega (arith, c, to_is), omega (arith, d, to_is, many)))
+      let placed = step_placed p given.formed s ((steps s).0 (contains h.unit.steps i s is)) in
+      let a = placed.0.0 in let b = placed.0.1 in let c = placed.1.0 in let d = placed.1.1 in
+      ((a, omega (arith, b, many)), (c, omega (arith, d, many)))
 
   -- THE STEPS KEEP THEIR RULES.
   pub flow_rules : FlowRules m

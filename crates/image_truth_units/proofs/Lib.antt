@@ -64,6 +64,7 @@ pub mod Allowed
 pub mod Walking
 pub mod Graphs
 pub mod Assigning
+pub mod NodeHomes
 pub mod Notes
 pub mod ScalarVariables
 pub mod Positions
@@ -79,3 +80,4 @@ pub mod Marked
 pub mod Built
 pub mod Every
 pub mod BuiltMarked
+pub mod Changes

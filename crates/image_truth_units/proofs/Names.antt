@@ -1,6 +1,6 @@
--- The names of tables keep their rules, where no pass made a change.
-use Rattle.std.proofs.Common.{◌≡◌, ℕ, zero, suc, ◌+◌, ◌*◌, ◌≤◌, true, Some, List, [], ◌∷◌, ◌++◌, length, map, take, drop, sum, slice_get, refl, sym, ap, ◌∙◌, subst, arith}
-use Rattle.std.specs.Prelude.{◌-◌, nat_le, slice_index}
+-- The names of tables keep their rules, where an image can tell of the changes.
+use Rattle.std.proofs.Common.{◌≡◌, ℕ, zero, suc, ◌+◌, ◌*◌, ◌≤◌, true, Some, List, [], ◌∷◌, ◌++◌, length, map, take, drop, sum, slice_get, refl, sym, ap, ◌∙◌, subst, append-nil, arith}
+use Rattle.std.specs.Prelude.{◌-◌, IsTrue, nat_le, slice_index}
 use Rattle.std.specs.List.{AllByRecursion, flat_map, list_all}
 use Rattle.std.proofs.lemmas.List.{length-map, length-append}
 use Rattle.std.proofs.lemmas.List.Concat.{flat_map-append}
@@ -11,16 +11,18 @@ use Rattle.places.specs.declared.table.PlaceRow.{PlaceRow}
 use Rattle.c_tree.specs.Programs.{AutomaticTree, LiteralTree, ProgramTree, StaticTree, TypedFunctionTree}
 use Rattle.c_type_laws.specs.Names.{begins_identifier, is_identifier_byte, is_identifier, is_name, is_named, has_few_elements}
 use Rattle.c_type_laws.proofs.Named.{automatic_named, function_named, name_short, static_named}
+use Rattle.debug_records.specs.Change.{IsPassName, letters}
 use Rattle.graph_core.specs.Graphs.{Logged}
 use Rattle.graph_homes.specs.Homed.{HomedForm}
 use Rattle.rv_emit_tables.specs.Emitted.{EmittedForm}
 use Rattle.image_form.specs.Form.{Form}
-use Rattle.image_form.specs.Names.{function_name, function_name_lengths, name_at, pass_name_lengths, variable_name, variable_name_lengths}
-use Rattle.image_form.specs.RulesOfNames.{IsIdentifier, IsIdentifierOrEmpty, NameRules}
+use Rattle.image_form.specs.Names.{function_name, function_name_lengths, name_at, pass_name, pass_name_lengths, variable_name, variable_name_lengths}
+use Rattle.image_form.specs.RulesOfNames.{IsIdentifier, IsIdentifierOrEmpty, NameRules, is_lower_letter}
 use Rattle.image_form.specs.declared.tables.Change.{Change}
 use Rattle.image_form.specs.declared.variables.Variable.{Variable}
 use Rattle.image_build_tables.specs.Variables.{Shape, automatic_shape, counted, declared_names, length_of_name, literal_shape, name_length, pass_names, shape, shapes_of, static_shape}
 use Rattle.image_build_tables.specs.Tables.{change_record}
+use Rattle.image_truth_units.specs.Changes.{CanBeTold}
 use Rattle.image_truth_units.proofs.Accepted.{both}
 use Rattle.image_truth_units.proofs.Given.{Given}
 use Rattle.image_truth_units.proofs.Lists.{all_at, all_from, from_map, map_at, there}
@@ -64,12 +66,27 @@ sum_short (n ∷ names) each =
     let all = sum_more (length n) (map length names) in
     omega (arith, here, rest, all)
 
+sum_passes : (names : List (List ℕ)) → AllByRecursion IsPassName names → sum (map length names) ≤ 16 * length names
+sum_passes [] each = let empty : List (List ℕ) = [] in let none : sum (map length empty) ≡ 0 = refl in omega (arith, none)
+sum_passes (n ∷ names) each =
+    let here : length n ≤ 16 = each.0.most in
+    let rest = sum_passes names each.1 in
+    let all = sum_more (length n) (map length names) in
+    omega (arith, here, rest, all)
+
 past_names : (names : List (List ℕ)) (rest : List ℕ) → drop (sum (map length names)) (flat_map (λ n. n) names ++ rest) ≡ rest
 past_names names rest =
     let none : sum (map length names) ≡ length (flat_map (λ n. n) names) + 0 = sym (names_length names) ∙ omega arith in
     ap (λ k. drop k (flat_map (λ n. n) names ++ rest)) none ∙ drop-append-add (flat_map (λ n. n) names) rest 0
 
--- ---- The names of a program
+-- ---- The names of a program, and of passes
+
+-- the names of the passes of a log, one for each change
+abbrev pass_names_of : List Logged → List (List ℕ)
+pass_names_of log = map (λ (c : Logged). letters c.pass) log
+
+abbrev pass_length : Change → ℕ
+pass_length c = c.pass_length
 
 abbrev function_names : ProgramTree → List (List ℕ)
 function_names p = map (λ (f : TypedFunctionTree). f.name) p.functions
@@ -128,7 +145,7 @@ allowed n h = (name_short n h, identifier_or_empty n (identifier n h))
 
 -- ---- All of it
 
-module _ (p : ProgramTree) (h : HomedForm) (e : EmittedForm) (rows : List PlaceRow) (m : Form) (given : Given p h e rows m) (unchanged : h.unit.log ≡ []) where
+module _ (p : ProgramTree) (h : HomedForm) (e : EmittedForm) (rows : List PlaceRow) (m : Form) (given : Given p h e rows m) (told : AllByRecursion (CanBeTold p) h.unit.log) where
   functions_allowed : AllByRecursion (λ (n : List ℕ). (length n ≤ 63) × IsIdentifier n) (function_names p)
   functions_allowed = all_map (λ (f : TypedFunctionTree). f.name) (λ n. (length n ≤ 63) × IsIdentifier n) p.functions
       (all_from (λ (f : TypedFunctionTree). (length f.name ≤ 63) × IsIdentifier f.name) p.functions (λ i f is. let named = function_named p given.names i f is in (name_short f.name named, identifier f.name named)))
@@ -156,8 +173,19 @@ module _ (p : ProgramTree) (h : HomedForm) (e : EmittedForm) (rows : List PlaceR
       (literal_lengths p.literals (map automatic_shape p.automatics) (map (λ (a : AutomaticTree). a.name) p.automatics) (automatic_lengths p.automatics))
       ∙ shortened (variable_names p) (all_weaker IsAllowed (λ (n : List ℕ). length n ≤ 63) (variable_names p) (λ n is. is.0) variables_allowed)
 
-  no_changes : m.changes ≡ []
-  no_changes = given.tables.changes ∙ ap (map change_record) unchanged
+  passes_allowed : AllByRecursion IsPassName (pass_names_of h.unit.log)
+  passes_allowed = all_map (λ (c : Logged). letters c.pass) IsPassName h.unit.log (all_weaker (CanBeTold p) (λ (c : Logged). IsPassName (letters c.pass)) h.unit.log (λ c is. is.called) told)
+
+  passes_short : AllByRecursion (λ (n : List ℕ). length n ≤ 63) (pass_names_of h.unit.log)
+  passes_short = all_weaker IsPassName (λ (n : List ℕ). length n ≤ 63) (pass_names_of h.unit.log) (λ n is. let most : length n ≤ 16 = is.most in omega (arith, most)) passes_allowed
+
+  pass_lengths : pass_name_lengths m ≡ map length (pass_names_of h.unit.log)
+  pass_lengths =
+      ap (map pass_length) given.tables.changes ∙ map_map pass_length change_record h.unit.log
+      ∙ sym (map_map said_length (λ (c : Logged). letters c.pass) h.unit.log) ∙ shortened (pass_names_of h.unit.log) passes_short
+
+  passes_joined : pass_names h.unit.log ≡ flat_map (λ n. n) (pass_names_of h.unit.log) ++ []
+  passes_joined = sym (flat_map-map (λ n. n) (λ (c : Logged). letters c.pass) h.unit.log) ∙ sym (append-nil (flat_map (λ n. n) (pass_names_of h.unit.log)))
 
   abbrev variable_bytes : List ℕ
   variable_bytes = flat_map (λ n. n) (variable_names p) ++ pass_names h.unit.log
@@ -179,26 +207,43 @@ module _ (p : ProgramTree) (h : HomedForm) (e : EmittedForm) (rows : List PlaceR
   variable_name_is k n is =
       ap (λ l. name_at l k (drop (sum (function_name_lengths m)) m.names)) variable_lengths ∙ ap (name_at (map length (variable_names p)) k) bytes_are ∙ name_found (variable_names p) (pass_names h.unit.log) k n is
 
+  -- what stands behind the names of variables
+  past_variables : drop (sum (function_name_lengths m) + sum (variable_name_lengths m)) m.names ≡ pass_names h.unit.log
+  past_variables =
+      let functions = flat_map (λ n. n) (function_names p) in
+      let variables = flat_map (λ n. n) (variable_names p) in
+      let one : sum (function_name_lengths m) ≡ length functions = ap sum function_lengths ∙ sym (names_length (function_names p)) in
+      let other : sum (variable_name_lengths m) ≡ length variables + 0 = ap sum variable_lengths ∙ sym (names_length (variable_names p)) ∙ omega arith in
+      ap (λ n. drop n m.names) (ap (λ k. k + sum (variable_name_lengths m)) one ∙ ap (λ k. length functions + k) other)
+      ∙ ap (drop (length functions + (length variables + 0))) names_are ∙ drop-append-add functions variable_bytes (length variables + 0) ∙ drop-append-add variables (pass_names h.unit.log) 0
+
+  pass_name_is : (k : ℕ) (n : List ℕ) → slice_get (pass_names_of h.unit.log) k ≡ Some n → pass_name m k ≡ n
+  pass_name_is k n is =
+      ap (λ l. name_at l k (drop (sum (function_name_lengths m) + sum (variable_name_lengths m)) m.names)) pass_lengths
+      ∙ ap (name_at (map length (pass_names_of h.unit.log)) k) (past_variables ∙ passes_joined) ∙ name_found (pass_names_of h.unit.log) [] k n is
+
   whole_is : length m.names ≡ sum (function_name_lengths m) + sum (variable_name_lengths m) + sum (pass_name_lengths m)
   whole_is =
       let a = ap length names_are in
       let b = length-append (flat_map (λ n. n) (function_names p)) variable_bytes in
       let c = length-append (flat_map (λ n. n) (variable_names p)) (pass_names h.unit.log) in
-      let d : length (pass_names h.unit.log) ≡ 0 = ap (λ (l : List Logged). length (pass_names l)) unchanged in
+      let d : length (pass_names h.unit.log) ≡ sum (map length (pass_names_of h.unit.log)) = ap length (sym (flat_map-map (λ n. n) (λ (c : Logged). letters c.pass) h.unit.log)) ∙ names_length (pass_names_of h.unit.log) in
       let f = names_length (function_names p) in
       let v = names_length (variable_names p) in
       let fl = ap sum function_lengths in
       let vl = ap sum variable_lengths in
-      let pl : sum (pass_name_lengths m) ≡ 0 = ap (λ (l : List Change). sum (map (λ (c : Change). c.pass_length) l)) no_changes in
+      let pl = ap sum pass_lengths in
       omega (arith, a, b, c, d, f, v, fl, vl, pl)
 
   -- They are no longer than names may be.
-  pub names_few : length m.names ≤ 63 * length m.functions + 63 * length m.variables
+  pub names_few : length m.names ≤ 63 * length m.functions + 63 * length m.variables + 16 * length m.changes
   names_few =
       let whole = whole_is in
       let fl = ap sum function_lengths in
       let vl = ap sum variable_lengths in
-      let pl : sum (pass_name_lengths m) ≡ 0 = ap (λ (l : List Change). sum (map (λ (c : Change). c.pass_length) l)) no_changes in
+      let pl = ap sum pass_lengths in
+      let pn = sum_passes (pass_names_of h.unit.log) passes_allowed in
+      let pm : length (pass_names_of h.unit.log) ≡ length m.changes = length-map h.unit.log (λ (c : Logged). letters c.pass) ∙ sym (length-map h.unit.log change_record) ∙ sym (ap length given.tables.changes) in
       let f = sum_short (function_names p) (all_weaker (λ (n : List ℕ). (length n ≤ 63) × IsIdentifier n) (λ (n : List ℕ). length n ≤ 63) (function_names p) (λ n is. is.0) functions_allowed) in
       let v = sum_short (variable_names p) (all_weaker IsAllowed (λ (n : List ℕ). length n ≤ 63) (variable_names p) (λ n is. is.0) variables_allowed) in
       let a = ap length function_lengths in
@@ -207,7 +252,7 @@ module _ (p : ProgramTree) (h : HomedForm) (e : EmittedForm) (rows : List PlaceR
       let d = ap length variable_lengths in
       let g = length-map (variable_names p) length in
       let k = length-map m.variables (λ (x : Variable). x.name_length) in
-      omega (arith, whole, fl, vl, pl, f, v, a, b, c, d, g, k)
+      omega (arith, whole, fl, vl, pl, pn, pm, f, v, a, b, c, d, g, k)
 
   -- THE NAMES KEEP THEIR RULES.
   pub name_rules : NameRules m
@@ -226,5 +271,9 @@ module _ (p : ProgramTree) (h : HomedForm) (e : EmittedForm) (rows : List PlaceR
         let same = ap length variable_lengths in
         let n = there (variable_names p) k (omega (arith, low, one, two, same)) in
         subst IsIdentifierOrEmpty (sym (variable_name_is k n.0 n.1)) (all_at IsAllowed (variable_names p) k n.0 variables_allowed n.1).1;
-    passes = λ k low. let none = ap length no_changes in absurd (omega (arith, low, none));
+    passes = λ k low.
+        let one = length-map h.unit.log (λ (c : Logged). letters c.pass) in
+        let two = ap length given.tables.changes ∙ length-map h.unit.log change_record in
+        let n = there (pass_names_of h.unit.log) k (omega (arith, low, one, two)) in
+        subst (λ name. IsTrue (list_all is_lower_letter name)) (sym (pass_name_is k n.0 n.1)) (all_at IsPassName (pass_names_of h.unit.log) k n.0 passes_allowed n.1).lower_case;
   }

@@ -9,3 +9,4 @@ pub mod Lying
 pub mod ImageRulesUnits
 pub mod Timing
 pub mod Notes
+pub mod Changes
