@@ -13,7 +13,10 @@ use Rattle.pass_law.specs.Leading.{IsLawfulStep, Lead}
 use Rattle.pass_law.specs.Logs.{most_changes}
 use Rattle.graph_build_laws.specs.Built.{IsBuilt}
 use Rattle.cdbg_passes.proofs.OnTrail.{trails}
-use Rattle.image_build.specs.Behind.{ComesOf}
+use Rattle.graph_homes.specs.Homed.{homed_view}
+use Rattle.home_assign.specs.Changes.{HaveChanges}
+use Rattle.image_build.specs.declared.program_image.ProgramImage as declared-image
+use Rattle.image_build.specs.Behind.{ComesHomed, ComesOf}
 
 module _ {P : Type 0} (named : P → PassName) (steps : P → UnitForm → UnitForm → Type 0) (passes : List P) (names : List (List ℕ)) (p : ProgramTree) where
   -- what the names lead to from a unit that is built of the program comes of it
@@ -21,6 +24,12 @@ module _ {P : Type 0} (named : P → PassName) (steps : P → UnitForm → UnitF
       → IfOk made (λ v. ComesOf named steps passes names p (unit_view v))
   comes_by u (Ok v) built led keeps = record { first = u; built = built; trail = trails named steps passes names u (unit_view v) led; keeps = keeps }
   comes_by u (Err e) built led keeps = tt
+
+  -- an image whose unit with homes is that unit but for its log comes of the program
+  pub homed_by : {E : Type 0} (u : UnitForm) (made : Result declared-image.ProgramImage E) → ComesOf named steps passes names p u → IfOk made (λ b. (homed_view b.homed).unit ≡ record u { log = (homed_view b.homed).unit.log })
+      → IfOk made (λ b. HaveChanges u (homed_view b.homed)) → IfOk made (λ b. ComesHomed named steps passes names p (homed_view b.homed))
+  homed_by u (Ok b) comes same changes = record { unit = u; comes = comes; same = same; changes = changes }
+  homed_by u (Err e) comes same changes = tt
 
 -- what is given back is as it was built
 pub built_by : {E : Type 0} (p : ProgramTree) (u : declared-unit.Unit) (made : Result declared-unit.Unit E) → IsBuilt p (unit_view u) → IfOk made (λ v. v ≡ u) → IfOk made (λ v. IsBuilt p (unit_view v))
@@ -32,7 +41,8 @@ pub marked_by : {E : Type 0} (u : UnitForm) (made : Result declared-unit.Unit E)
 marked_by u (Ok v) keeps = keeps.still_marked
 marked_by u (Err e) keeps = tt
 
-few_in : (r : Room) (changes names : ℕ) → names ≤ 32 → changes ≤ most_changes r * names → changes ≤ 32000000
+-- so many changes are logged at most, in each room
+pub few_in : (r : Room) (changes names : ℕ) → names ≤ 32 → changes ≤ most_changes r * names → changes ≤ 32000000
 few_in Small changes names few most = let so : changes ≤ 100000 * names = most in omega arith
 few_in Large changes names few most = let so : changes ≤ 1000000 * names = most in omega arith
 

@@ -1,5 +1,5 @@
 -- What is so of a unit, and is so of each that has its functions and what functions share.
-use Rattle.std.proofs.Common.{◌≡◌, ℕ, zero, suc, ◌+◌, Some, List, [], ◌∷◌, length, slice_get, refl, sym, ap, ◌∙◌, subst}
+use Rattle.std.proofs.Common.{◌≡◌, ℕ, zero, suc, ◌+◌, inl, inr, ⊎_elim, Some, List, [], ◌∷◌, length, slice_get, refl, sym, ap, ◌∙◌, subst}
 use Rattle.std.proofs.lemmas.Option.{none-some, same_Some}
 use Rattle.event_runs.specs.Agreement.{Pairs}
 use Rattle.c_tree.specs.Programs.{ProgramTree}
@@ -12,7 +12,9 @@ use Rattle.graph_core.specs.Runs as unit-event
 use Rattle.graph_build_runs.specs.Correspondence as source
 use Rattle.image_form.specs.Form.{Form}
 use Rattle.image_truth_units.specs.Keeping.{HasPlacesOf}
+use Rattle.image_truth_units.specs.ImageRulesUnits.{HasAllVariables, HasObjectOf, HasOwnPlaces, HasScalarOf}
 use Rattle.image_truth_units.specs.Units.{HasVariablesIn}
+use Rattle.image_truth_units.specs.Variables.{automatic_number}
 use Rattle.image_build.proofs.Visible.{AreScalars}
 use Rattle.pass_law.specs.Keeps.{SameFunction}
 use Rattle.image_build.proofs.Markers.{place_back}
@@ -57,6 +59,24 @@ module _ (u v : UnitForm) (statics : v.statics ≡ u.statics) (functions : Pairs
 
       object : (g h : Graph) → SameFunction g h → (k : ℕ) (o : MemoryObject) → slice_get h.objects k ≡ Some o → slice_get g.objects k ≡ Some o
       object g h same k o is = ap (λ l. slice_get l k) (sym same.objects) ∙ is
+
+  -- The markers of one are the program's places where those of the other are.
+  pub has_own_places : (p : ProgramTree) → HasOwnPlaces p u → HasOwnPlaces p v
+  has_own_places p has = record {
+    marked = λ i q g is at. (let r = back q.function g at in (r.2.markers (i + 1)).0 (has.marked i q r.0 is r.1));
+    own = λ f place g is among. (let r = back f g is in has.own f place r.0 r.1 ((r.2.markers place).1 among));
+  }
+
+  -- Each variable of a function has a home in its graph in one where it has one in the other.
+  pub has_all_variables : (p : ProgramTree) → HasAllVariables p u → HasAllVariables p v
+  has_all_variables p has = record {
+    there = λ x f a h declared owned is. (
+        let r = back f h is in
+        ⊎_elim (λ (s : HasScalarOf r.0 (automatic_number p x)). inl (record { index = s.index; scalar = s.scalar; is = ap (λ l. slice_get l s.index) r.2.scalars ∙ s.is; variable_is = s.variable_is }))
+        (λ (o : HasObjectOf r.0 (automatic_number p x)). inr (record { index = o.index; object = o.object; is = ap (λ l. slice_get l o.index) r.2.objects ∙ o.is; variable_is = o.variable_is }))
+        (has.there x f a r.0 declared owned r.1));
+    single = λ f k x h s a is at number declared. (let r = back f h is in has.single f k x r.0 s a r.1 (ap (λ l. slice_get l k) (sym r.2.scalars) ∙ at) number declared);
+  }
 
   -- So it is of the places that an image has of a unit,
   pub has_places : (m : Form) → HasPlacesOf u m → HasPlacesOf v m

@@ -18,7 +18,6 @@ pub mod Owners
 pub mod Tables
 pub mod Units
 pub mod Plain
-pub mod Borne
 pub mod Behind
 pub mod Events
 pub mod Programs
@@ -50,3 +49,14 @@ pub mod Noted
 pub mod PassesTruthWords
 pub mod Nodes
 pub mod Coming
+mod Shares
+mod MoreLogged
+mod Premises
+pub mod HidingRows
+pub mod FewShared
+pub mod ShallowRecipes
+pub mod SharedTold
+pub mod KeptUnits
+pub mod ToldTrails
+pub mod Images
+pub mod LastUnits

@@ -1,8 +1,8 @@
 -- The markers of a graph, told by where they stand and by their list.
 use Rattle.std.proofs.Common.{◌≡◌, ℕ, zero, suc, ◌⊎◌, inl, inr, Some, List, [], ◌∷◌, slice_get, refl, sym, ◌∙◌, subst}
 use Rattle.std.proofs.lemmas.Option.{none-some, same_Some}
-use Rattle.graph_core.specs.Graphs.{Instruction, Marker, Note, Move, Operate, Truncate, Same, Address, Load, Store, Zero, CopyWords, Call, Block, Graph}
-use Rattle.graph_core.specs.Paths.{Among, front, behind}
+use Rattle.graph_core.specs.Graphs.{Instruction, Marker, Note, Move, Operate, Truncate, Same, Address, Load, Store, Zero, CopyWords, Call, Block, End, Graph}
+use Rattle.graph_core.specs.Paths.{Among, History, Path, Way, behind, front, goes, passes, path, stays}
 use Rattle.graph_core.specs.Validity.{markers_in, markers_of_blocks}
 use Rattle.pass_law.specs.Keeps.{SameFunction}
 use Rattle.graph_homes.specs.Owned.{IsPlaceOf}
@@ -26,7 +26,7 @@ marker_from (CopyWords o b k ∷ rest) p among = behind (marker_from rest p amon
 marker_from (Call y f all ∷ rest) p among = behind (marker_from rest p among)
 
 -- a marker of a block is one of all blocks
-in_blocks : (blocks : List Block) (k p : ℕ) (b : Block) → slice_get blocks k ≡ Some b → Among (Marker p) b.instructions → Among p (markers_of_blocks blocks)
+pub in_blocks : (blocks : List Block) (k p : ℕ) (b : Block) → slice_get blocks k ≡ Some b → Among (Marker p) b.instructions → Among p (markers_of_blocks blocks)
 in_blocks [] k p b is among = absurd (none-some b is)
 in_blocks (x ∷ more) zero p b is among = among_front (markers_in x.instructions) (markers_of_blocks more) p (marker_in x.instructions p (subst (λ (y : Block). Among (Marker p) y.instructions) (sym (same_Some x b is)) among))
 in_blocks (x ∷ more) (suc k) p b is among = among_behind (markers_in x.instructions) (markers_of_blocks more) p (in_blocks more k p b is among)
@@ -47,3 +47,21 @@ place_back g h same place (inl entry) = inl (entry ∙ same.entry)
 place_back g h same place (inr has) =
     let r = of_block g.blocks place ((same.markers place).1 (in_blocks h.blocks has.number place has.block has.is has.marker)) in
     inr (record { number = r.0; block = r.1; is = r.2; marker = r.3 })
+
+-- ---- On paths
+
+-- a marker of what stands behind an instruction
+marker_further : (i : Instruction) (rest : List Instruction) (p : ℕ) → Among p (markers_in rest) → Among p (markers_in (i ∷ rest))
+marker_further (Marker q) rest p among = behind among
+marker_further _ rest p among = among
+
+module _ (g : Graph) where
+  -- on a way the markers of what is left of a block are the graph's
+  way_marked : (all : List Instruction) (end : End) (h : History) (n : ℕ) (rest : List Instruction) (e : End) → ((q : ℕ) → Among q (markers_in all) → Among q (markers_of_blocks g.blocks)) → Way g 0 all end h n rest e → (p : ℕ) → Among p (markers_in rest) → Among p (markers_of_blocks g.blocks)
+  way_marked all end [] n rest e are stays p among = are p among
+  way_marked all end (_ ∷ h) n rest e are (passes {i = i} way w) p among = way_marked all end h n (i ∷ rest) e are way p (marker_further i rest p among)
+  way_marked all end h n rest e are (goes way to b at) p among = in_blocks g.blocks n p b at (marker_from b.instructions p among)
+
+  -- A place that a path comes to has its marker among the graph's.
+  pub path_marked : (h : History) (n p : ℕ) (rest : List Instruction) (e : End) → Path g h n (Marker p ∷ rest) e → Among p (markers_of_blocks g.blocks)
+  path_marked h n p rest e (path b at way) = way_marked b.instructions b.end h n (Marker p ∷ rest) e (λ q among. in_blocks g.blocks 0 q b at (marker_from b.instructions q among)) way p front

@@ -1,5 +1,5 @@
--- Units that are as they were built, in slots: they are well marked, their slots show all variables, and their tables keep every rule of images.
-use Rattle.std.proofs.Common.{◌≡◌, ◌≢◌, ℕ, ◌^◌, ◌+◌, ◌<◌, ◌≤◌, ◌++◌, false, List, [], ◌∷◌, length, map, refl, sym, ap, ◌∙◌, subst, arith}
+-- Units that are as they were built, in slots: they are well marked, and their slots show all variables.
+use Rattle.std.proofs.Common.{◌≡◌, ℕ, ◌+◌, ◌<◌, ◌++◌, false, List, [], ◌∷◌, length, map, refl, sym, ap, ◌∙◌, subst, arith}
 use Rattle.std.specs.List.{AllByRecursion}
 use Rattle.debug_records.specs.Change.{is_taken}
 use Rattle.places.specs.declared.table.PlaceTable.{PlaceTable}
@@ -20,34 +20,18 @@ use Rattle.graph_build_laws.specs.Built.{IsBuilt}
 use Rattle.image_build.proofs.Rows.{IsPlainUnitOf, shown_home}
 use Rattle.image_truth_units.proofs.BuiltMarked.{built_marked}
 use Rattle.places.specs.declared.table.PlaceRow.{PlaceRow}
-use Rattle.c_type_laws.specs.Names.{HasNames}
-use Rattle.c_type_laws.specs.Spots.{HasSpots}
-use Rattle.graph_homes.specs.Homed.{HaveHomes}
 use Rattle.rv_emit_tables.specs.Emitted.{EmittedForm}
-use Rattle.rv_emit_layout.specs.Laid.{IsEmittedOf}
-use Rattle.rv_emit.specs.Emits.{Emits}
 use Rattle.image_form.specs.Form.{Form}
-use Rattle.image_form.specs.Rules.{IsImage}
 use Rattle.image_form.specs.Numbers.{row_numbers, verdict_numbers}
-use Rattle.memory_map.specs.Maps.{most_words}
 use Rattle.image_form_drafts.specs.Same.{SaysTheSame}
 use Rattle.image_form.specs.declared.verdicts.VisibleRow.{VisibleRow}
 use Rattle.image_form.specs.declared.verdicts.Verdict.{Verdict}
 use Rattle.image_form.specs.declared.verdicts.Verdict.TheVariants as verdict
-use Rattle.image_form_drafts.specs.Fitting.{AreFit}
 use Rattle.currency.specs.declared.verdict.Verdict as told-verdict
 use Rattle.image_build_tables.specs.Rows.{AreRowsOf, AreShown, IsVerdictOf, telling_of}
 use Rattle.image_build_tables.specs.Tables as image
 use Rattle.image_build_tables.specs.Tables.{assigned_pair, change_record, flow_pair, plain_version}
 use Rattle.image_truth_units.specs.Tables.{AreTablesOf, entry_place, visible_from}
-use Rattle.image_truth_units.proofs.Counted.{assigned_few, steps_few}
-use Rattle.image_truth_units.proofs.Fits.{AreFew}
-use Rattle.image_truth_units.proofs.Given.{Given}
-use Rattle.image_truth_units.proofs.ImageRulesKept.{tables_keep}
-use Rattle.image_truth_units.proofs.Lying.{lie_in_order}
-use Rattle.image_build.proofs.Rules.{node_rules, row_rules}
-use Rattle.image_truth_units.proofs.Built.{own_places, program_variables}
-use Rattle.image_truth_units.proofs.Every.{every_variable}
 use Rattle.std.proofs.lemmas.List.{length-map}
 use Rattle.std.proofs.Math.ListN.{length-append}
 use Rattle.c_flow.specs.Tables.{Fits32}
@@ -149,34 +133,10 @@ tables_are p h e rows m version code initial owners functions spans entries none
 pub visible_of : (p : ProgramTree) (rows : List PlaceRow) (all : List PlaceVerdict) (m : Form) → Fits32 p → map row_view rows ≡ rows_of_program p → map sight all ≡ sights_from 1 rows → map image.sight m.rows ≡ map image.sight_of_verdict all → map image.sight m.rows ≡ visible_from 1 (rows_of_program p)
 visible_of p rows all m fits are seen told = told ∙ tables.seen all rows (rows_few p rows fits are) seen ∙ ap (visible_from 1) are
 
--- Tables of a unit that is as it was built, in slots, are an image: they keep every rule.
-module _ (p : ProgramTree) (h : HomedForm) (e : EmittedForm) (rows : List PlaceRow) (m : Form) (formed : IsWellFormed p) (names : HasNames p) (spots : HasSpots p) (few : length rows + 1 < 4294967296) (valid : IsValid h.unit) (homes : HaveHomes h) (shape : HasShapeOf p h.unit) (plain : IsPlainUnit p h)
-    (emits : Emits h e) (coded : IsEmittedOf h e) (short : length e.code ≤ most_words e.map) (tables : AreTablesOf p h e rows m) (fit : AreFit m) (told : List PlaceVerdict) (seen : map sight told ≡ sights_from 1 rows) (shown : AreShown told) (bare : m.nodes ≡ [])
-    (say : length m.nodes < 2 ^ 32 → AreRowsOf (telling_of h rows e) m.nodes told m.rows) (visible : map image.sight m.rows ≡ visible_from 1 (rows_of_program p)) where
-  said : AreRowsOf (telling_of h rows e) m.nodes told m.rows
-  said = say (let none = ap length bare in omega (arith, none))
+-- ---- What they show
 
-  given : Given p h e rows m
-  given = record { tables = tables; formed = formed; names = names; valid = valid; homed = homes; emits = emits; lie = lie_in_order h valid e coded short; entries = shape.entries }
-
-  counted : AreFew m
-  counted = record {
-    flow = (
-        let many = ap length tables.flow ∙ length-map h.unit.steps flow_pair in
-        let few = steps_few p formed h.unit.steps plain.built.steps plain.built.steps_order in
-        omega (arith, many, few));
-    assigned = (
-        let many = ap length tables.assigned ∙ length-map h.unit.assignments assigned_pair in
-        let few = assigned_few p formed h.unit.assignments plain.built.assignments plain.built.assignments_order in
-        omega (arith, many, few));
-    nodes = (let none = ap length bare in omega (arith, none));
-  }
-
-  pub is_image : IsImage m
-  is_image =
-      tables_keep p h e rows m given spots (own_places p formed h.unit plain.built.forms) (program_variables p formed h.unit plain.built.forms) (every_variable p formed h.unit plain.built.forms) plain.built.steps plain.built.steps_order plain.built.assignments plain.built.assignments_order
-      plain.unchanged fit visible counted (row_rules p formed rows tables.rows_are m tables.places tables.belonging few told seen (telling_of h rows e) said shown) (node_rules m bare)
-
+-- Tables of a unit that is as it was built, in slots, whose verdicts all say that homes show variables.
+module _ (p : ProgramTree) (h : HomedForm) (e : EmittedForm) (rows : List PlaceRow) (m : Form) (plain : IsPlainUnit p h) (changes : m.changes ≡ map change_record h.unit.log) (told : List PlaceVerdict) (shown : AreShown told) (said : AreRowsOf (telling_of h rows e) m.nodes told m.rows) where
   home_said : (w : PlaceVerdict) → Among w told → (v : Verdict) → IsVerdictOf (telling_of h rows e) m.nodes w.place.0 w.verdict v → v ≡ verdict.Home
   home_said w among v is = subst (λ (z : told-verdict.Verdict). IsVerdictOf (telling_of h rows e) m.nodes w.place.0 z v) (shown w among) is
 
@@ -186,9 +146,9 @@ module _ (p : ProgramTree) (h : HomedForm) (e : EmittedForm) (rows : List PlaceR
   all_home (w ∷ more) within [] of = absurd of
   all_home (w ∷ more) within (r ∷ rs) of = (home_said w (within w front) r.verdict of.0.verdict, all_home more (λ x a. within x (behind a)) rs of.1)
 
-  -- It shows every variable.
+  -- They show every variable.
   pub shows_all : ShowsAll m
-  shows_all = record { shown = all_home told (λ w among. among) m.rows said; unchanged = tables.changes ∙ ap (map change_record) plain.unchanged }
+  shows_all = record { shown = all_home told (λ w among. among) m.rows said; unchanged = changes ∙ ap (map change_record) plain.unchanged }
 
 -- ---- When it was written and read back
 

@@ -64,7 +64,7 @@ pub seen_from : (first : ℕ) (rows : List declared-place.PlaceRow) (s : Sight) 
 seen_from first [] s few among = elim among [ ]
 seen_from first (r ∷ rows) s few among = seen_step first r rows s (omega (arith, few)) (λ a. seen_from (first + 1) rows s (omega (arith, few)) a) among
 
-mapped : {A B : Type 0} (f : A → B) (xs : List A) (x : A) → Among x xs → Among (f x) (map f xs)
+pub mapped : {A B : Type 0} (f : A → B) (xs : List A) (x : A) → Among x xs → Among (f x) (map f xs)
 mapped f [] x a = elim a [ ]
 mapped f (y ∷ xs) x front = front
 mapped f (y ∷ xs) x (behind a) = behind (mapped f xs x a)
@@ -91,20 +91,20 @@ pub record IsPlainUnitOf (p : ProgramTree) (h : HomedForm) : Type 0 where
   pub flow : HaveFlowOf p h.unit.steps h.unit.assignments
   pub entries : map entry_of_graph h.unit.graphs ≡ map (entry_of_function p) p.functions
 
-module _ (p : ProgramTree) (formed : IsWellFormed p) (h : HomedForm) (plain : IsPlainUnitOf p h) where
-  -- the function of a graph begins where the graph does
-  function_at : (graphs : List Graph) (functions : List TypedFunctionTree) → map entry_of_graph graphs ≡ map (entry_of_function p) functions → (f : ℕ) (g : Graph) → slice_get graphs f ≡ Some g → (tree : TypedFunctionTree) × (slice_get functions f ≡ Some tree) × (g.entry ≡ entry_of_function p tree)
-  function_at [] functions e f g at = absurd (none-some g at)
-  function_at (x ∷ graphs) [] e f g at = cc
-  function_at (x ∷ graphs) (t ∷ functions) e zero g at = (t, refl, subst (λ (y : Graph). y.entry ≡ entry_of_function p t) (some_same at) (first_same e))
-    where
-      first_same : {a b : ℕ} {xs ys : List ℕ} → a ∷ xs ≡ b ∷ ys → a ≡ b
-      first_same e = cc
-  function_at (x ∷ graphs) (t ∷ functions) e (suc f) g at = function_at graphs functions (rest_same e) f g at
-    where
-      rest_same : {a b : ℕ} {xs ys : List ℕ} → a ∷ xs ≡ b ∷ ys → xs ≡ ys
-      rest_same e = cc
+-- the function of a graph begins where the graph does
+pub function_of_graph : (p : ProgramTree) (graphs : List Graph) (functions : List TypedFunctionTree) → map entry_of_graph graphs ≡ map (entry_of_function p) functions → (f : ℕ) (g : Graph) → slice_get graphs f ≡ Some g → (tree : TypedFunctionTree) × (slice_get functions f ≡ Some tree) × (g.entry ≡ entry_of_function p tree)
+function_of_graph p [] functions e f g at = absurd (none-some g at)
+function_of_graph p (x ∷ graphs) [] e f g at = cc
+function_of_graph p (x ∷ graphs) (t ∷ functions) e zero g at = (t, refl, subst (λ (y : Graph). y.entry ≡ entry_of_function p t) (some_same at) (first_same e))
+  where
+    first_same : {a b : ℕ} {xs ys : List ℕ} → a ∷ xs ≡ b ∷ ys → a ≡ b
+    first_same e = cc
+function_of_graph p (x ∷ graphs) (t ∷ functions) e (suc f) g at = function_of_graph p graphs functions (rest_same e) f g at
+  where
+    rest_same : {a b : ℕ} {xs ys : List ℕ} → a ∷ xs ≡ b ∷ ys → xs ≡ ys
+    rest_same e = cc
 
+module _ (p : ProgramTree) (formed : IsWellFormed p) (h : HomedForm) (plain : IsPlainUnitOf p h) where
   kept : (place variable : ℕ) → WasTaken h.unit.log place variable → ⊥
   kept place variable w = true≢false (sym w.taken ∙ plain.unremoved w.change w.logged)
 
@@ -114,7 +114,7 @@ module _ (p : ProgramTree) (formed : IsWellFormed p) (h : HomedForm) (plain : Is
       (λ from to goes there. comes_known p formed h.unit.steps h.unit.assignments plain.flow from to variable goes there) q known
     where
       entry : IsKnown p g.entry variable → ⊥
-      entry k = (let t = function_at h.unit.graphs p.functions plain.entries f g at in none_known p formed f t.0 variable t.1 (subst (λ n. IsKnown p n variable) t.2 k))
+      entry k = (let t = function_of_graph p h.unit.graphs p.functions plain.entries f g at in none_known p formed f t.0 variable t.1 (subst (λ n. IsKnown p n variable) t.2 k))
 
   module _ (table : List declared-place.PlaceRow) (are : map row_view table ≡ rows_of_program p) (few : length table + 1 < 4294967296) (rows : List declared-row.PlaceVerdict) (seen : map sight rows ≡ sights_from 1 table) where
     row_known : (w : declared-row.PlaceVerdict) → Among w rows → IsKnown p w.place.0 w.var.0

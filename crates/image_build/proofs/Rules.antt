@@ -1,9 +1,9 @@
--- The rows of visible variables keep the rules of an image's format, where homes show all of them, and then there are no nodes.
+-- The rows of visible variables keep the rules of an image's format, where their verdicts do.
 use Rattle.std.proofs.Common.{◌≡◌, ℕ, zero, suc, ◌+◌, ◌-◌, ◌≤◌, ◌<◌, ◌⊎◌, inl, inr, Some, None, List, [], ◌∷◌, ◌++◌, length, map, slice_get, refl, sym, ap, ◌∙◌, subst, arith}
 use Rattle.std.specs.Prelude.{IsSomeAnd}
 use Rattle.std.specs.List.{AllByRecursion}
 use Rattle.std.proofs.Math.Nat.{min-eq_left}
-use Rattle.std.proofs.lemmas.Option.{same_Some}
+use Rattle.std.proofs.lemmas.Option.{same_Some, slice_get_within}
 use Rattle.debug_records.specs.declared.change.Var.{Var}
 use Rattle.places.specs.declared.table.PlaceRow.{PlaceRow}
 use Rattle.c_tree.specs.Programs.{ProgramTree}
@@ -12,23 +12,19 @@ use Rattle.c_places.specs.Places.{Place, places_of_program, visible}
 use Rattle.c_flow.specs.Rows.{Row, row_of, row_view, rows_of_program}
 use Rattle.graph_core.specs.Paths.{Among, front, behind}
 use Rattle.currency.specs.declared.verdict.PlaceVerdict.{PlaceVerdict}
-use Rattle.currency.specs.declared.verdict.Verdict as told-verdict
 use Rattle.currency.specs.Visible.{Sight, next, sight, sights_at, sights_from}
 use Rattle.image_build_tables.specs.Variables.{owner, owners_of}
 use Rattle.image_form.specs.Form.{Form, numbered}
 use Rattle.image_form.specs.Lists.{BeforeFirst, EachToNext}
 use Rattle.image_form.specs.RulesOfChanges.{IsPairBefore}
-use Rattle.image_form.specs.RulesOfNodes.{NamesHome, NodeRules}
 use Rattle.image_form.specs.RulesOfRows.{IsQuietStart, IsVerdict, IsVisible, RowRules}
 use Rattle.image_form.specs.declared.recipes.Node.{Node}
 use Rattle.image_form.specs.declared.tables.Place.{Place as ImagePlace}
 use Rattle.image_form.specs.declared.variables.Variable.{Variable}
 use Rattle.image_form.specs.declared.verdicts.Verdict.{Verdict}
-use Rattle.image_form.specs.declared.verdicts.Verdict.TheVariants as verdict
 use Rattle.image_form.specs.declared.verdicts.VisibleRow.{VisibleRow}
 use Rattle.image_build_tables.specs.Rows.{AreRowsOf, IsRowOf, IsVerdictOf, Telling}
 use Rattle.image_build_tables.specs.Tables.{spot, spot_of_row}
-use Rattle.image_build.specs.Shown.{AreShown}
 use Rattle.image_build.proofs.Rows.{IsSeen, seen_from}
 use Rattle.image_build.proofs.Lists.{Up, all_at, from_map, some_and, up_among}
 use Rattle.image_build.proofs.Ordered.{SeesOwn, functions_see, visible_up}
@@ -122,6 +118,7 @@ module _ (p : ProgramTree) (formed : IsWellFormed p) (table : List PlaceRow) (ar
   -- a row of the table is that of a place of the program, which sees its function's variables
   record PlaceOf (k : ℕ) (row : PlaceRow) : Type 0 where
     place : Place
+    there : slice_get (places_of_program p) k ≡ Some place
     is : row_of p place ≡ row_view row
     own : SeesOwn 0 p.functions place
 
@@ -129,7 +126,7 @@ module _ (p : ProgramTree) (formed : IsWellFormed p) (table : List PlaceRow) (ar
   place_of k row at =
       let there : slice_get (rows_of_program p) k ≡ Some (row_view row) = ap (λ (l : List Row). slice_get l k) (sym are) ∙ map_at table k row at in
       let q = from_map (row_of p) (places_of_program p) k (row_view row) there in
-      record { place = q.0; is = q.2; own = all_at (SeesOwn 0 p.functions) (places_of_program p) k q.0 (functions_see p 0 p.functions laws.functions) q.1 }
+      record { place = q.0; there = q.1; is = q.2; own = all_at (SeesOwn 0 p.functions) (places_of_program p) k q.0 (functions_see p 0 p.functions laws.functions) q.1 }
     where
       map_at : (xs : List PlaceRow) (i : ℕ) (x : PlaceRow) → slice_get xs i ≡ Some x → slice_get (map row_view xs) i ≡ Some (row_view x)
       map_at [] i x e = cc
@@ -151,6 +148,44 @@ module _ (p : ProgramTree) (formed : IsWellFormed p) (table : List PlaceRow) (ar
       let tree = q.own.tree in
       (offset p + tree.first_variable, offset p + (tree.first_variable + tree.variables), row_up k row q)))
 
+  -- What is seen at a place: the place, its row, and that the variable belongs to the function of the place.
+  pub record IsOwnSight (number variable : ℕ) : Type 0 where
+    pub index : ℕ
+    pub place : Place
+    pub is : slice_get (places_of_program p) index ≡ Some place
+    pub number_is : number ≡ suc index
+    pub row : PlaceRow
+    pub row_is : slice_get table index ≡ Some row
+    pub function_is : row.function ≡ place.function
+    pub low : place.function < length p.functions
+    pub owner : slice_get (owners_of p) variable ≡ Some (Some place.function)
+
+  pub own_sight : (s : Sight) → IsSeen table 1 s → IsOwnSight s.place s.variable
+  own_sight s seen =
+      let q = place_of seen.index seen.row seen.is in
+      let tree = q.own.tree in
+      let bounds = up_among (offset p + tree.first_variable) (offset p + (tree.first_variable + tree.variables)) (row_view seen.row).visible s.variable (row_up seen.index seen.row q) seen.among in
+      let low = bounds.0 in
+      let high = bounds.1 in
+      let x = s.variable - offset p in
+      let number : offset p + x ≡ s.variable = omega (arith, low) in
+      let own = owner_there p laws q.own.index tree x q.own.is (omega (arith, low, number)) (omega (arith, high, number)) in
+      let at = seen.place in
+      let first : 0 + q.own.index ≡ q.own.index = omega arith in
+      let function : q.place.function ≡ q.own.index = q.own.function ∙ first in
+      let within = slice_get_within p.functions q.own.index tree q.own.is in
+      record {
+        index = seen.index;
+        place = q.place;
+        is = q.there;
+        number_is = omega (arith, at);
+        row = seen.row;
+        row_is = seen.is;
+        function_is = sym (ap (λ (r : Row). r.function) q.is);
+        low = omega (arith, function, within);
+        owner = ap (slice_get (owners_of p)) (sym number) ∙ own ∙ ap (λ n. Some (Some n)) (sym function);
+      }
+
   -- given: an image with the program's places and the owners of its variables, and rows that say what is told at the places
   module _ (m : Form) (places : map spot m.places ≡ map spot_of_row table) (owners : map owner m.variables ≡ owners_of p) (few : length table + 1 < 4294967296) (all : List PlaceVerdict) (seen : map sight all ≡ sights_from 1 table) (t : Telling) (say : AreRowsOf t m.nodes all m.rows) where
     -- Each row is of a variable of the function of its place.
@@ -169,21 +204,11 @@ module _ (p : ProgramTree) (formed : IsWellFormed p) (table : List PlaceRow) (ar
 
         at_seen : (w : PlaceVerdict) → IsSeen table 1 (sight w) → IsVisible m w.place.0 w.var.0
         at_seen w s =
-            let q = place_of s.index s.row s.is in
-            let tree = q.own.tree in
-            let bounds = up_among (offset p + tree.first_variable) (offset p + (tree.first_variable + tree.variables)) (row_view s.row).visible w.var.0 (row_up s.index s.row q) s.among in
-            let low = bounds.0 in
-            let high = bounds.1 in
-            let x = w.var.0 - offset p in
-            let number : offset p + x ≡ w.var.0 = omega (arith, low) in
-            let own = owner_there p laws q.own.index tree x q.own.is (omega (arith, low, number)) (omega (arith, high, number)) in
-            let placed = from_map spot m.places s.index (spot_of_row s.row) (ap (λ l. slice_get l s.index) places ∙ map_at table s.index s.row s.is) in
-            let kept = from_map owner m.variables w.var.0 (Some q.own.index) (ap (λ l. slice_get l w.var.0) owners ∙ ap (slice_get (owners_of p)) (sym number) ∙ own) in
-            let place = s.place in
-            let at : w.place.0 ≡ suc s.index = omega (arith, place) in
-            let first : 0 + q.own.index ≡ q.own.index = omega arith in
-            let function : placed.0.function ≡ q.own.index = ap (λ z. z.function) placed.2 ∙ sym (ap (λ (r : Row). r.function) q.is) ∙ q.own.function ∙ first in
-            some_and (numbered m.places w.place.0) placed.0 (λ (y : ImagePlace). IsSomeAnd (slice_get m.variables w.var.0) (λ (v : Variable). v.function ≡ Some y.function)) (ap (numbered m.places) at ∙ placed.1)
+            let own = own_sight (sight w) s in
+            let placed = from_map spot m.places own.index (spot_of_row own.row) (ap (λ l. slice_get l own.index) places ∙ map_at table own.index own.row own.row_is) in
+            let kept = from_map owner m.variables w.var.0 (Some own.place.function) (ap (λ l. slice_get l w.var.0) owners ∙ own.owner) in
+            let function : placed.0.function ≡ own.place.function = ap (λ z. z.function) placed.2 ∙ own.function_is in
+            some_and (numbered m.places w.place.0) placed.0 (λ (y : ImagePlace). IsSomeAnd (slice_get m.variables w.var.0) (λ (v : Variable). v.function ≡ Some y.function)) (ap (numbered m.places) own.number_is ∙ placed.1)
             (some_and (slice_get m.variables w.var.0) kept.0 (λ (v : Variable). v.function ≡ Some placed.0.function) kept.1 (kept.2 ∙ ap Some (sym function)))
 
         one : (w : PlaceVerdict) → Among w all → (v : Verdict) → IsVerdictOf t m.nodes w.place.0 w.verdict v → IsVisible m w.place.0 w.var.0
@@ -193,28 +218,12 @@ module _ (p : ProgramTree) (formed : IsWellFormed p) (table : List PlaceRow) (ar
     pub rows_ascend : EachToNext (λ (r s : VisibleRow). IsPairBefore r.place r.variable s.place s.variable) m.rows
     rows_ascend = each_next t m.nodes all m.rows 1 0 say (subst (λ l. Behind 1 0 l) (sym seen) (behind_from 1 table (omega (arith, few)) table_up))
 
-    module _ (shown : AreShown all) where
-      is_home : (w : PlaceVerdict) → Among w all → (v : Verdict) → IsVerdictOf t m.nodes w.place.0 w.verdict v → v ≡ verdict.Home
-      is_home w among v is = subst (λ (z : told-verdict.Verdict). IsVerdictOf t m.nodes w.place.0 z v) (shown w among) is
-
-      -- Where homes show all variables, the rows keep their rules.
-      pub row_rules : RowRules m
-      row_rules = record {
-        visible = rows_visible;
-        verdicts = rows_say t m.nodes (λ place variable v. IsVerdict m variable v) all m.rows say (λ w among v is. subst (λ z. IsVerdict m w.var.0 z) (sym (is_home w among v is)) tt);
-        quiet = each_unquiet t m.nodes all m.rows say (λ (r : VisibleRow). IsQuietStart m r.verdict r.quiet) (λ r none. subst (IsQuietStart m r.verdict) (sym none) tt);
-        none_quiet = λ untold. each_unquiet t m.nodes all m.rows say (λ (r : VisibleRow). r.quiet ≡ None) (λ r none. none);
-        ascend = rows_ascend;
-      }
-
--- and nodes that are none keep their rules.
-pub node_rules : (m : Form) → m.nodes ≡ [] → NodeRules m
-node_rules m none = record {
-  homes = subst (λ l. AllByRecursion (NamesHome m) l) (sym none) tt;
-  earlier = λ i n at. absurd (nothing i n (ap (λ l. slice_get l i) (sym none) ∙ at));
-  shallow = λ i lt. (let few = ap length none in absurd (omega (arith, few, lt)));
-  differ = λ i j x y one other same. absurd (nothing i x (ap (λ l. slice_get l i) (sym none) ∙ one));
-}
-  where
-    nothing : (i : ℕ) (n : Node) → slice_get [] i ≡ Some n → ⊥
-    nothing i n e = cc
+    -- Where verdicts keep their rule, the rows keep theirs.
+    pub row_rules : AllByRecursion (λ (r : VisibleRow). IsVerdict m r.variable r.verdict) m.rows → RowRules m
+    row_rules verdicts = record {
+      visible = rows_visible;
+      verdicts = verdicts;
+      quiet = each_unquiet t m.nodes all m.rows say (λ (r : VisibleRow). IsQuietStart m r.verdict r.quiet) (λ r none. subst (IsQuietStart m r.verdict) (sym none) tt);
+      none_quiet = λ untold. each_unquiet t m.nodes all m.rows say (λ (r : VisibleRow). r.quiet ≡ None) (λ r none. none);
+      ascend = rows_ascend;
+    }

@@ -1,4 +1,4 @@
--- What comes of a program behind passes.
+-- What comes of a program after passes.
 use Rattle.std.specs.Prelude.{◌≡◌, ℕ, List}
 use Rattle.c_tree.specs.Programs.{ProgramTree}
 use Rattle.debug_records.specs.declared.change.PassName.{PassName}
@@ -11,7 +11,7 @@ use Rattle.graph_build_laws.specs.Built.{IsBuilt}
 use Rattle.cdbg_passes.specs.Trail.{IsOnTrail}
 
 module _ {P : Type 0} (named : P → PassName) (steps : P → UnitForm → UnitForm → Type 0) (passes : List P) (names : List (List ℕ)) (p : ProgramTree) where
-  -- A UNIT COMES OF A PROGRAM behind passes: from one that is built of the program the names lead to it on a trail of
+  -- A UNIT COMES OF A PROGRAM after passes: from one that is built of the program the names lead to it on a trail of
   -- units, each by a step of the first pass of that name; and it keeps what that one does. Each unit on the trail is
   -- well marked and keeps what the one before does, each pass logs what a pass may, each change that one of the program's
   -- passes logs is earned, and what code motion makes is computationally optimal.
@@ -21,7 +21,8 @@ module _ {P : Type 0} (named : P → PassName) (steps : P → UnitForm → UnitF
     pub trail : Lead named (λ pass. IsOnTrail (named pass) (steps pass)) passes names first u
     pub keeps : Keeps first u
 
-  -- A UNIT WITH HOMES COMES OF A PROGRAM behind passes: but for its log it is a unit that does, and its log is that one's and behind it the changes of registers that are shared.
+  -- A UNIT WITH HOMES COMES OF A PROGRAM after passes: but for its log it is a unit that does, and its log is that one's
+  -- with the changes of registers that are shared after it.
   pub record ComesHomed (h : HomedForm) : Type 0 where
     pub unit : UnitForm
     pub comes : ComesOf unit

@@ -32,6 +32,8 @@ IsExplainedBy m p v (verdict.Noncurrent change start (Some address)) = IsExplain
 IsExplainedBy m p v (verdict.Nonresident change start None) = ⊥
 IsExplainedBy m p v (verdict.Nonresident change start (Some address)) = IsExplained m p v (λ k. k ≡ Reused) change start (Some address)
 
--- Whatever the rows of an image say to hide variables is explained by it.
+-- WHERE A ROW OF AN IMAGE HIDES A VARIABLE, the image explains why: the change that the row names stands in its table and
+-- concerns the variable, and the path that is printed leads from a place that assigns the variable to the stop, by way of
+-- the place of that change or of the word that wrote to the home, with no assignment of the variable between.
 abbrev pub ExplainsAll : Form → Type 0
 ExplainsAll m = (r : VisibleRow) → Among r m.rows → IsExplainedBy m r.place r.variable r.verdict

@@ -1,4 +1,4 @@
--- What is kept of a program behind passes.
+-- What is kept of a program after passes.
 use Rattle.std.specs.Prelude.{◌≡◌}
 use Rattle.c_tree.specs.Programs.{ProgramTree}
 use Rattle.graph_core.specs.Graphs.{UnitForm}

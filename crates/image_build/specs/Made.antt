@@ -6,8 +6,10 @@ use Rattle.places.specs.declared.flow.FlowTable.{FlowTable}
 use Rattle.places.specs.declared.table.PlaceRow.{PlaceRow}
 use Rattle.c_tree.specs.Programs.{ProgramTree}
 use Rattle.c_flow.specs.Rows.{row_view, rows_of_program}
+use Rattle.graph_core.specs.Graphs.{UnitForm}
 use Rattle.graph_core.specs.Validity.{IsValid}
 use Rattle.graph_homes.specs.Homed.{HaveHomes, HomedForm}
+use Rattle.home_assign.specs.Changes.{HaveChanges}
 use Rattle.home_assign.specs.Rule.{HaveHomesApart, HaveRegisters, HaveSlots}
 use Rattle.rv_emit_tables.specs.Emitted.{EmittedForm}
 use Rattle.rv_emit.specs.Emits.{Emits}
@@ -27,9 +29,11 @@ use Rattle.image_build_tables.specs.Rows.{AreNodesOf, AreRowsOf, telling_of}
 use Rattle.image_build_tables.specs.Tables.{assigned_pair, change_record, flow_pair, plain_version}
 use Rattle.image_build.specs.Evidence.{AreEvidentIn}
 
--- Verdicts are borne out by a unit with homes: where one says that a home shows a variable, or gives a recipe for it, that is so on all paths. A recipe is given only where the home does not show
--- the variable and no other recipe holds, and beside it stands the least change that removed its assignment; a variable is hidden only where no recipe holds. At a place that no path reaches each
--- is said to be shown by its home. The change that one names is in the log, and what one says to write a home does so, and hides the variable.
+-- Verdicts are borne out by a unit with homes: where one says that a home shows a variable, or gives a recipe for it, that
+-- is so on all paths. A recipe is given only where the home does not show the variable and no other recipe holds, and
+-- beside it stands the least change that removed its assignment; a variable is hidden only where no recipe holds. At a
+-- place that no path reaches each is said to be shown by its home. The change that one names is in the log, and what one
+-- says to write a home does so, and hides the variable.
 pub record AreBorneOut (h : HomedForm) (told : List PlaceVerdict) : Type 0 where
   pub flow : FlowTable
   pub steps : flow.steps.items ≡ h.unit.steps
@@ -64,9 +68,20 @@ pub record IsHomed (mode : Mode) (h : HomedForm) : Type 0 where
   pub registers : mode ≡ Registers → HaveRegisters h
   pub apart : HaveHomesApart h
 
--- AN IMAGE IS MADE OF A UNIT WITH HOMES, of a program. Its words with their owners, its initial bytes, and where its memory lies, are the code of the unit, which does what the unit does over its homes; each function lies where its code does, with its
--- frame; each variable is kept where the code has it; each place has the address of its stop, and an entry that of its function; the changes, the flow and the assignments are the unit's, and the names those of the program
--- and of the passes of the changes; the rows say what is borne out by the unit; and what a row says to hide a variable is evident in the words of the code.
+-- A unit has homes of a mode: but for its log it is this unit, and its log is that one's with the changes of registers
+-- that are shared after it.
+pub record HasHomesOf (mode : Mode) (u : UnitForm) (h : HomedForm) : Type 0 where
+  pub same : h.unit ≡ record u { log = h.unit.log }
+  pub changes : HaveChanges u h
+  pub homed : IsHomed mode h
+
+-- AN IMAGE IS MADE OF A UNIT WITH HOMES, of a program. Its words with their owners, its initial bytes, and where its
+-- memory lies, are the code of the unit, which does what the unit does over its homes; each function lies where its code
+-- does, with its frame; each variable is kept where the code has it; each place has the address of its stop, and an entry
+-- that of its function; the changes, the flow and the assignments are the unit's, and the names those of the program and
+-- of the passes of the changes. Its rows say what is right of the unit on all paths to the place: by one that shows a
+-- variable its home has the value, or the recipe gives it; and a variable is hidden only where neither its home nor any
+-- recipe that a note of the unit gives does so. What a row says to hide a variable is evident in the words of the code.
 pub record IsMadeOf (p : ProgramTree) (h : HomedForm) (m : Form) : Type 0 where
   pub emitted : EmittedForm
   pub emits : Emits h emitted

@@ -56,6 +56,10 @@ pub record AgreesOn (p : ProgramTree) (m : Form) (input : List ℕ) : Type 0 whe
   pub agree : (turns limit : ℕ) → Agree (SameEvent p m) (events_of p input turns) (image_run m input limit)
   pub reach : (turns i limit : ℕ) → i ≤ length (events_of p input turns) → i * (1025 * length m.code) ≤ limit → i ≤ length (image_run m input limit)
 
--- AN IMAGE RUNS TRUE TO A PROGRAM: on each input of bytes its run agrees with the program's.
+-- AN IMAGE RUNS TRUE TO A PROGRAM: on each input of bytes, and for each limit on instructions, its run agrees with the
+-- program's as far as both go: the same bytes are put out, it stops at the same places, where what is shown of a variable
+-- is the text of what the variable holds by C, and it ends as the program does. It comes to each event of the program's
+-- run within 1,025 instructions for each word of the code and each event. What C leaves undefined ends the program's run,
+-- so nothing is said from there on.
 abbrev pub RunsTrue : ProgramTree → Form → Type 0
 RunsTrue p m = (input : List ℕ) → AllByRecursion (λ b. b < 256) input → AgreesOn p m input

@@ -1,6 +1,6 @@
 //! From a program to what is to be its image, step by step.
 
-ghost use Rattle.std.specs.Prelude.{◌≡◌, ◌<◌, ◌≤◌, ◌^◌, [], IfNone, IfOk, IfSome, length, map, true};
+ghost use Rattle.std.specs.Prelude.{◌≡◌, ◌<◌, ◌≤◌, ◌^◌, [], IfOk, length, map, true};
 ghost use Rattle.c_tree.specs.Programs.{program_view};
 ghost use Rattle.c_flow.specs.Tables.{Fits32};
 ghost use Rattle.c_type_laws.specs.Laws.{IsWellFormed};
@@ -11,9 +11,12 @@ ghost use Rattle.graph_core.specs.Graphs.{unit_view};
 ghost use Rattle.graph_core.specs.Validity.{IsValid};
 ghost use Rattle.graph_core.specs.WellMarked.{AreWellMarked};
 ghost use Rattle.graph_homes.specs.Homed.{HaveHomes, homed_view};
+ghost use Rattle.currency.specs.Premises.{AreSharesLogged};
 ghost use Rattle.image_form.specs.Form.{form};
 ghost use Rattle.image_form.specs.Rules.{IsImage};
+ghost use Rattle.image_truth_units.specs.Changes.{CanAllBeTold};
 ghost use Rattle.image_build.specs.Behind.{ComesOf};
+ghost use Rattle.image_build.specs.Kept.{IsKeptOf};
 ghost use Rattle.image_build.specs.Made.{IsMadeOf};
 ghost use Rattle.image_build.specs.ProgramImageShown.{IsPlainUnit, ShowsAll};
 ghost use Rattle.image_build.specs.Tables.{HasShapeOf, HasTablesOf};
@@ -60,33 +63,34 @@ pub fn unit_of(
     run_passes(alloc, passes, names, unit)
 }
 
-/// What is to be the image of a program with a homed unit. None where some variable has no verdict. Of a unit that is as it was built and whose names have slots of their own it is an image, and shows
-/// every variable.
+/// What is to be the image of a program with a homed unit: it keeps every rule of images. Of a unit that is as it was
+/// built and whose names have slots of their own it shows every variable. The only error is want of memory.
 pub fn draft_of(
     alloc: Global,
     program: &Program,
     homed: &HomedUnit,
     is_plain: bool,
-) -> Result<Option<Image>, AllocError>
+) -> Result<Image, AllocError>
     requires fits { Fits32 (program_view program.now) }
     requires laws { IsWellFormed (program_view program.now) }
     requires names { HasNames (program_view program.now) }
     requires spots { HasSpots (program_view program.now) }
-    requires valid { IsValid (homed_view homed.now).unit }
+    requires marked { AreWellMarked (homed_view homed.now).unit }
     requires homes { HaveHomes (homed_view homed.now) }
+    requires shared { AreSharesLogged (homed_view homed.now) }
     requires shape { HasShapeOf (program_view program.now) (homed_view homed.now).unit }
+    requires kept { IsKeptOf (program_view program.now) (homed_view homed.now).unit }
+    requires told { CanAllBeTold (program_view program.now) (homed_view homed.now).unit.log }
     requires plain { is_plain ≡ true → IsPlainUnit (program_view program.now) (homed_view homed.now) }
-    ensures owners { IfOk result (λ o. IfSome o (λ m. length m.owners.items ≡ length m.code.items)) }
-    ensures tables { IfOk result (λ o. IfSome o (λ m. HasTablesOf (program_view program.now) (form m))) }
-    ensures made { IfOk result (λ o. IfSome o (λ m. length m.nodes.items < 2 ^ 32 → IsMadeOf (program_view program.now) (homed_view homed.now) (form m))) }
-    ensures image { is_plain ≡ true → IfOk result (λ o. IfSome o (λ m. IsImage (form m))) }
-    ensures shows { is_plain ≡ true → IfOk result (λ o. IfSome o (λ m. ShowsAll (form m))) }
-    ensures total { is_plain ≡ true → IfOk result (λ o. IfNone o ⊥) }
+    ensures owners { IfOk result (λ m. length m.owners.items ≡ length m.code.items) }
+    ensures tables { IfOk result (λ m. HasTablesOf (program_view program.now) (form m)) }
+    ensures made { IfOk result (λ m.
+        length m.nodes.items < 2 ^ 32 → IsMadeOf (program_view program.now) (homed_view homed.now) (form m)) }
+    ensures image { IfOk result (λ m. IsImage (form m)) }
+    ensures shows { is_plain ≡ true → IfOk result (λ m. ShowsAll (form m)) }
 {
     let places = place_table(alloc, program)?;
-    let Some(verdicts) = verdicts_on(alloc, homed, &places, is_plain)? else {
-        return Ok(None);
-    };
+    let verdicts = verdicts_on(alloc, homed, &places, is_plain)?;
     let emitted = emit(alloc, homed)?;
     let parts = Parts {
         program,
@@ -97,5 +101,5 @@ pub fn draft_of(
     };
     let image = image_of(alloc, &parts, emitted)?;
     tables_fit(&image);
-    Ok(Some(image))
+    Ok(image)
 }

@@ -3,11 +3,13 @@
 
 mod building;
 mod drafting;
-mod made;
+mod program_image;
 mod shown;
 mod telling;
+mod trails;
 
-pub use building::image_of_program;
+pub use building::{image_of_program, image_of_unit};
 pub use drafting::unit_of;
-pub use made::Build;
+pub use program_image::ProgramImage;
 pub use shown::slot_verdicts;
+pub use trails::trail_of;

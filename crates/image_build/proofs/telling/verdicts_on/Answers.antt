@@ -1,7 +1,6 @@
 use Rattle.std.proofs.Common.{refl}
 use Rattle.graph_homes.specs.Homed.{homed_view}
 use Rattle.image_build.proofs.Rows.{shown_apart, shown_evident, shown_hidden, shown_least, shown_named, shown_only, shown_reached, shown_recovered, shown_written}
-use Rattle.image_build.proofs.Borne.{borne_out_by}
 use Rattle.image_build.proofs.telling.verdicts_on.Goals as goal
 
 pub returns-then-is_plain-clause-borne_out : goal.returns-then-is_plain-clause-borne_out
@@ -13,7 +12,7 @@ returns-then-is_plain-clause-borne_out c =
       flow = c.args.homed.now.unit.flow;
       steps = refl;
       assignments = refl;
-      home = c.requires c.if-is_plain.true rows told.visible;
+      home = c.requires.plain c.if-is_plain.true rows told.visible;
       recovered = shown_recovered rows told.shown h;
       apart = shown_apart rows told.shown h;
       only = shown_only rows told.shown h;
@@ -27,6 +26,19 @@ returns-then-is_plain-clause-borne_out c =
 
 pub returns-clause-borne_out : goal.returns-clause-borne_out
 returns-clause-borne_out c =
-    let told = c.verdicts.ensures in
-    borne_out_by (homed_view c.args.homed.now) c.args.homed.now.unit.flow refl refl c.verdicts.result told.home told.recovered told.apart told.only told.least told.hidden
-    told.reached told.named told.written told.evident
+    let told = c.in_ok-told.ensures in
+    record {
+      flow = c.args.homed.now.unit.flow;
+      steps = refl;
+      assignments = refl;
+      home = told.home;
+      recovered = told.recovered;
+      apart = told.apart;
+      only = told.only;
+      least = told.least;
+      hidden = told.hidden;
+      reached = told.reached;
+      named = told.named;
+      written = told.written;
+      evident = told.evident;
+    }

@@ -6,7 +6,7 @@ use image_form::Image;
 
 /// A program, and what was made of it.
 #[derive(Drop)]
-pub struct Build {
+pub struct ProgramImage {
     pub program: Program,
     /// Its unit, with the homes of its names.
     pub homed: HomedUnit,
