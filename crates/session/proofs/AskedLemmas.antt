@@ -41,17 +41,17 @@ module _ {P : Type 0} (named : P → PassName) (passes : List P) (words : List (
   no_job found is e = λ a s. subst (λ f. IfNone f (IsNoJob words)) e is a s.words_are
 
   -- where the words ask for a job, only memory can be wanting
-  pub refused_is_complete : (Else : Type 0) (status : Status) (a : JobGiven) → AskEnds named passes (Err status) words → AreServed named passes words a → (status ≡ Done) ⊎ ((status ≡ NoMemory) ⊎ Else)
-  refused_is_complete Else Done a h s = absurd h
-  refused_is_complete Else Usage a h s = absurd (h a s)
-  refused_is_complete Else (SourceRefused code line) a h s = absurd h
-  refused_is_complete Else (ScriptRefused code line) a h s = absurd h
-  refused_is_complete Else ReadFault a h s = absurd h
-  refused_is_complete Else WriteFault a h s = absurd h
-  refused_is_complete Else NoMemory a h s = inr (inl refl)
-  refused_is_complete Else (ImageRefused code offset) a h s = absurd h
-  refused_is_complete Else (TooLong name) a h s = absurd h
-  refused_is_complete Else (AuditFailed rule line) a h s = absurd h
+  pub refused_is_complete : (status : Status) (a : JobGiven) → AskEnds named passes (Err status) words → AreServed named passes words a → (status ≡ Done) ⊎ (status ≡ NoMemory)
+  refused_is_complete Done a h s = absurd h
+  refused_is_complete Usage a h s = absurd (h a s)
+  refused_is_complete (SourceRefused code line) a h s = absurd h
+  refused_is_complete (ScriptRefused code line) a h s = absurd h
+  refused_is_complete ReadFault a h s = absurd h
+  refused_is_complete WriteFault a h s = absurd h
+  refused_is_complete NoMemory a h s = inr refl
+  refused_is_complete (ImageRefused code offset) a h s = absurd h
+  refused_is_complete (TooLong name) a h s = absurd h
+  refused_is_complete (AuditFailed rule line) a h s = absurd h
 
 module _ {P : Type 0} {named : P → PassName} {steps : P → UnitForm → UnitForm → Type 0} {handed_in : List P} where
   -- how a job ends is how the same job ends

@@ -1,6 +1,6 @@
 -- What is so of the image of a source.
 use Rattle.std.proofs.Common.{◌≡◌, ℕ, List, [], ◌∷◌, map, refl, subst}
-use Rattle.std.specs.Prelude.{IfOk, IfSome, Ok, Option, Result, Some}
+use Rattle.std.specs.Prelude.{Ok}
 use Rattle.command_line.specs.Words.{Text}
 use Rattle.c_source.specs.Sources.{HasProgram, program_of_source}
 use Rattle.debug_records.specs.declared.mode.Mode.TheVariants.{Slots}
@@ -41,21 +41,9 @@ module _ {P : Type 0} {named : P → PassName} {steps : P → UnitForm → UnitF
   }
 
   -- An image that is made of the program of a source is one of the source.
-  pub made_of : {E : Type 0} (source : List ℕ) (names : List Text) (mode : Mode) (p : ProgramTree) (result : Result (Option Made) E) (made : Made) → result ≡ Ok (Some made) → HasProgram source → program_of_source source ≡ Ok p
-      → IfOk result (λ o. IfSome o (λ (m : Made). IsImage (form m.image))) → IfOk result (λ o. IfSome o (λ (m : Made). m.bytes.items ≡ spelling (form m.image)))
-      → IfOk result (λ o. IfSome o (λ (m : Made). RunsTrue p (form m.image))) → (names ≡ [] → mode ≡ Slots → IfOk result (λ o. IfSome o (λ (m : Made). ShowsAll (form m.image))))
-      → IfOk result (λ o. IfSome o (λ (m : Made). HasTablesOf p (form m.image))) → IfOk result (λ o. IfSome o (λ (m : Made). ComesOfProgram named steps handed_in p names mode (form m.image))) → IsMade named steps handed_in source names mode made
-  made_of source names mode p result made is understood program image bytes runs shows tables comes =
-      let image_is = subst (λ r. IfOk r (λ o. IfSome o (λ (m : Made). IsImage (form m.image)))) is image in
-      let bytes_are = subst (λ r. IfOk r (λ o. IfSome o (λ (m : Made). m.bytes.items ≡ spelling (form m.image)))) is bytes in
-      record {
-        image = record {
-          understood = understood;
-          image = image_is;
-          truthful = truthful_by source names mode p (form made.image) program (subst (λ r. IfOk r (λ o. IfSome o (λ (m : Made). RunsTrue p (form m.image)))) is runs)
-              (λ none slots. subst (λ r. IfOk r (λ o. IfSome o (λ (m : Made). ShowsAll (form m.image)))) is (shows none slots))
-              (subst (λ r. IfOk r (λ o. IfSome o (λ (m : Made). HasTablesOf p (form m.image)))) is tables)
-              (subst (λ r. IfOk r (λ o. IfSome o (λ (m : Made). ComesOfProgram named steps handed_in p names mode (form m.image)))) is comes);
-        };
-        bytes = bytes_are;
-      }
+  pub made_of : (source : List ℕ) (names : List Text) (mode : Mode) (p : ProgramTree) (made : Made) → HasProgram source → program_of_source source ≡ Ok p → IsImage (form made.image) → made.bytes.items ≡ spelling (form made.image) → RunsTrue p (form made.image)
+      → (names ≡ [] → mode ≡ Slots → ShowsAll (form made.image)) → HasTablesOf p (form made.image) → ComesOfProgram named steps handed_in p names mode (form made.image) → IsMade named steps handed_in source names mode made
+  made_of source names mode p made understood program image bytes runs shows tables comes = record {
+    image = record { understood = understood; image = image; truthful = truthful_by source names mode p (form made.image) program runs shows tables comes };
+    bytes = bytes;
+  }

@@ -7,19 +7,18 @@ use Rattle.line_form.specs.declared.status.Status.{Status}
 use Rattle.line_form.specs.declared.status.Status.TheVariants.{Done, Usage, SourceRefused, ScriptRefused, ReadFault, WriteFault, NoMemory, ImageRefused, TooLong, AuditFailed}
 use Rattle.script_form.specs.Refusal.{IsRefused}
 use Rattle.script_form.proofs.ScriptLaws.{readings_one}
-use Rattle.debug_records.specs.declared.code.TheConstants.Code.{UNEXPECTED_KEYWORD}
 use Rattle.c_source.specs.Sources.{HasProgram}
+use Rattle.c_source.proofs.Sources.{unbroken}
 use Rattle.command_line.specs.Grammar.{IsJob}
 use Rattle.command_line.specs.Words.{Text}
 use Rattle.command_line.specs.Job.{JobGiven, attach, compile, debug, passes, sweep}
 use Rattle.session.specs.Served.{IfGiven, With, input_of, script_of}
 use Rattle.session.specs.Limits.{Held, Holds, AreWithin, FirstIsLoaded, ImageIsTooLong, InputIsTooLong, IsBeyond, IsThisBeyond, IsTooLong, IsWithin, ScriptIsTooLong, image_limit, input_limit}
-use Rattle.session.specs.Front.{IsPromised, IsRefusedSource}
+use Rattle.session.specs.Front.{IsRefusedSource}
 use Rattle.work_gen.specs.Generated.{text as generated}
 use Rattle.work_gen_laws.proofs.Swept.{swept_has_program}
-use Rattle.session.proofs.Refusals.{refused_uncompiled}
 use Rattle.session.specs.Ending.{IsCaused, World}
-use Rattle.session.specs.Causes.{AreNoImage, ImageIsRefused, IsImageText, IsLeftOut, IsScriptText, IsUnderstood, SourceIsRefused, TextIsRefused, AreAccepted}
+use Rattle.session.specs.Causes.{AreNoImage, ImageIsRefused, IsImageText, IsScriptText, IsUnderstood, SourceIsRefused, TextIsRefused, AreAccepted}
 
 -- a text is not of two kinds that exclude one another
 contrary : (P Q : List ℕ → Type 0) → ((t : List ℕ) → P t → Q t → ⊥) → (held : Option (List ℕ)) → Holds held P → Holds held Q → ⊥
@@ -47,28 +46,13 @@ none_too_long held job name w t =
     (λ u. ⊎_elim (λ (s : ScriptIsTooLong held job name). text_short_and_long held (script_of job) 1048576 name w.script s.cause)
     (λ (i : InputIsTooLong held job name). text_short_and_long held (input_of job) input_limit name w.input i.cause) u) t
 
--- what is understood is refused only where it is not compiled
-held_left_out : (promised : Type 0) (code : Code) (line : ℕ) (held : Option (List ℕ)) → Holds held HasProgram → Holds held (λ t. IsRefusedSource promised t code line) → (code ≡ UNEXPECTED_KEYWORD) × (line ≡ 1) × Holds held (λ t. ¬ promised)
-held_left_out promised code line None p r = absurd p
-held_left_out promised code line (Some text) p r =
-    let n = refused_uncompiled text promised code line p r in
-    (n.code_is, n.line_is, n.cause)
-
-same_refusal : (code : Code) (line : ℕ) → code ≡ UNEXPECTED_KEYWORD → line ≡ 1 → SourceRefused code line ≡ SourceRefused UNEXPECTED_KEYWORD 1
-same_refusal code line c l = cc
-
-source_left_out : (held : Held) (job : JobGiven) (code : Code) (line : ℕ) → IsUnderstood held job → SourceIsRefused held job code line → IsLeftOut held job (SourceRefused code line)
-source_left_out held (debug given) code line u r =
-    let l = held_left_out (IsPromised (debug given)) code line (held given.source) u r in
-    (same_refusal code line l.0 l.1, l.2)
-source_left_out held (compile given) code line u r =
-    let l = held_left_out (IsPromised (compile given)) code line (held given.source) u r in
-    (same_refusal code line l.0 l.1, l.2)
-source_left_out held (passes given) code line u r =
-    let l = held_left_out (IsPromised (passes given)) code line (held given.source) u r in
-    (same_refusal code line l.0 l.1, l.2)
-source_left_out held (sweep given) code line u r = (same_refusal code line r.code_is r.line_is, r.cause)
-source_left_out held (attach given) code line u r = absurd r
+-- what is understood is not refused
+source_understood : (held : Held) (job : JobGiven) (code : Code) (line : ℕ) → IsUnderstood held job → SourceIsRefused held job code line → ⊥
+source_understood held (debug given) code line u r = contrary HasProgram (λ t. IsRefusedSource t code line) (λ t has refused. unbroken t code line has refused) (held given.source) u r
+source_understood held (compile given) code line u r = contrary HasProgram (λ t. IsRefusedSource t code line) (λ t has refused. unbroken t code line has refused) (held given.source) u r
+source_understood held (passes given) code line u r = contrary HasProgram (λ t. IsRefusedSource t code line) (λ t has refused. unbroken t code line has refused) (held given.source) u r
+source_understood held (sweep given) code line u r = r
+source_understood held (attach given) code line u r = r
 
 image_understood : (held : Held) (job : JobGiven) (code : Code) (offset : ℕ) → IsUnderstood held job → ImageIsRefused held job code offset → ⊥
 image_understood held (debug given) code offset u r = r
@@ -87,18 +71,18 @@ source_refused words (debug given) held code line is r = r
 source_refused words (compile given) held code line is r = r
 source_refused words (attach given) held code line is r = absurd r
 source_refused words (passes given) held code line is r = r
-source_refused words (sweep given) held code line is r = refused_uncompiled (generated given.seed given.size) (IsPromised (sweep given)) code line (swept_has_program words given is) r
+source_refused words (sweep given) held code line is r = unbroken (generated given.seed given.size) code line (swept_has_program words given is) r
 
 -- where the texts are within their limits and accepted, and no load, save or put failed
 pub complete : (words : List Text) (job : JobGiven) (old : World) (status : Status) (new : World) → IsJob words job → IsCaused job old status new → old.shelf_tells ≡ true
-    → AreWithin old.held job → AreAccepted old.held job → ¬ RoseOrStands old.loads new.loads → ¬ RoseOrStands old.saves new.saves → ¬ RoseOrStands old.puts new.puts → (status ≡ Done) ⊎ ((status ≡ NoMemory) ⊎ IsLeftOut old.held job status)
+    → AreWithin old.held job → AreAccepted old.held job → ¬ RoseOrStands old.loads new.loads → ¬ RoseOrStands old.saves new.saves → ¬ RoseOrStands old.puts new.puts → (status ≡ Done) ⊎ (status ≡ NoMemory)
 complete words job old Done new is c told w a nl ns nk = inl refl
 complete words job old Usage new is c told w a nl ns nk = absurd (c.usage refl)
-complete words job old (SourceRefused code line) new is c told w a nl ns nk = inr (inr (source_left_out old.held job code line a.before (source_refused words job old.held code line is (c.source code line refl told))))
+complete words job old (SourceRefused code line) new is c told w a nl ns nk = absurd (source_understood old.held job code line a.before (source_refused words job old.held code line is (c.source code line refl told)))
 complete words job old (ScriptRefused code line) new is c told w a nl ns nk = absurd (script_read old.held (script_of job) code line a.script (c.script code line refl told).cause)
 complete words job old ReadFault new is c told w a nl ns nk = absurd (nl (c.read refl))
 complete words job old WriteFault new is c told w a nl ns nk = absurd (⊎_elim ns nk (c.write refl))
-complete words job old NoMemory new is c told w a nl ns nk = inr (inl refl)
+complete words job old NoMemory new is c told w a nl ns nk = inr refl
 complete words job old (ImageRefused code offset) new is c told w a nl ns nk = absurd (image_understood old.held job code offset a.before (c.image code offset refl told))
 complete words job old (TooLong name) new is c told w a nl ns nk = absurd (none_too_long old.held job (string_bytes name) w (c.too_long name refl told))
 complete words job old (AuditFailed rule line) new is c told w a nl ns nk = absurd (c.audit rule line refl)

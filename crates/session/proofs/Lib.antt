@@ -7,4 +7,5 @@ pub mod Completeness
 pub mod Lines
 pub mod Compiled
 pub mod Behind
+pub mod CompiledCall
 pub mod Named

@@ -1,5 +1,5 @@
 -- Lines of changes, and what jobs print that save nothing.
-use Rattle.std.proofs.Common.{◌≡◌, ℕ, ap, inl, refl, subst, List, [], map}
+use Rattle.std.proofs.Common.{◌≡◌, ℕ, ap, refl, subst, List, [], map}
 use Rattle.std.specs.Prelude.{Vec, Ok}
 use Rattle.std.specs.Global.{Global}
 use Rattle.std.specs.List.{flat_map}
@@ -27,7 +27,7 @@ use Rattle.image_build.specs.Tables.{HasShapeOf}
 use Rattle.graph_build_laws.specs.Built.{IsBuilt}
 use Rattle.session_lines.specs.ChangeLinesLines.{lines_of}
 use Rattle.command_line.specs.Words.{Text}
-use Rattle.session.specs.Stages.{ListFails, SweepEnds}
+use Rattle.session.specs.Stages.{SourceFails, SweepEnds}
 use Rattle.session.specs.Summing.{summary_lines}
 use Rattle.session.proofs.Refusals.{source_held}
 use Rattle.session.proofs.Sessions.{held_is, source_accepted}
@@ -40,8 +40,8 @@ pub sweep_within : (held : Held) (given : SweepGiven) → AreWithin held (sweep 
 sweep_within held given = record { first = tt; script = tt; input = tt }
 
 -- why the source of a list of changes was refused
-pub list_refused : (status : Status) (code : Code) (at : ℕ) (source : List ℕ) (held : Held) (given : PassesGiven) → status ≡ SourceRefused code at → ListFails status source → Loads (held given.source) 1048576 source → TextIsRefused held (passes given) code at
-list_refused status code at source held given e ends loads = source_held (Unit {0}) code at (held given.source) source loads (inl (subst (λ s. ListFails s source) e ends))
+pub list_refused : (status : Status) (code : Code) (at : ℕ) (source : List ℕ) (held : Held) (given : PassesGiven) → status ≡ SourceRefused code at → SourceFails status source → Loads (held given.source) 1048576 source → TextIsRefused held (passes given) code at
+list_refused status code at source held given e ends loads = source_held code at (held given.source) source loads (subst (λ s. SourceFails s source) e ends)
 
 -- the sources of these jobs are accepted
 pub list_accepted : (source : List ℕ) (held : Held) (given : PassesGiven) → HasProgram source → Loads (held given.source) 1048576 source → AreAccepted held (passes given)

@@ -28,10 +28,10 @@ use Rattle.command_line.specs.Job.{AttachGiven, CompileGiven, DebugGiven, JobGiv
 use Rattle.command_line.specs.Words.{Text}
 use Rattle.session.specs.Served.{Saving}
 use Rattle.session.specs.Limits.{Held, Holds}
-use Rattle.session.specs.Front.{IsPlain, IsRefusedSource}
+use Rattle.session.specs.Front.{IsRefusedSource}
 use Rattle.session.specs.Causes.{IsEarly, IsScriptText, ScriptIsRefused, AreAccepted}
 use Rattle.session.proofs.Refusals.{source_held}
-use Rattle.session.specs.Stages.{ImageEnds, MakeFails, ScriptEnds, WriteEnds}
+use Rattle.session.specs.Stages.{ImageEnds, ScriptEnds, SourceFails, WriteEnds}
 use Rattle.session.specs.Prepared.{IsMade}
 use Rattle.session.specs.Outcome.{HasLeft, HoldsImage, HoldsPart, IsAttached, IsDebugged, IsImageOfSource}
 
@@ -50,9 +50,8 @@ pub source_accepted : (held : Option (List ℕ)) (got : List ℕ) → Loads held
 source_accepted held got h s = holds HasProgram held got (held_is 1048576 held got h (program_is_short got s)) s
 
 -- why a source was refused
-pub source_refused : (status : Status) (code : Code) (line : ℕ) (source : List ℕ) (names : List Text) (mode : Mode) (held : Option (List ℕ)) → status ≡ SourceRefused code line → MakeFails status source names mode → Loads held 1048576 source
-    → Holds held (λ t. IsRefusedSource (IsPlain names mode) t code line)
-source_refused status code line source names mode held e ends loads = source_held (IsPlain names mode) code line held source loads (subst (λ s. MakeFails s source names mode) e ends)
+pub source_refused : (status : Status) (code : Code) (line : ℕ) (source : List ℕ) (held : Option (List ℕ)) → status ≡ SourceRefused code line → SourceFails status source → Loads held 1048576 source → Holds held (λ t. IsRefusedSource t code line)
+source_refused status code line source held e ends loads = source_held code line held source loads (subst (λ s. SourceFails s source) e ends)
 
 -- the session played the image that the shelf held
 pub attached : (image : View) (commands : Vec Command Global) (bytes script input : List ℕ) (held : Held) (given : AttachGiven) → ImageEnds (Ok image) bytes → ScriptEnds (Ok commands) script

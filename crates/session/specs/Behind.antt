@@ -1,4 +1,4 @@
--- What an image comes of: the source behind the passes that the words name, of those that were handed in.
+-- What an image comes of: the source after the passes that the words name, of those that were handed in.
 use Rattle.std.specs.Prelude.{◌≡◌, ℕ, List, Ok}
 use Rattle.command_line.specs.Words.{Text}
 use Rattle.debug_records.specs.declared.change.PassName.{PassName}
@@ -13,10 +13,11 @@ use Rattle.image_build.specs.Explained.{ExplainsAll}
 use Rattle.image_build.specs.Made.{IsHomed, IsMadeOf}
 
 module _ {P : Type 0} (named : P → PassName) (steps : P → UnitForm → UnitForm → Type 0) (handed_in : List P) where
-  -- AN IMAGE COMES OF A PROGRAM behind passes of these names, with homes of the mode: it is made of a unit with such
-  -- homes, and to that unit the passes lead, each in its turn by one step, on a trail on which what a pass of the program
-  -- logs is earned and what code motion makes is computationally optimal. Whatever its rows say to hide variables is
-  -- explained by its own tables.
+  -- AN IMAGE COMES OF A PROGRAM after passes of these names, with homes of the mode: it is made of a unit with such
+  -- homes, and to that unit the passes lead, each in its turn by one step, on a trail on which each change that copy
+  -- propagation, code motion or the removal of dead assignments logs is earned, which means that what it says was done,
+  -- and what code motion makes is computationally optimal. Where a row hides a variable, the image's own tables explain
+  -- why.
   pub record ComesOfProgram (p : ProgramTree) (names : List Text) (mode : Mode) (form : Form) : Type 0 where
     pub homed : HomedForm
     pub homes : IsHomed mode homed

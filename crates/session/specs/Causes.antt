@@ -1,4 +1,4 @@
--- What a refusal says of the texts, and what comes behind it.
+-- What a refusal says of the texts, and what comes after it.
 use Rattle.std.specs.Prelude.{◌≡◌, ℕ, List, Option, Some, None, Err}
 use Rattle.debug_records.specs.declared.code.Code.{Code}
 use Rattle.image_form.specs.Form.{Form}
@@ -9,13 +9,12 @@ use Rattle.line_form.specs.declared.status.Status.{Status}
 use Rattle.line_form.specs.declared.status.Status.TheVariants.{Done, Usage, SourceRefused, ScriptRefused, ReadFault, WriteFault, NoMemory, ImageRefused, TooLong, AuditFailed}
 use Rattle.script_form.specs.Script.{Order, IsScript}
 use Rattle.script_form.specs.Refusal.{IsRefused}
-use Rattle.debug_records.specs.declared.code.TheConstants.Code.{UNEXPECTED_KEYWORD}
 use Rattle.c_source.specs.Sources.{HasProgram}
 use Rattle.command_line.specs.Job.{JobGiven, attach, compile, debug, passes, sweep}
 use Rattle.work_gen.specs.Generated.{text as generated}
 use Rattle.session.specs.Served.{IfGiven, With, script_of}
 use Rattle.session.specs.Limits.{Held, Holds}
-use Rattle.session.specs.Front.{IsPromised, IsNotCompiled, IsRefusedSource}
+use Rattle.session.specs.Front.{IsRefusedSource}
 
 -- the text is a script
 abbrev pub IsScriptText : List ℕ → Type 0
@@ -35,15 +34,15 @@ compiled_by held (sweep given) = Some (generated given.seed given.size)
 
 -- the text that a job compiles is refused
 abbrev pub TextIsRefused : Held → JobGiven → Code → ℕ → Type 0
-TextIsRefused held job code line = Holds (compiled_by held job) (λ text. IsRefusedSource (IsPromised job) text code line)
+TextIsRefused held job code line = Holds (compiled_by held job) (λ text. IsRefusedSource text code line)
 
--- The source of a job is refused. That of a `sweep` is generated and breaks no rule of C, so it can only be left out; an `attach` has none.
+-- The source of a job is refused. That of a `sweep` is generated and breaks no rule of C; an `attach` has none.
 abbrev pub SourceIsRefused : Held → JobGiven → Code → ℕ → Type 0
 SourceIsRefused held (debug given) code line = TextIsRefused held (debug given) code line
 SourceIsRefused held (compile given) code line = TextIsRefused held (compile given) code line
 SourceIsRefused held (attach given) code line = ⊥
 SourceIsRefused held (passes given) code line = TextIsRefused held (passes given) code line
-SourceIsRefused held (sweep given) code line = IsNotCompiled ⊥ (generated given.seed given.size) code line
+SourceIsRefused held (sweep given) code line = ⊥
 
 -- Bytes are refused that spell no image: this is the first rule that they break, at this byte.
 pub record AreNoImage (code : Code) (offset : ℕ) (bytes : List ℕ) : Type 0 where
@@ -76,11 +75,8 @@ pub record AreAccepted (held : Held) (job : JobGiven) : Type 0 where
   pub before : IsUnderstood held job
   pub script : IfGiven (script_of job) (λ name. Holds (held name) IsScriptText)
 
--- The source of the job is of a program, but left out as one that is not compiled so far; never by a job of which it is proved that it compiles each program.
-abbrev pub IsLeftOut : Held → JobGiven → Status → Type 0
-IsLeftOut held job result = (result ≡ SourceRefused UNEXPECTED_KEYWORD 1) × Holds (compiled_by held job) (λ text. ¬ IsPromised job)
-
--- the session ended before anything was saved or put out
+-- the session ended before anything was saved or put out: at its words, at a load, at a text over its limit, or with a
+-- refusal of the source, the script or the image
 abbrev pub IsEarly : Status → Type 0
 IsEarly Done = ⊥
 IsEarly Usage = Unit {0}
@@ -93,7 +89,7 @@ IsEarly (ImageRefused code offset) = Unit {0}
 IsEarly (TooLong name) = Unit {0}
 IsEarly (AuditFailed rule line) = Unit {0}
 
--- the session loaded all texts
+-- the session loaded all texts: it is done, or it refused the source, the script or the image, or a write failed
 abbrev pub HasLoaded : Status → Type 0
 HasLoaded Done = Unit {0}
 HasLoaded Usage = ⊥
@@ -106,7 +102,7 @@ HasLoaded (ImageRefused code offset) = Unit {0}
 HasLoaded (TooLong name) = ⊥
 HasLoaded (AuditFailed rule line) = Unit {0}
 
--- the session was cut off
+-- the session was cut off: a write failed, or memory was wanting
 abbrev pub IsCut : Status → Type 0
 IsCut Done = ⊥
 IsCut Usage = ⊥

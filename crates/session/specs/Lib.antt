@@ -3,6 +3,7 @@ pub mod Limits
 pub mod Front
 pub mod Causes
 pub mod Summing
+pub mod Building
 pub mod Listed
 pub mod Outcome
 pub mod Stages

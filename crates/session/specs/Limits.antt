@@ -7,11 +7,11 @@ use Rattle.session.specs.Served.{IfGiven, With, script_of, input_of}
 abbrev pub script_limit : ℕ
 script_limit = 1048576
 
--- how many bytes an input has at most, 16 MiB: not to be computed with
+-- how many bytes an input has at most: 16 MiB
 unfoldable pub input_limit : ℕ
 input_limit = 16777216
 
--- how many bytes an image has at most that is attached, 64 MiB: not to be computed with
+-- how many bytes an image has at most that is attached: 64 MiB
 unfoldable pub image_limit : ℕ
 image_limit = 67108864
 
@@ -36,7 +36,8 @@ IsBeyond limit held = Holds held (λ text. limit < length text)
 abbrev pub IsThere : Option (List ℕ) → Type 0
 IsThere held = Holds held (λ text. Unit {0})
 
--- what is loaded first is there: a source, whose length has a rule of its own, or an image within its limit; a `sweep` loads nothing
+-- what is loaded first is there: a source, which is refused where it is too long, or an image within its limit; a
+-- `sweep` loads nothing
 abbrev pub FirstIsLoaded : Held → JobGiven → Type 0
 FirstIsLoaded held (debug given) = IsThere (held given.source)
 FirstIsLoaded held (compile given) = IsThere (held given.source)

@@ -1,4 +1,4 @@
--- What a session leaves behind.
+-- What a session leaves.
 use Rattle.std.specs.Prelude.{◌≡◌, ◌<◌, ℕ, ◌⊎◌, List, [], ◌++◌, Option, Some}
 use Rattle.std.specs.List.{AllByRecursion, flat_map}
 use Rattle.outside.specs.Held.{IsKeptOrCut}
@@ -24,7 +24,8 @@ use Rattle.session.specs.Summing.{summary_lines, sweep_limit}
 use Rattle.session.specs.Limits.{Held}
 use Rattle.session.specs.Truth.{IsTruthfulTo}
 
--- What is printed is the transcript of an image, a script and an input of bytes that stand under their names, with a limit; nothing else enters it.
+-- What is printed is the transcript of an image, a script and an input of bytes that stand under their names, with the
+-- job's limit on instructions: just what the debugger prints of these four, and nothing else enters it.
 pub record IsPlayed (image script input : Option (List ℕ)) (limit : ℕ) (printed : List ℕ) : Type 0 where
   pub form : Form
   pub form_is : IsImage form
@@ -38,7 +39,7 @@ pub record IsPlayed (image script input : Option (List ℕ)) (limit : ℕ) (prin
   pub input_is : input ≡ Some bytes
   pub printed_is : printed ≡ transcript_bytes form orders bytes limit
 
--- what is printed is the transcript of the image that the shelf held
+-- what is printed is the transcript of the image that the shelf held, whoever made it
 abbrev pub IsAttached : Held → AttachGiven → List ℕ → Type 0
 IsAttached held given printed = IsPlayed (held given.image) (held given.script) (held given.input) given.limit printed
 
@@ -62,23 +63,25 @@ module _ {P : Type 0} (named : P → PassName) (steps : P → UnitForm → UnitF
     pub bytes_are : bytes ≡ spelling form
     pub truthful : IsTruthfulTo named steps handed_in source saving.passes saving.mode form
 
-  -- such an image stands under its name
+  -- under the name of the image stands one that is truthful to the source
   pub record HoldsImage (held held' : Held) (saving : Saving) : Type 0 where
     pub bytes : List ℕ
     pub made : IsImageOfSource held saving bytes
     pub saved : held' saving.image ≡ Some bytes
 
-  -- under the name of the image stands what stood there before, or the first part of such an image
+  -- under the name of the image stands what stood there before, or the first part of an image of the source, which may
+  -- be empty or whole
   pub record HoldsPart (held held' : Held) (saving : Saving) : Type 0 where
     pub bytes : List ℕ
     pub made : IsImageOfSource held saving bytes
     pub part : IsKeptOrCut bytes (held saving.image) (held' saving.image)
 
-  -- what a job that is done leaves under the name of its image
+  -- what a job that is done leaves under the name of its image, where it saves one: an image of its source
   abbrev pub HasSaved : (held held' : Held) → JobGiven → Type 0
   HasSaved held held' job = IfGiven (saving_of job) (HoldsImage held held')
 
-  -- what a job that is cut off leaves there: what stood there, or the first part of an image of the source
+  -- what a job that is cut off leaves there: what stood there, or the first part of an image of the source, which may be
+  -- empty or whole
   abbrev pub HasLeft : (held held' : Held) → JobGiven → Type 0
   HasLeft held held' job = IfGiven (saving_of job) (λ (s : Saving). (held' s.image ≡ held s.image) ⊎ HoldsPart held held' s)
 
@@ -90,7 +93,7 @@ module _ {P : Type 0} (named : P → PassName) (steps : P → UnitForm → UnitF
     pub lines_are : AreLinesFor named steps handed_in source given.passes lines
     pub printed_is : printed ≡ flat_map line lines
 
-  -- What the job `sweep` prints: the summary of the run, on no input, of an image that is truthful to the generated source behind the default passes, with homes in registers.
+  -- What the job `sweep` prints: the summary of the run, on no input, of an image that is truthful to the generated source after the default passes, with homes in registers.
   pub record IsSwept (given : SweepGiven) (printed : List ℕ) : Type 0 where
     pub form : Form
     pub image : IsImageFor named steps handed_in (generated given.seed given.size) default_names Registers form
@@ -98,7 +101,7 @@ module _ {P : Type 0} (named : P → PassName) (steps : P → UnitForm → UnitF
     pub summed : IsSummed form [] sweep_limit summary
     pub printed_is : printed ≡ flat_map line (summary_lines given.seed given.size summary)
 
-  -- what a job prints: a `compile` nothing
+  -- what a job prints; a `compile` prints nothing
   abbrev pub Prints : (held held' : Held) → JobGiven → List ℕ → Type 0
   Prints held held' (debug given) printed = IsDebugged held held' given printed
   Prints held held' (compile given) printed = printed ≡ []
@@ -112,12 +115,12 @@ module _ {P : Type 0} (named : P → PassName) (steps : P → UnitForm → UnitF
     pub prints : Prints held held' job printed
     pub whole : taken' ≡ taken ++ printed
 
-  -- the sink took the first part of it
+  -- the sink took the first part of what the job prints, up to any byte
   pub record IsCutOff (held held' : Held) (job : JobGiven) (taken taken' : List ℕ) : Type 0 where
     pub printed : List ℕ
     pub prints : Prints held held' job printed
     pub part : TakesPart printed taken taken'
 
-  -- the sink took nothing, or the first part of what the job prints
+  -- the sink took nothing, or the first part of what the job prints, up to any byte
   abbrev pub TookPart : (held held' : Held) → JobGiven → (taken taken' : List ℕ) → Type 0
   TookPart held held' job taken taken' = (taken' ≡ taken) ⊎ IsCutOff held held' job taken taken'

@@ -12,7 +12,7 @@ use Rattle.session.specs.Truth.{IsTruthfulTo}
 use Rattle.session.specs.declared.preparing.Made.{Made}
 
 module _ {P : Type 0} (named : P → PassName) (steps : P → UnitForm → UnitForm → Type 0) (handed_in : List P) where
-  -- The text is of a program, and this is an image that is truthful to it behind the passes of these names.
+  -- The text is of a program, and this is an image that is truthful to it after the passes of these names.
   pub record IsImageFor (text : List ℕ) (names : List Text) (mode : Mode) (form : Form) : Type 0 where
     pub understood : HasProgram text
     pub image : IsImage form

@@ -1,8 +1,10 @@
 -- The jobs that the program serves: all of the command line, where the passes that they need are handed in.
 use Rattle.std.specs.Prelude.{◌≡◌, ◌≤◌, Option, Some, None, List, [], ◌∷◌, codes, length}
+use Rattle.std.specs.List.{AllByRecursion}
 use Rattle.command_line.specs.Words.{Text}
 use Rattle.command_line.specs.Grammar.{IsJob}
 use Rattle.command_line.specs.Job.{JobGiven, attach, compile, debug, passes, sweep}
+use Rattle.debug_records.specs.Change.{IsPassName}
 use Rattle.debug_records.specs.declared.change.PassName.{PassName}
 use Rattle.debug_records.specs.declared.mode.Mode.{Mode}
 use Rattle.pass_law.specs.HandedIn.{AreHandedIn}
@@ -19,9 +21,10 @@ needed (attach given) = []
 needed (passes given) = given.passes
 needed (sweep given) = default_names
 
--- The passes of these names can be run one after the other: there are at most 32 names, each of a pass that is handed in.
+-- The passes of these names can be run one after the other: there are at most 32 names, each of 1 to 16 lower-case letters and of a pass that is handed in.
 pub record CanRun {P : Type 0} (named : P → PassName) (handed_in : List P) (names : List Text) : Type 0 where
   pub few : length names ≤ 32
+  pub spelled : AllByRecursion IsPassName names
   pub are_handed_in : AreHandedIn named handed_in names
 
 -- The words are a job, and each pass that it needs is handed in.

@@ -23,7 +23,7 @@ use Rattle.graph_core.specs.Graphs.{UnitForm}
 use Rattle.pass_law.specs.HandedIn.{AreHandedIn}
 use Rattle.session.specs.Causes.{AreNoImage}
 use Rattle.c_source.specs.Sources.{HasProgram, program_of_source}
-use Rattle.session.specs.Front.{IsPlain, IsRefusedSource}
+use Rattle.session.specs.Front.{IsRefusedSource}
 use Rattle.session.specs.Listed.{AreLinesFor}
 use Rattle.session.specs.Prepared.{IsImageFor, IsMade}
 use Rattle.session.specs.Served.{AreNotServed, AreServed, default_names, needed}
@@ -74,17 +74,11 @@ FrontEnds (Err (SourceRefused code line)) source = program_of_source source ≡ 
 FrontEnds (Err NoMemory) source = Unit {0}
 FrontEnds (Err _) source = ⊥
 
--- a source of which an image is to be made is refused, or memory was wanting
-abbrev pub MakeFails : Status → (source : List ℕ) → (names : List Text) → Mode → Type 0
-MakeFails (SourceRefused code line) source names mode = IsRefusedSource (IsPlain names mode) source code line
-MakeFails NoMemory source names mode = Unit {0}
-MakeFails _ source names mode = ⊥
-
--- a source whose changes are listed breaks this rule of C first, or memory was wanting
-abbrev pub ListFails : Status → (source : List ℕ) → Type 0
-ListFails (SourceRefused code line) source = program_of_source source ≡ Err (code, line)
-ListFails NoMemory source = Unit {0}
-ListFails _ source = ⊥
+-- a source is refused for the first rule of C that it breaks, or memory was wanting
+abbrev pub SourceFails : Status → (source : List ℕ) → Type 0
+SourceFails (SourceRefused code line) source = IsRefusedSource source code line
+SourceFails NoMemory source = Unit {0}
+SourceFails _ source = ⊥
 
 -- the script asks for the commands, or is refused for its first line that breaks a rule, or memory was wanting
 abbrev pub ScriptEnds : Result (Vec Command Global) Status → (script : List ℕ) → Type 0
@@ -104,16 +98,21 @@ module _ {P : Type 0} (named : P → PassName) (steps : P → UnitForm → UnitF
   -- the source is of a program and its image is made, or that fails
   abbrev pub MakeEnds : Result Made Status → (source : List ℕ) → (names : List Text) → Mode → Type 0
   MakeEnds (Ok made) source names mode = IsMade named steps handed_in source names mode made
-  MakeEnds (Err status) source names mode = MakeFails status source names mode
+  MakeEnds (Err status) source names mode = SourceFails status source
+
+  -- The summary is that of the run, on no input, of an image that is truthful to the generated source after the default
+  -- passes, with homes in registers.
+  abbrev pub IsSummaryOf : (seed size : ℕ) → Summary → Type 0
+  IsSummaryOf seed size summary = (m : Form) × IsImageFor named steps handed_in (generated seed size) default_names Registers m × IsSummed m [] sweep_limit summary
 
   -- the summary of the run of an image of the generated source, or that source is refused, or memory was wanting
   abbrev pub SweepEnds : Result Summary Status → SweepGiven → Type 0
-  SweepEnds (Ok summary) given = (m : Form) × IsImageFor named steps handed_in (generated given.seed given.size) default_names Registers m × IsSummed m [] sweep_limit summary
-  SweepEnds (Err (SourceRefused code line)) given = IsRefusedSource ⊥ (generated given.seed given.size) code line
+  SweepEnds (Ok summary) given = IsSummaryOf given.seed given.size summary
+  SweepEnds (Err (SourceRefused code line)) given = IsRefusedSource (generated given.seed given.size) code line
   SweepEnds (Err NoMemory) given = Unit {0}
   SweepEnds (Err _) given = ⊥
 
   -- the lines of the changes that passes of these names make in the source, or the list fails
   abbrev pub ListEnds : Result (Vec (Vec ℕ Global) Global) Status → (source : List ℕ) → (names : List Text) → Type 0
   ListEnds (Ok lines) source names = AreLinesFor named steps handed_in source names (map (λ (l : Vec ℕ Global). l.items) lines.items)
-  ListEnds (Err status) source names = ListFails status source
+  ListEnds (Err status) source names = SourceFails status source

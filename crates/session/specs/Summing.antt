@@ -6,7 +6,7 @@ use Rattle.session_lines.specs.declared.summary.Summary.{Summary}
 use Rattle.stop_engine.specs.declared.halt.Halt.{Halt}
 use Rattle.stop_engine.specs.declared.halt.Halt.TheVariants as halt
 
--- how many instructions a run of a `sweep` has at most: not to be computed with
+-- how many instructions a run of a `sweep` executes at most: 10,000,000
 unfoldable pub sweep_limit : ℕ
 sweep_limit = 10000000
 

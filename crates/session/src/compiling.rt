@@ -30,7 +30,7 @@ fn make(
 }
 
 /// Loads a source, compiles it and saves the image. Nothing is put out, whatever a sink took before.
-pub fn compile<S: Shelf>(
+pub fn save_compiled<S: Shelf>(
     alloc: Global,
     job: &Compile,
     passes: &[Box<dyn Pass>],

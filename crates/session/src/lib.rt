@@ -3,6 +3,7 @@
 
 mod asking;
 mod attaching;
+mod building;
 mod compiling;
 mod debugging;
 mod listing;
@@ -12,4 +13,6 @@ mod preparing;
 mod sweeping;
 mod top;
 
+pub use building::{Build, BuildErr, compile};
+pub use sweeping::sweep;
 pub use top::session;

@@ -1,6 +1,6 @@
 //! From the texts to what is played.
 
-ghost use Rattle.std.specs.Prelude.{◌≡◌, [], IfNone, IfOk, IfSome, Ok, map};
+ghost use Rattle.std.specs.Prelude.{◌≡◌, [], IfOk, Ok, map};
 ghost use Rattle.debug_records.specs.declared.mode.Mode.TheVariants.{Slots};
 ghost use Rattle.c_flow.specs.Tables.{Fits32};
 ghost use Rattle.c_type_laws.specs.Laws.{IsWellFormed};
@@ -16,13 +16,12 @@ ghost use Rattle.image_build.specs.Truthful.{RunsTrue};
 ghost use Rattle.image_build.specs.ProgramImageShown.{ShowsAll};
 ghost use Rattle.image_build.specs.Tables.{HasTablesOf};
 ghost use Rattle.session.specs.Behind.{ComesOfProgram};
-ghost use Rattle.session.specs.Front.{IsPlain};
 ghost use Rattle.session.specs.Listed.{AreLinesOf};
 ghost use Rattle.session.specs.Served.{CanRun};
 ghost use Rattle.session.specs.Stages.{FrontEnds, ImageEnds, ListEnds, MakeEnds, ScriptEnds};
 
 use c_tree::Program;
-use debug_records::{Code, Mode, PassName, SourceErr};
+use debug_records::{Mode, PassName, SourceErr};
 use image_build::{image_of_program, unit_of};
 use image_form::{Image, ImageErr, View};
 use line_form::Status;
@@ -38,37 +37,33 @@ pub struct Made {
     pub bytes: Vec<u8>,
 }
 
-/// The image of a program, and its bytes; none where it is not compiled so far, which is never so where no pass is run and variables are kept in slots.
+/// The image of a program, and its bytes.
 fn image_for(
     alloc: Global,
     program: Program,
     passes: &[Box<dyn Pass>],
     names: &[PassName],
     mode: Mode,
-) -> Result<Option<Made>, AllocError>
+) -> Result<Made, AllocError>
     requires laws { IsWellFormed (program_view program) }
     requires fits { Fits32 (program_view program) }
     requires names { HasNames (program_view program) }
     requires spots { HasSpots (program_view program) }
     requires run { CanRun (λ p. named p) passes.now (map letters names.now) }
-    ensures image { IfOk result (λ o. IfSome o (λ made. IsImage (form made.image))) }
-    ensures bytes { IfOk result (λ o. IfSome o (λ made. made.bytes.items ≡ spelling (form made.image))) }
-    ensures runs { IfOk result (λ o. IfSome o (λ made. RunsTrue (program_view program) (form made.image))) }
-    ensures shows { map letters names.now ≡ [] → mode ≡ Slots
-        → IfOk result (λ o. IfSome o (λ made. ShowsAll (form made.image))) }
-    ensures tables { IfOk result (λ o. IfSome o (λ made. HasTablesOf (program_view program) (form made.image))) }
-    ensures comes { IfOk result (λ o. IfSome o (λ made.
+    ensures image { IfOk result (λ made. IsImage (form made.image)) }
+    ensures bytes { IfOk result (λ made. made.bytes.items ≡ spelling (form made.image)) }
+    ensures runs { IfOk result (λ made. RunsTrue (program_view program) (form made.image)) }
+    ensures shows { map letters names.now ≡ [] → mode ≡ Slots → IfOk result (λ made. ShowsAll (form made.image)) }
+    ensures tables { IfOk result (λ made. HasTablesOf (program_view program) (form made.image)) }
+    ensures comes { IfOk result (λ made.
         ComesOfProgram (λ p. named p) (λ p. (steps p).leads) passes.now (program_view program)
-        (map letters names.now) mode (form made.image))) }
-    ensures left_out { IfOk result (λ o. IfNone o (¬ IsPlain (map letters names.now) mode)) }
+        (map letters names.now) mode (form made.image)) }
 {
-    match image_of_program(alloc, program, passes, names, mode)? {
-        Some(build) => Ok(Some(Made {
-            image: build.image,
-            bytes: build.bytes,
-        })),
-        None => Ok(None),
-    }
+    let build = image_of_program(alloc, program, passes, names, mode)?;
+    Ok(Made {
+        image: build.image,
+        bytes: build.bytes,
+    })
 }
 
 /// The program of a source, which else is refused for the first rule of C that it breaks.
@@ -87,7 +82,7 @@ fn understood(alloc: Global, source: &[u8]) -> Result<Program, Status>
     }
 }
 
-/// The image of a source behind the passes of these names, and its bytes. Refused for the first rule of C that the source breaks; and by E11 and line 1 where
+/// The image of a source after the passes of these names, and its bytes. Refused for the first rule of C that the source breaks; and by E11 and line 1 where
 /// it breaks none and is not compiled so far.
 pub fn make(
     alloc: Global,
@@ -102,8 +97,7 @@ pub fn make(
 {
     let program = understood(alloc, source)?;
     match image_for(alloc, program, passes, names, mode) {
-        Ok(Some(made)) => Ok(made),
-        Ok(None) => Err(Status::SourceRefused(Code::UNEXPECTED_KEYWORD, 1)),
+        Ok(made) => Ok(made),
         Err(_) => Err(Status::NoMemory),
     }
 }

@@ -1,10 +1,10 @@
 //! The generated program, compiled and run to its end.
 
-ghost use Rattle.std.specs.Prelude.{◌≡◌, ℕ, Bool, List, Option, IfOk, map};
+ghost use Rattle.std.specs.Prelude.{◌≡◌, ◌≤◌, ℕ, Bool, List, Option, IfOk, map};
 ghost use Rattle.command_line.specs.Job as given;
 ghost use Rattle.session.specs.Ending.{Ends};
 ghost use Rattle.session.specs.Served.{CanRun, default_names};
-ghost use Rattle.session.specs.Stages.{SweepEnds};
+ghost use Rattle.session.specs.Stages.{IsSummaryOf, SweepEnds};
 ghost use Rattle.session.specs.Summing.{ending_line, summary_lines, sweep_limit};
 
 use crate::asking::default_names;
@@ -76,8 +76,34 @@ fn swept(alloc: Global, job: &Sweep, passes: &[Box<dyn Pass>]) -> Result<Summary
     }
 }
 
+/// Generates the program of a seed and a size, compiles it with the default passes and with homes in registers, steps its
+/// run on no input to its end, and counts what is seen. The passes are those that are handed in, `copy`, `motion` and
+/// `dead` among them. The only error is want of memory: what is generated breaks no rule of C.
+pub fn sweep(
+    alloc: Global,
+    seed: u32,
+    size: u32,
+    passes: &[Box<dyn Pass>],
+) -> Result<Summary, AllocError>
+    requires size { size ≤ 400 }
+    requires run { CanRun (λ p. named p) passes.now default_names }
+    ensures { IfOk result (λ summary.
+        IsSummaryOf (λ p. named p) (λ p. (steps p).leads) passes.now seed size summary) }
+{
+    match swept(alloc, &Sweep { seed, size }, passes) {
+        Ok(summary) => Ok(summary),
+        Err(Status::SourceRefused(_, _)) => unreachable!(),
+        Err(_) => Err(AllocError),
+    }
+}
+
 /// Generates a program, compiles it, steps its run to the end, and puts out the summary. Nothing is loaded or saved, whatever a shelf holds.
-pub fn sweep<K: Sink>(alloc: Global, job: &Sweep, passes: &[Box<dyn Pass>], sink: &mut K) -> Status
+pub fn put_summary<K: Sink>(
+    alloc: Global,
+    job: &Sweep,
+    passes: &[Box<dyn Pass>],
+    sink: &mut K,
+) -> Status
     requires { CanRun (λ p. named p) passes.now default_names }
     ensures { (loads saves : ℕ) (shelf_tells : Bool) (held : List ℕ → Option (List ℕ)) →
         Ends (λ p. named p) (λ p. (steps p).leads) passes.now (given.sweep (given.sweep_given job.now))

@@ -8,16 +8,16 @@ ghost use Rattle.debug_records.specs.declared.code.Code.{Code};
 ghost use Rattle.command_line.specs.Job.{JobGiven, job_given};
 ghost use Rattle.session.specs.Served.{AreNotServed, AreServed, CanRun, SavesTo, needed};
 ghost use Rattle.session.specs.Limits.{AreWithin, IsTooLong};
-ghost use Rattle.session.specs.Causes.{SourceIsRefused, ImageIsRefused, ScriptIsRefused, AreAccepted, HasLoaded, IsEarly, IsCut, IsLeftOut};
+ghost use Rattle.session.specs.Causes.{SourceIsRefused, ImageIsRefused, ScriptIsRefused, AreAccepted, HasLoaded, IsEarly, IsCut};
 ghost use Rattle.session.specs.Ending.{Ends};
 ghost use Rattle.session.specs.Outcome.{HasLeft, HasSaved, IsDone, TookPart};
 
 use crate::asking::asked;
 use crate::attaching::attach;
-use crate::compiling::compile;
+use crate::compiling::save_compiled;
 use crate::debugging::debug;
 use crate::listing::list_changes;
-use crate::sweeping::sweep;
+use crate::sweeping::put_summary;
 use command_line::Job;
 use line_form::Status;
 use outside::{Shelf, Sink};
@@ -56,10 +56,10 @@ fn serve<S: Shelf, K: Sink>(
 {
     match job {
         Job::Debug(job) => debug(alloc, job, passes, shelf, sink),
-        Job::Compile(job) => compile(alloc, job, passes, shelf),
+        Job::Compile(job) => save_compiled(alloc, job, passes, shelf),
         Job::Attach(job) => attach(alloc, job, shelf, sink),
         Job::Passes(job) => list_changes(alloc, job, passes, shelf, sink),
-        Job::Sweep(job) => sweep(alloc, job, passes, sink),
+        Job::Sweep(job) => put_summary(alloc, job, passes, sink),
     }
 }
 
@@ -84,7 +84,9 @@ pub fn session<S: Shelf, K: Sink>(
     shelf: &mut S,
     sink: &mut K,
 ) -> Status
-    // Each fault comes exactly where its cause holds, in the order of the stages.
+    // Each fault has its cause, by the order of the stages: the words, the loads with their limits, the image, the source,
+    // the script, the save, the lines. And where no cause is there, by the last clause, no fault comes: the job is done, or
+    // memory was wanting.
     ensures usage { result ≡ Usage → AreNotServed (λ p. named p) passes.now (map string_bytes words.now) }
     ensures usage_only { AreNotServed (λ p. named p) passes.now (map string_bytes words.now)
         → (result ≡ Usage) ⊎ (result ≡ NoMemory) }
@@ -117,7 +119,7 @@ pub fn session<S: Shelf, K: Sink>(
         → ¬ RoseOrStands (S.load_count shelf.old) (S.load_count shelf.new)
         → ¬ RoseOrStands (S.save_count shelf.old) (S.save_count shelf.new)
         → ¬ RoseOrStands (K.fault_count sink.old) (K.fault_count sink.new)
-        → (result ≡ Done) ⊎ ((result ≡ NoMemory) ⊎ IsLeftOut (S.held shelf.old) asked result) }
+        → (result ≡ Done) ⊎ (result ≡ NoMemory) }
 
     // What stays: before anything was saved or put out nothing changes, and only the image's name of a `debug` or a
     // `compile` ever does.
@@ -130,11 +132,9 @@ pub fn session<S: Shelf, K: Sink>(
     ensures silent { AreNotServed (λ p. named p) passes.now (map string_bytes words.now) → K.tells sink.old ≡ true
         → K.taken sink.new ≡ K.taken sink.old }
 
-    // Under the name of the image a `debug` or a `compile` that is done, or that failed at a line and not at the save,
-    // leaves an image that is truthful to the source and comes of it behind just the passes that the words name, each
-    // in its turn by one step; and one that is cut off the first part of such an image, or what stood there. Of these
-    // steps each change that a pass of the program logs is earned, and what code motion makes is computationally
-    // optimal.
+    // A `debug` or a `compile` that is done, or that failed at a line and not at the save, leaves under the name of the
+    // image one that is truthful to the source: it comes of the source after just the passes that the words name, each in
+    // its turn by one step. One that is cut off leaves what stood there, or the first part of such an image.
     ensures saved { (asked : JobGiven) → AreServed (λ p. named p) passes.now (map string_bytes words.now) asked
         → result ≡ Done → S.tells shelf.old ≡ true
         → HasSaved (λ p. named p) (λ p. (steps p).leads) passes.now (S.held shelf.old) (S.held shelf.new) asked }
@@ -146,10 +146,9 @@ pub fn session<S: Shelf, K: Sink>(
         → IsCut result → S.tells shelf.old ≡ true
         → HasLeft (λ p. named p) (λ p. (steps p).leads) passes.now (S.held shelf.old) (S.held shelf.new) asked }
 
-    // A session that is cut off has put out the first part of what its job prints; one that is done all of it: the
-    // transcript of the image, which is the one that a `debug` saved; the lines of all changes that the passes of a
-    // `passes` make, each in its turn by one step; the summary of an image of the generated source behind the default
-    // passes.
+    // A session that is done has put out all that its job prints: the transcript of the image, which is the one that a
+    // `debug` saved; the lines of all changes that the passes of a `passes` make, each in its turn by one step; the summary
+    // of an image of the generated source after the default passes. One that is cut off has put out the first part of that.
     ensures part { (asked : JobGiven) → AreServed (λ p. named p) passes.now (map string_bytes words.now) asked
         → IsCut result → S.tells shelf.old ≡ true → K.tells sink.old ≡ true
         → TookPart (λ p. named p) (λ p. (steps p).leads) passes.now (S.held shelf.old) (S.held shelf.new) asked

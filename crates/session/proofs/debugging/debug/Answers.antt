@@ -37,7 +37,7 @@ returns-in-Err-make g c = record {
     within = search rules;
     image = search rules;
     source = λ code at e told.
-        source_refused c.in-Err-make.status code at c.deref.result.now (debug_given c.args.job.now).passes (debug_given c.args.job.now).mode (g.S.Shelf.held c.args.shelf.now (debug_given c.args.job.now).source) e c.in-Err-make.ensures
+        source_refused c.in-Err-make.status code at c.deref.result.now (g.S.Shelf.held c.args.shelf.now (debug_given c.args.job.now).source) e c.in-Err-make.ensures
         (subst (Loads (g.S.Shelf.held c.args.shelf.now (debug_given c.args.job.now).source) 1048576) (sym c.deref.ensures.value) (c.in-Ok.ensures.source told));
     script = search rules;
     accepted = search rules;

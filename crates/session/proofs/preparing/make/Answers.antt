@@ -1,4 +1,4 @@
-use Rattle.std.proofs.Common.{map, ap, ◌∙◌, Ok}
+use Rattle.std.proofs.Common.{map}
 use Rattle.c_tree.specs.Programs.{program_view}
 use Rattle.debug_records.specs.Change.{letters}
 use Rattle.session.proofs.Compiled.{made_of}
@@ -19,7 +19,7 @@ image_for-requires-clause-spots g c = c.in_ok-program.ensures.spots
 pub image_for-requires-clause-run : goal.image_for-requires-clause-run
 image_for-requires-clause-run g c = c.requires
 
-pub returns-in-Ok-Some : goal.returns-in-Ok-Some
-returns-in-Ok-Some g c =
-    let is = c.image_for.ensures in
-    made_of c.args.source.now (map letters c.args.names.now) c.args.mode (program_view c.in_ok-program.program) c.image_for.result c.in-Ok-Some.made (c.in-Ok-Some.is ∙ ap Ok c.in-Ok-Some.field-0-is) c.in_ok-program.ensures.ends c.in_ok-program.ensures.program is.image is.bytes is.runs is.shows is.tables is.comes
+pub returns-in-Ok : goal.returns-in-Ok
+returns-in-Ok g c =
+    let is = c.in-Ok.ensures in
+    made_of c.args.source.now (map letters c.args.names.now) c.args.mode (program_view c.in_ok-program.program) c.in-Ok.made c.in_ok-program.ensures.ends c.in_ok-program.ensures.program is.image is.bytes is.runs is.shows is.tables is.comes

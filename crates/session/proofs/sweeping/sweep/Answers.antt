@@ -1,65 +1,15 @@
-use Rattle.std.proofs.Common.{inr, ap, ◌∙◌, map, rules}
-use Rattle.std.specs.List.{flat_map}
-use Rattle.line_form.specs.Lines.{line}
-use Rattle.command_line.specs.Job.{sweep_given}
-use Rattle.session.proofs.Lines.{sweep_accepted, sweep_within, swept_so}
+use Rattle.std.proofs.Common.{Err, ap, subst, ◌∙◌}
+use Rattle.c_source.proofs.Sources.{unbroken}
+use Rattle.work_gen.specs.Generated.{text as generated}
+use Rattle.work_gen_laws.proofs.Whole.{generated_has_program}
+use Rattle.session.specs.Stages.{SweepEnds}
 use Rattle.session.proofs.sweeping.sweep.Goals as goal
 
-pub returns-in-Ok-put_lines : goal.returns-in-Ok-put_lines
-returns-in-Ok-put_lines g c = λ loads saves tells held. record {
-  caused = record {
-    usage = search rules;
-    audit = search rules;
-    read = search rules;
-    read_only = search rules;
-    too_long = search rules;
-    within = λ l told. sweep_within held (sweep_given c.args.job.now);
-    image = search rules;
-    source = search rules;
-    script = search rules;
-    accepted = λ e told. sweep_accepted held (sweep_given c.args.job.now) c.in-Ok.summary c.in-Ok.ensures;
-    write = search rules;
-    write_only = search rules;
-  };
-  stays = search rules;
-  image = search rules;
-  transcript = record {
-    part = search rules;
-    done = λ e told told_sink. record {
-      printed = flat_map line (map (λ l. l.items) c.deref.result.now);
-      prints = swept_so (sweep_given c.args.job.now) c.in-Ok.summary c.deref.result.now c.in-Ok.ensures (ap (map (λ l. l.items)) c.deref.ensures.value ∙ c.in-Ok-summary_lines.ensures);
-      whole = c.in-Ok-put_lines.ensures.whole told_sink;
-    };
-  };
-}
-
-pub returns : goal.returns
-returns g c = λ loads saves tells held. record {
-  caused = record {
-    usage = search rules;
-    audit = search rules;
-    read = search rules;
-    read_only = search rules;
-    too_long = search rules;
-    within = λ l told. sweep_within held (sweep_given c.args.job.now);
-    image = search rules;
-    source = search rules;
-    script = search rules;
-    accepted = λ e told. sweep_accepted held (sweep_given c.args.job.now) c.in-Ok.summary c.in-Ok.ensures;
-    write = search rules;
-    write_only = search rules;
-  };
-  stays = search rules;
-  image = search rules;
-  transcript = record {
-    part = λ cut told told_sink. inr (record {
-      printed = flat_map line (map (λ l. l.items) c.deref.result.now);
-      prints = swept_so (sweep_given c.args.job.now) c.in-Ok.summary c.deref.result.now c.in-Ok.ensures (ap (map (λ l. l.items)) c.deref.ensures.value ∙ c.in-Ok-summary_lines.ensures);
-      part = c.in-Err-put_lines.ensures.part told_sink;
-    });
-    done = search rules;
-  };
-}
-
 pub swept-requires : goal.swept-requires
-swept-requires g c = c.requires
+swept-requires g c = c.requires.run
+
+pub unreachable-requires : goal.unreachable-requires
+unreachable-requires g c =
+    let refused = c.in-Err-SourceRefused.is ∙ ap Err c.in-Err-SourceRefused.field-0-is in
+    unbroken (generated c.args.seed c.args.size) _ _ (generated_has_program c.args.seed c.args.size c.requires.size)
+    (subst (λ r. SweepEnds (λ p. (goal.Pass-dyn g (p.vtable, p.value)).named p.value) (λ p. ((goal.Pass-dyn g (p.vtable, p.value)).steps p.value).leads) c.args.passes.now r (record { seed = c.args.seed; size = c.args.size })) refused c.swept.ensures)

@@ -1,9 +1,8 @@
-use Rattle.std.proofs.Common.{◌≡◌, ◌⊎◌, refl, sym, subst, map, string_bytes}
-use Rattle.line_form.specs.declared.status.Status.TheVariants.{Done, NoMemory}
+use Rattle.std.proofs.Common.{refl, sym, subst, map, string_bytes}
 use Rattle.command_line.specs.Job.{JobGiven, job_given}
 use Rattle.session.specs.Served.{SavesTo}
 use Rattle.session.specs.Limits.{AreWithin, IsTooLong}
-use Rattle.session.specs.Causes.{ImageIsRefused, TextIsRefused, ScriptIsRefused, AreAccepted, IsLeftOut}
+use Rattle.session.specs.Causes.{ImageIsRefused, TextIsRefused, ScriptIsRefused, AreAccepted}
 use Rattle.session.specs.Outcome.{HasLeft, HasSaved, IsDone, TookPart}
 use Rattle.session.proofs.AskedLemmas.{one_asked, refused_is_complete}
 use Rattle.session.proofs.Completeness.{complete, source_refused}
@@ -73,15 +72,14 @@ returns-in-Ok-clause-done g c = λ asked served e told told_sink.
 pub returns-in-Ok-clause-complete : goal.returns-in-Ok-clause-complete
 returns-in-Ok-clause-complete g c = λ asked served told within accepted no_load no_save no_line.
     let same = one_asked (λ p. (goal.Pass-dyn g (p.vtable, p.value)).named p.value) c.args.passes.now (map string_bytes c.args.words.now) (job_given c.in-Ok.job) asked c.in-Ok.ensures served in
-    subst (λ (a : JobGiven). (c.serve.result ≡ Done) ⊎ ((c.serve.result ≡ NoMemory) ⊎ IsLeftOut (g.S.Shelf.held c.args.shelf.now) a c.serve.result)) same
-    (complete (map string_bytes c.args.words.now) (job_given c.in-Ok.job) _ c.serve.result _
+    complete (map string_bytes c.args.words.now) (job_given c.in-Ok.job) _ c.serve.result _
     c.in-Ok.ensures.words_are c.serve.ensures.caused told
     (subst (λ (a : JobGiven). AreWithin (g.S.Shelf.held c.args.shelf.now) a) (sym same) within)
     (subst (λ (a : JobGiven). AreAccepted (g.S.Shelf.held c.args.shelf.now) a) (sym same) accepted)
-    no_load no_save no_line)
+    no_load no_save no_line
 
 pub returns-in-Err-clause-complete : goal.returns-in-Err-clause-complete
-returns-in-Err-clause-complete g c = λ asked served told within accepted no_load no_save no_line. refused_is_complete (λ p. (goal.Pass-dyn g (p.vtable, p.value)).named p.value) c.args.passes.now (map string_bytes c.args.words.now) _ c.in-Err.status asked c.in-Err.ensures served
+returns-in-Err-clause-complete g c = λ asked served told within accepted no_load no_save no_line. refused_is_complete (λ p. (goal.Pass-dyn g (p.vtable, p.value)).named p.value) c.args.passes.now (map string_bytes c.args.words.now) c.in-Err.status asked c.in-Err.ensures served
 
 pub returns-in-Ok-clause-usage_only : goal.returns-in-Ok-clause-usage_only
 returns-in-Ok-clause-usage_only g c = λ none. absurd (none (job_given c.in-Ok.job) c.in-Ok.ensures)

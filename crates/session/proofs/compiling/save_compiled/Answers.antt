@@ -3,7 +3,7 @@ use Rattle.outside.specs.Held.{Loads}
 use Rattle.command_line.specs.Job.{CompileGiven, compile, compile_given}
 use Rattle.session.specs.Served.{Saving}
 use Rattle.session.proofs.Sessions.{source_refused, source_alone_accepted, image_made, nothing_left, part_left, whole_saved}
-use Rattle.session.proofs.compiling.compile.Goals as goal
+use Rattle.session.proofs.compiling.save_compiled.Goals as goal
 
 abbrev saving : CompileGiven → Saving
 saving given = record { source = given.source; passes = given.passes; mode = given.mode; image = given.image }
@@ -21,7 +21,7 @@ returns-in-Err-make g c = λ puts tells taken. record {
     source = λ code at e told.
         let name : c.as_str.result.now ≡ (compile_given c.args.job.now).source = search rules in
         let loads = subst (λ n. Loads (g.S.Shelf.held c.args.shelf.now n) 1048576 c.deref.result.now) name (subst (Loads (g.S.Shelf.held c.args.shelf.now c.as_str.result.now) 1048576) (sym c.deref.ensures.value) (c.in-Ok.ensures.value told)) in
-        source_refused c.in-Err-make.status code at c.deref.result.now (compile_given c.args.job.now).passes (compile_given c.args.job.now).mode (g.S.Shelf.held c.args.shelf.now (compile_given c.args.job.now).source) e c.in-Err-make.ensures loads;
+        source_refused c.in-Err-make.status code at c.deref.result.now (g.S.Shelf.held c.args.shelf.now (compile_given c.args.job.now).source) e c.in-Err-make.ensures loads;
     script = search rules;
     accepted = search rules;
     write = search rules;
