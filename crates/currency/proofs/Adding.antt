@@ -1,5 +1,5 @@
 -- One thing more is told.
-use Rattle.std.proofs.Common.{◌≡◌, ◌≢◌, inl, inr, ℕ, zero, suc, ◌<◌, Option, Some, None, List, [], ◌∷◌, ◌++◌, length, refl, sym, ap, subst, ◌∙◌}
+use Rattle.std.proofs.Common.{◌≡◌, ◌≢◌, inl, inr, ℕ, ◌<◌, Option, Some, None, List, [], ◌∷◌, ◌++◌, length, refl, sym, ap, subst, ◌∙◌}
 use Rattle.std.specs.Prelude.{slice_get, slice_set, ◌⊎◌}
 use Rattle.std.specs.Option.{option_map_or}
 use Rattle.std.specs.Global.{Vec}
@@ -7,7 +7,10 @@ use Rattle.std.proofs.lemmas.Bool.Decides.{eqb_tells}
 use Rattle.debug_records.specs.declared.change.Var as declared-var
 use Rattle.graph_core.specs.Paths.{Among, front}
 use Rattle.currency_notes.proofs.Lists.{among_left, among_one, among_parts, among_right, get_put_other, get_put_same}
+use Rattle.debug_records.specs.declared.change.Place.{Place}
+use Rattle.graph_core.specs.declared.recipe.Recipe as declared-recipe
 use Rattle.currency_hiding.specs.declared.causes.Cause as declared-cause
+use Rattle.currency_hiding.specs.declared.hiding.Hiding as declared-hiding
 use Rattle.currency_writers.specs.declared.writers.Writer as declared-writer
 use Rattle.currency.specs.declared.telling.Told as declared-told
 use Rattle.currency.specs.declared.telling.Told.TheVariants as told
@@ -15,17 +18,17 @@ use Rattle.currency.specs.declared.telling.ToldVariable as declared-variable
 use Rattle.currency.specs.declared.told.ToldPlaces as declared-places
 use Rattle.currency.specs.declared.verdict.Verdict as declared-verdict
 use Rattle.currency.specs.declared.verdict.Verdict.TheVariants as verdict
-use Rattle.currency.specs.Telling.{told_at, IsCauseOf, IsToldOne, IsVerdictOf}
+use Rattle.currency.specs.Telling.{told_at, IsCauseOf, IsHidingOf, IsToldOne, IsVerdictOf}
 use Rattle.currency_hiding.specs.declared.causes.Cause.TheVariants as cause
 
-pub cause_removed : (z : declared-cause.Cause) (n start : ℕ) → z ≡ cause.Removed n start → IsCauseOf z (verdict.Noncurrent n (record { 0 = start }) None)
-cause_removed z n start e = subst (λ (y : declared-cause.Cause). IsCauseOf y (verdict.Noncurrent n (record { 0 = start }) None)) (sym e) refl
+pub cause_removed : (h : declared-hiding.Hiding) (n start : ℕ) → h.cause ≡ cause.Removed n start → IsHidingOf h (verdict.Noncurrent n (record { 0 = start }) None h.quiet)
+cause_removed h n start e = subst (λ (y : declared-cause.Cause). IsCauseOf y h.quiet (verdict.Noncurrent n (record { 0 = start }) None h.quiet)) (sym e) refl
 
-pub cause_moved : (z : declared-cause.Cause) (n start : ℕ) (w : declared-writer.Writer) → z ≡ cause.Moved n start w → IsCauseOf z (verdict.Noncurrent n (record { 0 = start }) (Some w))
-cause_moved z n start w e = subst (λ (y : declared-cause.Cause). IsCauseOf y (verdict.Noncurrent n (record { 0 = start }) (Some w))) (sym e) refl
+pub cause_moved : (h : declared-hiding.Hiding) (n start : ℕ) (w : declared-writer.Writer) → h.cause ≡ cause.Moved n start w → IsHidingOf h (verdict.Noncurrent n (record { 0 = start }) (Some w) h.quiet)
+cause_moved h n start w e = subst (λ (y : declared-cause.Cause). IsCauseOf y h.quiet (verdict.Noncurrent n (record { 0 = start }) (Some w) h.quiet)) (sym e) refl
 
-pub cause_reused : (z : declared-cause.Cause) (n start : ℕ) (w : declared-writer.Writer) → z ≡ cause.Reused n start w → IsCauseOf z (verdict.Nonresident n (record { 0 = start }) w)
-cause_reused z n start w e = subst (λ (y : declared-cause.Cause). IsCauseOf y (verdict.Nonresident n (record { 0 = start }) w)) (sym e) refl
+pub cause_reused : (h : declared-hiding.Hiding) (n start : ℕ) (w : declared-writer.Writer) → h.cause ≡ cause.Reused n start w → IsHidingOf h (verdict.Nonresident n (record { 0 = start }) w h.quiet)
+cause_reused h n start w e = subst (λ (y : declared-cause.Cause). IsCauseOf y h.quiet (verdict.Nonresident n (record { 0 = start }) w h.quiet)) (sym e) refl
 
 module _ (old new : declared-places.ToldPlaces) (place : ℕ) (var : declared-var.Var) (what : declared-told.Told) (v w : Vec declared-variable.ToldVariable) (lt : place < length old.by_place.items) (is : slice_get old.by_place.items place ≡ Some v)
     (put : new.by_place.items ≡ slice_set old.by_place.items place w) (more : w.items ≡ v.items ++ (record { var = var; told = what } ∷ [])) where
@@ -67,19 +70,19 @@ module _ (old new : declared-places.ToldPlaces) (place : ℕ) (var : declared-va
     told = (one, subst (λ l. Among one l) (sym told_there) (among_right v.items (one ∷ []) front), refl);
   }
 
-not_home : (c : declared-cause.Cause) → IsCauseOf c verdict.Home → ⊥
-not_home (cause.Removed n start) e = cc
-not_home (cause.Moved n start w) e = cc
-not_home (cause.Reused n start w) e = cc
+not_home : (c : declared-cause.Cause) (q : Option Place) → IsCauseOf c q verdict.Home → ⊥
+not_home (cause.Removed n start) q e = cc
+not_home (cause.Moved n start w) q e = cc
+not_home (cause.Reused n start w) q e = cc
 
-not_recovered : (c : declared-cause.Cause) (v : declared-verdict.Verdict) → IsCauseOf c v → IsVerdictOf (told.Hidden c) v
-not_recovered c verdict.Home e = not_home c e
-not_recovered (cause.Removed n start) (verdict.Recovered r d) e = absurd (cc)
-not_recovered (cause.Moved n start w) (verdict.Recovered r d) e = absurd (cc)
-not_recovered (cause.Reused n start w) (verdict.Recovered r d) e = absurd (cc)
-not_recovered c (verdict.Noncurrent d p w) e = e
-not_recovered c (verdict.Nonresident d p w) e = e
+not_recovered : (c : declared-cause.Cause) (q : Option Place) (r : declared-recipe.Recipe) (d : ℕ) → IsCauseOf c q (verdict.Recovered r d) → ⊥
+not_recovered (cause.Removed n start) q r d e = cc
+not_recovered (cause.Moved n start w) q r d e = cc
+not_recovered (cause.Reused n start w) q r d e = cc
 
--- the verdict that tells a cause tells what is told
-pub hidden_verdict : (c : declared-cause.Cause) (v : declared-verdict.Verdict) → IsCauseOf c v → IsVerdictOf (told.Hidden c) v
-hidden_verdict c v e = not_recovered c v e
+-- the verdict that tells what hides a scalar tells what is told
+pub hidden_verdict : (h : declared-hiding.Hiding) (v : declared-verdict.Verdict) → IsHidingOf h v → IsVerdictOf (told.Hidden h) v
+hidden_verdict h verdict.Home e = not_home h.cause h.quiet e
+hidden_verdict h (verdict.Recovered r d) e = not_recovered h.cause h.quiet r d e
+hidden_verdict h (verdict.Noncurrent d p w q) e = e
+hidden_verdict h (verdict.Nonresident d p w q) e = e

@@ -15,7 +15,6 @@ use Rattle.graph_homes.specs.declared.homed.HomedUnit as declared-homed
 use Rattle.graph_homes.specs.Homed.{HomedForm, HaveHomes, AreHomesOf, IsHomeAmong, IsHomeRegister, homed_view, homes_in}
 use Rattle.currency_notes.specs.Homes.{home_in, number_at}
 use Rattle.currency_shown.specs.Shown.{AreDistinct}
-use Rattle.currency_writers.specs.declared.writers.Writer as declared-writer
 use Rattle.currency_writers.specs.Writers.{AreHomed}
 use Rattle.currency_hiding.proofs.ShownOrHidden.{writer_low}
 use Rattle.currency.proofs.OfFunctions.{names_at}

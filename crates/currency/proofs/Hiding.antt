@@ -14,7 +14,7 @@ use Rattle.graph_core.specs.Paths.{Among}
 use Rattle.currency_shown.specs.declared.found.LastNote as declared-last
 use Rattle.currency_shown.specs.declared.found.Unshown as declared-unshown
 use Rattle.currency_shown.specs.Found.{IsPlaceReached}
-use Rattle.currency_hiding.specs.declared.causes.Cause as declared-cause
+use Rattle.currency_hiding.specs.declared.hiding.Hiding as declared-hiding
 use Rattle.currency_hiding.specs.declared.function.Function as declared-function
 use Rattle.currency_hiding.specs.declared.teller.Teller as declared-teller
 use Rattle.currency_writers.specs.declared.writers.Writers as declared-writers
@@ -35,12 +35,12 @@ pub new_none : (IsSo : (p : ℕ) → declared-variable.ToldVariable → Type 0) 
 new_none IsSo all p t among = inl among
 
 -- what is evident in another way
-pub hiding_by : (One Other : declared-cause.Cause → Type 0) (what : declared-told.Told) → ((c : declared-cause.Cause) → One c → Other c) → IsHiding One what → IsHiding Other what
+pub hiding_by : (One Other : declared-hiding.Hiding → Type 0) (what : declared-told.Told) → ((c : declared-hiding.Hiding) → One c → Other c) → IsHiding One what → IsHiding Other what
 hiding_by One Other (told.Recovered r c) by hiding = hiding
-hiding_by One Other (told.Hidden cause) by hiding = by cause hiding
+hiding_by One Other (told.Hidden h) by hiding = by h hiding
 
 -- one more is told
-pub new_one : (IsEvident : (p : ℕ) → declared-cause.Cause → Type 0) (old mid new : declared-places.ToldPlaces) (place : ℕ) (var : declared-var.Var) (what : declared-told.Told) → AreNew (IsHidingOn IsEvident var) old mid → IsToldOne mid new place var what
+pub new_one : (IsEvident : (p : ℕ) → declared-hiding.Hiding → Type 0) (old mid new : declared-places.ToldPlaces) (place : ℕ) (var : declared-var.Var) (what : declared-told.Told) → AreNew (IsHidingOn IsEvident var) old mid → IsToldOne mid new place var what
     → IsHiding (λ c. IsEvident place c) what → AreNew (IsHidingOn IsEvident var) old new
 new_one IsEvident old mid new place var what before one hiding p t among = elim (one.only p t among) [
   | inl a ↦ before p t a
@@ -48,9 +48,9 @@ new_one IsEvident old mid new place var what before one hiding p t among = elim 
 ]
 
 -- what hides where no recipe is told
-hiding_where : (One Other : declared-cause.Cause → Type 0) (what : declared-told.Told) (last : Option declared-last.LastNote) → IsRecipeOf what last → (last ≡ None → (c : declared-cause.Cause) → One c → Other c) → IsHiding One what → IsHiding Other what
+hiding_where : (One Other : declared-hiding.Hiding → Type 0) (what : declared-told.Told) (last : Option declared-last.LastNote) → IsRecipeOf what last → (last ≡ None → (c : declared-hiding.Hiding) → One c → Other c) → IsHiding One what → IsHiding Other what
 hiding_where One Other (told.Recovered r c) last recipe by hiding = hiding
-hiding_where One Other (told.Hidden cause) last recipe by hiding = by recipe cause hiding
+hiding_where One Other (told.Hidden h) last recipe by hiding = by recipe h hiding
 
 -- what is told of a scalar, on which the questions are if it is hidden somewhere
 pub scalar_hiding : (t u : declared-teller.Teller) (f h : declared-function.Function) (x : ℕ) (var : declared-var.Var) (entries : List declared-unshown.Unshown) (old new : declared-places.ToldPlaces) → IsSameTeller t u → IsSameFunction f h
@@ -118,7 +118,7 @@ pub function_on : (f h k : declared-function.Function) → IsSameFunction f h �
 function_on f h k one two = record { function = two.function; writers = two.writers ∙ one.writers }
 
 -- evidence by the same unit and function
-pub evident_same : (t u : declared-teller.Teller) (f h : declared-function.Function) (x variable p : ℕ) (c : declared-cause.Cause) → IsSameTeller t u → IsSameFunction f h → TellsBy u h.writers x variable p c → TellsBy t f.writers x variable p c
+pub evident_same : (t u : declared-teller.Teller) (f h : declared-function.Function) (x variable p : ℕ) (c : declared-hiding.Hiding) → IsSameTeller t u → IsSameFunction f h → TellsBy u h.writers x variable p c → TellsBy t f.writers x variable p c
 evident_same t u f h x variable p c teller function hides =
     subst (λ (w : declared-writers.Writers). Tells (map logged t.changes.all.now) t.search.flow.table.now (home_in w.homes.now) w.function (graph_view w.graph.now) x variable p c) function.writers
     (subst (λ (table : FlowTable). Tells (map logged t.changes.all.now) table (home_in h.writers.homes.now) h.writers.function (graph_view h.writers.graph.now) x variable p c) teller.flow

@@ -1,5 +1,5 @@
 -- What verdicts name: the change is in the log, and what is said to write a home does.
-use Rattle.std.proofs.Common.{◌≡◌, ◌≢◌, ℕ, ◌+◌, ◌-◌, ◌<◌, Option, Some, None, List, [], ◌∷◌, ◌++◌, length, refl, sym, ap, subst, ◌∙◌, arith}
+use Rattle.std.proofs.Common.{◌≡◌, ◌≢◌, ℕ, ◌-◌, ◌<◌, Option, Some, None, List, [], ◌∷◌, ◌++◌, length, refl, sym, ap, subst, ◌∙◌, arith}
 use Rattle.std.specs.Prelude.{MatchOption, option_map, slice_get, true}
 use Rattle.std.proofs.lemmas.Option.{none-some, same_Some, slice_get_within}
 use Rattle.debug_records.specs.declared.change.Kind.TheVariants.{Moved, Reused}
@@ -14,8 +14,8 @@ use Rattle.graph_core.specs.WellMarked.{IsVariable}
 use Rattle.dead_pass_writes.specs.Removals.{IsRemoval as IsLoggedRemoval}
 use Rattle.currency_shown.specs.Found.{IsPlaceReached}
 use Rattle.currency_writers.specs.declared.writers.Writer as declared-writer
-use Rattle.currency_writers.specs.declared.writers.Writer.TheVariants as writer
 use Rattle.currency_writers.specs.Writers.{IsWriter, instruction, parameter}
+use Rattle.debug_records.specs.declared.change.Place.{Place}
 use Rattle.currency_hiding.specs.declared.causes.Cause as declared-cause
 use Rattle.currency_hiding.specs.declared.causes.Cause.TheVariants as cause
 use Rattle.currency_hiding.specs.Changes.{IsNumbered as IsHidingNumbered}
@@ -46,12 +46,12 @@ source_takes log p variable number is =
     record { change = is.change; is = record { some = omega (arith, counted); is = ap (λ k. slice_get log k) at ∙ is.is }; taken = is.taken; of = is.of })
 
 -- a cause is told by the verdict that names its change
-cause_named : (log : List Logged) (flow : FlowTable) (u : HomedForm) (f : ℕ) (g : Graph) (x variable p : ℕ) (c : declared-cause.Cause) (v : declared-verdict.Verdict) → IsCauseOf c v → Hides log flow (home_of u f) f g x variable p c → IsNamed log variable v
-cause_named log flow u f g x variable p (cause.Removed n start) v told hides =
+cause_named : (log : List Logged) (flow : FlowTable) (u : HomedForm) (f : ℕ) (g : Graph) (x variable p : ℕ) (c : declared-cause.Cause) (q : Option Place) (v : declared-verdict.Verdict) → IsCauseOf c q v → Hides log flow (home_of u f) f g x variable p c → IsNamed log variable v
+cause_named log flow u f g x variable p (cause.Removed n start) q v told hides =
     subst (λ z. IsNamed log variable z) (sym told) (let bare = hides.0 in record { change = bare.change; is = numbered_so log n bare.change bare.is; taken = bare.taken; of = bare.of; at = bare.at })
-cause_named log flow u f g x variable p (cause.Moved n start w) v told hides =
+cause_named log flow u f g x variable p (cause.Moved n start w) q v told hides =
     subst (λ z. IsNamed log variable z) (sym told) (let moved = hides.is in record { change = moved.change; is = numbered_so log n moved.change moved.is; kind = moved.moved; of = moved.of })
-cause_named log flow u f g x variable p (cause.Reused n start w) v told hides =
+cause_named log flow u f g x variable p (cause.Reused n start w) q v told hides =
     subst (λ z. IsNamed log variable z) (sym told) (let reused = hides.is in record { change = reused.change; is = numbered_so log n reused.change reused.is; kind = reused.reused; of = reused.of })
 
 -- ---- The writes
@@ -88,22 +88,22 @@ module _ (u : HomedForm) (f : ℕ) (g : Graph) (x variable : ℕ) (there : slice
       by_scalar None e = absurd (none-some variable (sym (ap (λ o. option_map (λ (s : Scalar). s.variable) o) e) ∙ is))
       by_scalar (Some s) e = slice_get_within g.scalars x s e
 
-  cause_written : (log : List Logged) (flow : FlowTable) (p : ℕ) (c : declared-cause.Cause) (v : declared-verdict.Verdict) → IsCauseOf c v → Hides log flow (home_of u f) f g x variable p c → IsWritten u variable v
-  cause_written log flow p (cause.Removed n start) v told hides = subst (λ z. IsWritten u variable z) (sym told) tt
-  cause_written log flow p (cause.Moved n start w) v told hides =
+  cause_written : (log : List Logged) (flow : FlowTable) (p : ℕ) (c : declared-cause.Cause) (q : Option Place) (v : declared-verdict.Verdict) → IsCauseOf c q v → Hides log flow (home_of u f) f g x variable p c → IsWritten u variable v
+  cause_written log flow p (cause.Removed n start) q v told hides = subst (λ z. IsWritten u variable z) (sym told) tt
+  cause_written log flow p (cause.Moved n start w) q v told hides =
       (let moved = hides.is in
       let temporary = moved.temporary in
       let low = scalar_low in
       subst (λ z. IsWritten u variable z) (sym told) (writes_home hides.via moved.t w moved.writes (λ same. omega (arith, temporary, low, same)) moved.shared))
-  cause_written log flow p (cause.Reused n start w) v told hides = subst (λ z. IsWritten u variable z) (sym told) (let reused = hides.is in writes_home hides.via reused.y w reused.writes reused.other reused.shared)
+  cause_written log flow p (cause.Reused n start w) q v told hides = subst (λ z. IsWritten u variable z) (sym told) (let reused = hides.is in writes_home hides.via reused.y w reused.writes reused.other reused.shared)
 
 -- ---- Row by row
 
 written_of : (log : List Logged) (flow : FlowTable) (u : HomedForm) (variable p : ℕ) (v : declared-verdict.Verdict) → IsEvident log flow u variable p v → IsWritten u variable v
 written_of log flow u variable p verdict.Home e = tt
 written_of log flow u variable p (verdict.Recovered r c) e = tt
-written_of log flow u variable p (verdict.Noncurrent c s w) e = cause_written u e.f e.graph e.x variable e.is e.scalar log flow p e.cause (verdict.Noncurrent c s w) e.told e.evident
-written_of log flow u variable p (verdict.Nonresident c s w) e = cause_written u e.f e.graph e.x variable e.is e.scalar log flow p e.cause (verdict.Nonresident c s w) e.told e.evident
+written_of log flow u variable p (verdict.Noncurrent c s w q) e = cause_written u e.f e.graph e.x variable e.is e.scalar log flow p e.hiding.cause e.hiding.quiet (verdict.Noncurrent c s w q) e.told e.evident
+written_of log flow u variable p (verdict.Nonresident c s w q) e = cause_written u e.f e.graph e.x variable e.is e.scalar log flow p e.hiding.cause e.hiding.quiet (verdict.Nonresident c s w q) e.told e.evident
 
 -- What verdicts say to write homes does.
 pub are_written : (log : List Logged) (flow : FlowTable) (u : HomedForm) (rows : List declared-row.PlaceVerdict) → AreEvident log flow u rows → AreWritten u rows
@@ -112,8 +112,8 @@ are_written log flow u rows evident w among = written_of log flow u w.var.0 w.pl
 named_of : (log : List Logged) (flow : FlowTable) (u : HomedForm) (variable p : ℕ) (v : declared-verdict.Verdict) → IsEvident log flow u variable p v → ((r : declared-recipe.Recipe) (c : ℕ) → v ≡ verdict.Recovered r c → IsTaking log c variable) → IsNamed log variable v
 named_of log flow u variable p verdict.Home e taking = tt
 named_of log flow u variable p (verdict.Recovered r c) e taking = taking r c refl
-named_of log flow u variable p (verdict.Noncurrent c s w) e taking = cause_named log flow u e.f e.graph e.x variable p e.cause (verdict.Noncurrent c s w) e.told e.evident
-named_of log flow u variable p (verdict.Nonresident c s w) e taking = cause_named log flow u e.f e.graph e.x variable p e.cause (verdict.Nonresident c s w) e.told e.evident
+named_of log flow u variable p (verdict.Noncurrent c s w q) e taking = cause_named log flow u e.f e.graph e.x variable p e.hiding.cause e.hiding.quiet (verdict.Noncurrent c s w q) e.told e.evident
+named_of log flow u variable p (verdict.Nonresident c s w q) e taking = cause_named log flow u e.f e.graph e.x variable p e.hiding.cause e.hiding.quiet (verdict.Nonresident c s w q) e.told e.evident
 
 -- the change of a recipe that is told takes an assignment of the variable
 taken_by : (log : List Logged) (homes : List Home) (g : Graph) (p x : ℕ) (t : declared-variable.ToldVariable) (what : declared-told.Told) (r : declared-recipe.Recipe) (c : ℕ) → IsVerdictOf what (verdict.Recovered r c) → IsToldRight log homes g p t what → IsVariable g x t.var.0 → IsPlaceReached g p → IsTaking log c t.var.0
@@ -122,7 +122,7 @@ taken_by log homes g p x t (told.Recovered s d) r c of right is reached =
     let source = least.is.5 in
     let same : source.variable ≡ t.var.0 = same_Some source.variable t.var.0 (sym source.of ∙ is) in
     subst (λ n. IsTaking log n t.var.0) of.1 (subst (λ v. IsTaking log d v) same (source_takes log source.place source.variable d source.removed)))
-taken_by log homes g p x t (told.Hidden cause) r c of right is reached = elim of [ ]
+taken_by log homes g p x t (told.Hidden hiding) r c of right is reached = elim of [ ]
 
 -- The change that each verdict names is in the log.
 pub are_named : (u : HomedForm) (flow : FlowTable) (table : declared-table.PlaceTable) (found : declared-places.ToldPlaces) (rows : List declared-row.PlaceVerdict) → AreSo u table found → AreToldEvident u.unit.log flow u found → AreRowsTold table found rows → AreEvident u.unit.log flow u rows

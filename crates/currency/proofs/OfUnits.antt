@@ -56,10 +56,10 @@ module _ (log : List Logged) (flow : FlowTable) where
     hidden : (variable p f x : ℕ) (g : Graph) → slice_get u.unit.graphs f ≡ Some g → IsVariable g x variable → (what : declared-told.Told) (v : declared-verdict.Verdict) → IsHiding (λ c. Tells log flow (home_of u f) f g x variable p c) what → IsVerdictOf what v → IsEvident log flow u variable p v
     hidden variable p f x g is of what verdict.Home hiding v = tt
     hidden variable p f x g is of what (verdict.Recovered r c) hiding v = record { function = f; index = x; graph = g; is = is; of = of }
-    hidden variable p f x g is of (told.Recovered r d) (verdict.Noncurrent c s w) hiding v = elim v [ ]
-    hidden variable p f x g is of (told.Recovered r d) (verdict.Nonresident c s w) hiding v = elim v [ ]
-    hidden variable p f x g is of (told.Hidden cause) (verdict.Noncurrent c s w) hiding v = record { f = f; graph = g; x = x; cause = cause; is = is; scalar = of; told = v; evident = hiding.0; first = hiding.1 }
-    hidden variable p f x g is of (told.Hidden cause) (verdict.Nonresident c s w) hiding v = record { f = f; graph = g; x = x; cause = cause; is = is; scalar = of; told = v; evident = hiding.0; first = hiding.1 }
+    hidden variable p f x g is of (told.Recovered r d) (verdict.Noncurrent c s w q) hiding v = elim v [ ]
+    hidden variable p f x g is of (told.Recovered r d) (verdict.Nonresident c s w q) hiding v = elim v [ ]
+    hidden variable p f x g is of (told.Hidden h) (verdict.Noncurrent c s w q) hiding v = record { f = f; graph = g; x = x; hiding = h; is = is; scalar = of; told = v; evident = hiding.0; first = hiding.1; quiet = hiding.2 }
+    hidden variable p f x g is of (told.Hidden h) (verdict.Nonresident c s w q) hiding v = record { f = f; graph = g; x = x; hiding = h; is = is; scalar = of; told = v; evident = hiding.0; first = hiding.1; quiet = hiding.2 }
 
     -- what the verdicts say to hide variables does
     pub are_evident : (table : declared-table.PlaceTable) (found : declared-places.ToldPlaces) (rows : List declared-row.PlaceVerdict) → AreToldEvident log flow u found → AreRowsTold table found rows → AreEvident log flow u rows

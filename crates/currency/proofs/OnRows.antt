@@ -33,11 +33,11 @@ use Rattle.base_laws.proofs.Lists.{append_nil as more_none, take_none}
 
 -- where a verdict hides a variable, nothing is told that shows it
 hidden_told : (log : List Logged) (homes : List Home) (g : Graph) (p : ℕ) (t : declared-variable.ToldVariable) (what : declared-told.Told) (v : declared-verdict.Verdict) → IsHidden v → IsVerdictOf what v → IsToldRight log homes g p t what → AreDistinct homes → (x : ℕ) → IsVariable g x t.var.0 → IsHiddenAt (home_in homes) g p x
-hidden_told log homes g p t (told.Hidden cause) v hid of right = right
+hidden_told log homes g p t (told.Hidden hiding) v hid of right = right
 hidden_told log homes g p t (told.Recovered r c) verdict.Home hid of right = elim hid [ ]
 hidden_told log homes g p t (told.Recovered r c) (verdict.Recovered s d) hid of right = elim hid [ ]
-hidden_told log homes g p t (told.Recovered r c) (verdict.Noncurrent d s w) hid of right = elim of [ ]
-hidden_told log homes g p t (told.Recovered r c) (verdict.Nonresident d s w) hid of right = elim of [ ]
+hidden_told log homes g p t (told.Recovered r c) (verdict.Noncurrent d s w q) hid of right = elim of [ ]
+hidden_told log homes g p t (told.Recovered r c) (verdict.Nonresident d s w q) hid of right = elim of [ ]
 
 -- slots of the first of what is told
 abbrev pub AreSlottedTo : List declared-variable.ToldVariable → List ℕ → (count : ℕ) → Type 0

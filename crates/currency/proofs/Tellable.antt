@@ -5,7 +5,6 @@ use Rattle.std.specs.Global.{Vec}
 use Rattle.std.specs.Option.{option_map_or}
 use Rattle.std.proofs.lemmas.List.{length-map}
 use Rattle.std.proofs.lemmas.Option.{none-some, same_Some, slice_get-get_or, slice_get-map, slice_get_within}
-use Rattle.debug_records.specs.declared.change.Var as declared-var
 use Rattle.places.specs.declared.flow.FlowTable.{FlowTable}
 use Rattle.places.specs.declared.table.PlaceTable as declared-table
 use Rattle.places.specs.Flow.{IsAssignmentBefore, assigns, can_go}
@@ -23,11 +22,9 @@ use Rattle.graph_core.specs.WellMarked.{AreWellMarked, IsVariable, IsWellMarked}
 use Rattle.graph_core_weights.proofs.Standing.{graph_different}
 use Rattle.base_laws.proofs.Lists.{all_there}
 use Rattle.currency_notes.specs.Homes.{home_in}
-use Rattle.currency_shown.specs.declared.found.LastNote as declared-last
 use Rattle.currency_shown.specs.declared.found.Unshown as declared-unshown
 use Rattle.currency_shown.specs.Found.{IsPlaceOf, entries_of}
 use Rattle.currency_shown.specs.Shown.{AreDistinct, AreHidden, AreLeast, AreOther, AreReached, AreRecipes, AreTheirs, AreVisible, IsLeastAt}
-use Rattle.currency_writers.specs.declared.writers.Writer as declared-writer
 use Rattle.currency_writers.specs.declared.writers.Writers as declared-writers
 use Rattle.currency_writers.specs.Flow.{IsFlowOfPlaces}
 use Rattle.currency_writers.specs.Ways.{at_once, on}

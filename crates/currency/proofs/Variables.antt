@@ -12,7 +12,6 @@ use Rattle.graph_core.proofs.Among.{get_among}
 use Rattle.graph_homes.specs.declared.homed.HomedUnit as declared-homed
 use Rattle.graph_homes.specs.Homed.{homed_view}
 use Rattle.places.specs.declared.flow.FlowTable.{FlowTable}
-use Rattle.currency.specs.declared.telling.ToldVariable as declared-variable
 use Rattle.currency.specs.declared.told.ToldPlaces as declared-places
 use Rattle.currency.specs.Telling.{AreBelow, told_at}
 use Rattle.currency.specs.Evident.{AreToldEvident}

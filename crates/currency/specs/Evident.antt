@@ -1,6 +1,7 @@
 -- What hides variables, where that is told: evidence by a change of the log, a write and a path of the flow, and the first that there is.
-use Rattle.std.specs.Prelude.{◌≡◌, ◌⊎◌, ℕ, Some, List, slice_get}
+use Rattle.std.specs.Prelude.{◌≡◌, ◌⊎◌, ℕ, Some, option_map, List, slice_get}
 use Rattle.places.specs.declared.flow.FlowTable.{FlowTable}
+use Rattle.debug_records.specs.declared.change.Place.{Place}
 use Rattle.debug_records.specs.declared.change.Var as declared-var
 use Rattle.graph_homes.specs.declared.home.Home.{Home}
 use Rattle.graph_core.specs.declared.graph.Scalar as declared-scalar
@@ -10,10 +11,11 @@ use Rattle.graph_core.specs.WellMarked.{IsVariable}
 use Rattle.graph_homes.specs.Homed.{HomedForm, home_of}
 use Rattle.currency_shown.specs.Found.{IsPlaceReached}
 use Rattle.currency_writers.specs.declared.writers.Writers as declared-writers
-use Rattle.currency_hiding.specs.declared.causes.Cause as declared-cause
+use Rattle.currency_hiding.specs.declared.hiding.Hiding as declared-hiding
 use Rattle.currency_hiding.specs.declared.teller.Teller as declared-teller
 use Rattle.currency_hiding.specs.Evidence.{Hides}
 use Rattle.currency_hiding.specs.First.{IsFirst, Tells}
+use Rattle.currency_hiding.specs.Quiet.{IsLeastQuiet}
 use Rattle.currency_hiding.specs.Found.{TellsBy}
 use Rattle.currency.specs.declared.telling.Told as declared-told
 use Rattle.currency.specs.declared.telling.Told.TheVariants as told
@@ -22,19 +24,19 @@ use Rattle.currency.specs.declared.told.ToldPlaces as declared-places
 use Rattle.currency.specs.declared.verdict.Verdict as declared-verdict
 use Rattle.currency.specs.declared.verdict.Verdict.TheVariants as verdict
 use Rattle.currency.specs.declared.verdict.PlaceVerdict as declared-row
-use Rattle.currency.specs.Telling.{IsCauseOf, told_at}
+use Rattle.currency.specs.Telling.{IsHidingOf, told_at}
 
 -- What is told to hide a variable is evident.
-abbrev pub IsHiding : (IsEvident : declared-cause.Cause → Type 0) → declared-told.Told → Type 0
+abbrev pub IsHiding : (IsEvident : declared-hiding.Hiding → Type 0) → declared-told.Told → Type 0
 IsHiding IsEvident (told.Recovered r c) = Unit {0}
-IsHiding IsEvident (told.Hidden cause) = IsEvident cause
+IsHiding IsEvident (told.Hidden hiding) = IsEvident hiding
 
 -- What is told at places that was not told before is so.
 abbrev pub AreNew : (IsSo : (p : ℕ) → declared-variable.ToldVariable → Type 0) → (old new : declared-places.ToldPlaces) → Type 0
 AreNew IsSo old new = (p : ℕ) (t : declared-variable.ToldVariable) → Among t (told_at new p) → Among t (told_at old p) ⊎ IsSo p t
 
 -- What is told of a variable at a place, of which it is asked by this, is evident.
-abbrev pub IsHidingOn : (IsEvident : (p : ℕ) → declared-cause.Cause → Type 0) → (var : declared-var.Var) → (p : ℕ) → declared-variable.ToldVariable → Type 0
+abbrev pub IsHidingOn : (IsEvident : (p : ℕ) → declared-hiding.Hiding → Type 0) → (var : declared-var.Var) → (p : ℕ) → declared-variable.ToldVariable → Type 0
 IsHidingOn IsEvident var p t = (t.var ≡ var) × IsHiding (λ c. IsEvident p c) t.told
 
 -- What is told is of a scalar, and evident.
@@ -61,24 +63,26 @@ module _ (log : List Logged) (flow : FlowTable) where
     pub reached : IsPlaceReached g p
     pub hiding : IsHiding (λ c. Tells log flow home f g x t.var.0 p c) t.told
 
-  -- What hides a variable at a place, as a verdict tells it: it is a scalar of a function of the unit, and this is evident there, and the first that may be told.
+  -- What hides a variable at a place, as a verdict tells it: it is a scalar of a function of the unit, and this is evident there, and the first that may be told. The place beside it
+  -- is the least at which a quiet path to there begins, or there is no such path.
   pub record IsEvidentAt (u : HomedForm) (variable p : ℕ) (v : declared-verdict.Verdict) : Type 0 where
     pub f : ℕ
     pub graph : Graph
     pub x : ℕ
-    pub cause : declared-cause.Cause
+    pub hiding : declared-hiding.Hiding
     pub is : slice_get u.unit.graphs f ≡ Some graph
     pub scalar : IsVariable graph x variable
-    pub told : IsCauseOf cause v
-    pub evident : Hides log flow (home_of u f) f graph x variable p cause
-    pub first : IsFirst log flow (home_of u f) f graph x variable p cause
+    pub told : IsHidingOf hiding v
+    pub evident : Hides log flow (home_of u f) f graph x variable p hiding.cause
+    pub first : IsFirst log flow (home_of u f) f graph x variable p hiding.cause
+    pub quiet : IsLeastQuiet log flow (home_of u f) f graph x variable p (option_map (λ (place : Place). place.0) hiding.quiet)
 
   -- What each verdict says to hide a variable does, and one that gives a recipe gives it for a scalar.
   abbrev pub IsEvident : HomedForm → (variable p : ℕ) → declared-verdict.Verdict → Type 0
   IsEvident u v p verdict.Home = Unit {0}
   IsEvident u v p (verdict.Recovered r c) = IsScalarOf u v
-  IsEvident u v p (verdict.Noncurrent c start w) = IsEvidentAt u v p (verdict.Noncurrent c start w)
-  IsEvident u v p (verdict.Nonresident c start w) = IsEvidentAt u v p (verdict.Nonresident c start w)
+  IsEvident u v p (verdict.Noncurrent c start w q) = IsEvidentAt u v p (verdict.Noncurrent c start w q)
+  IsEvident u v p (verdict.Nonresident c start w q) = IsEvidentAt u v p (verdict.Nonresident c start w q)
 
   -- The same of all verdicts.
   abbrev pub AreEvident : HomedForm → List declared-row.PlaceVerdict → Type 0

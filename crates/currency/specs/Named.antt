@@ -42,9 +42,9 @@ pub record IsRemoval (log : List Logged) (number variable place : ℕ) : Type 0 
 abbrev pub IsNamed : List Logged → (variable : ℕ) → declared-verdict.Verdict → Type 0
 IsNamed log v verdict.Home = Unit {0}
 IsNamed log v (verdict.Recovered r c) = IsTaking log c v
-IsNamed log v (verdict.Noncurrent c start None) = IsRemoval log c v start.0
-IsNamed log v (verdict.Noncurrent c start (Some w)) = IsLogged log c Moved v
-IsNamed log v (verdict.Nonresident c start w) = IsLogged log c Reused v
+IsNamed log v (verdict.Noncurrent c start None q) = IsRemoval log c v start.0
+IsNamed log v (verdict.Noncurrent c start (Some w) q) = IsLogged log c Moved v
+IsNamed log v (verdict.Nonresident c start w q) = IsLogged log c Reused v
 
 -- The change that each verdict names is in the log.
 abbrev pub AreNamed : List Logged → List declared-row.PlaceVerdict → Type 0

@@ -20,8 +20,8 @@ use Rattle.currency.specs.Telling.{told_at, IsSomethingTold, IsToldRight}
 abbrev pub IsHidden : declared-verdict.Verdict → Type 0
 IsHidden verdict.Home = ⊥
 IsHidden (verdict.Recovered r c) = ⊥
-IsHidden (verdict.Noncurrent c start w) = Unit {0}
-IsHidden (verdict.Nonresident c start w) = Unit {0}
+IsHidden (verdict.Noncurrent c start w q) = Unit {0}
+IsHidden (verdict.Nonresident c start w q) = Unit {0}
 
 module _ (u : HomedForm) where
   -- A path of some function of a unit reaches a place.

@@ -2,6 +2,7 @@
 use Rattle.std.specs.Prelude.{◌≡◌, ◌≢◌, ℕ, ◌+◌, ◌<◌, ◌⊎◌, MatchOption, Option, Some, None, List, [], slice_get, get_or}
 use Rattle.std.specs.Option.{option_map_or}
 use Rattle.std.specs.Global.{Vec}
+use Rattle.debug_records.specs.declared.change.Place.{Place}
 use Rattle.debug_records.specs.declared.change.Var as declared-var
 use Rattle.places.specs.declared.table.PlaceTable as declared-table
 use Rattle.graph_homes.specs.declared.home.Home.{Home}
@@ -17,6 +18,7 @@ use Rattle.currency_shown.specs.Found.{entries_of, IsPlaceOf, IsPlaceReached}
 use Rattle.currency_shown.specs.Shown.{AreDistinct, ArePlaced, IsHiddenAt, IsLeastAt, IsOther, IsVisible}
 use Rattle.currency_hiding.specs.declared.causes.Cause as declared-cause
 use Rattle.currency_hiding.specs.declared.causes.Cause.TheVariants as cause
+use Rattle.currency_hiding.specs.declared.hiding.Hiding as declared-hiding
 use Rattle.currency.specs.declared.telling.Told as declared-told
 use Rattle.currency.specs.declared.telling.Told.TheVariants as told
 use Rattle.currency.specs.declared.telling.ToldVariable as declared-variable
@@ -32,21 +34,25 @@ told_at all p = option_map_or (λ v. v.items) (slice_get all.by_place.items p) [
 -- A recipe that is told is that of the last note, with the change beside it, and where none is, none shows the value.
 abbrev pub IsRecipeOf : declared-told.Told → Option declared-last.LastNote → Type 0
 IsRecipeOf (told.Recovered r c) last = (l : declared-last.LastNote) × (last ≡ Some l) × (recipe_view r.now ≡ recipe_view l.recipe.now) × (l.change ≡ Some c)
-IsRecipeOf (told.Hidden cause) last = last ≡ None
+IsRecipeOf (told.Hidden hiding) last = last ≡ None
 
--- a verdict tells what hides a scalar
-abbrev pub IsCauseOf : declared-cause.Cause → declared-verdict.Verdict → Type 0
-IsCauseOf (cause.Removed c start) v = v ≡ verdict.Noncurrent c (record { 0 = start }) None
-IsCauseOf (cause.Moved c start w) v = v ≡ verdict.Noncurrent c (record { 0 = start }) (Some w)
-IsCauseOf (cause.Reused c start w) v = v ≡ verdict.Nonresident c (record { 0 = start }) w
+-- a verdict tells what hides a scalar, and beside it where a quiet path begins
+abbrev pub IsCauseOf : declared-cause.Cause → (quiet : Option Place) → declared-verdict.Verdict → Type 0
+IsCauseOf (cause.Removed c start) q v = v ≡ verdict.Noncurrent c (record { 0 = start }) None q
+IsCauseOf (cause.Moved c start w) q v = v ≡ verdict.Noncurrent c (record { 0 = start }) (Some w) q
+IsCauseOf (cause.Reused c start w) q v = v ≡ verdict.Nonresident c (record { 0 = start }) w q
+
+-- a verdict tells all that is told to hide a scalar: the cause, and the least place at which a quiet path begins, if there is one
+abbrev pub IsHidingOf : declared-hiding.Hiding → declared-verdict.Verdict → Type 0
+IsHidingOf h v = IsCauseOf h.cause h.quiet v
 
 -- a verdict tells what is told
 abbrev pub IsVerdictOf : declared-told.Told → declared-verdict.Verdict → Type 0
 IsVerdictOf t verdict.Home = ⊥
 IsVerdictOf (told.Recovered r c) (verdict.Recovered s d) = (recipe_view r.now ≡ recipe_view s) × (c ≡ d)
-IsVerdictOf (told.Hidden cause) (verdict.Recovered s d) = ⊥
-IsVerdictOf (told.Hidden cause) (verdict.Noncurrent c p w) = IsCauseOf cause (verdict.Noncurrent c p w)
-IsVerdictOf (told.Hidden cause) (verdict.Nonresident c p w) = IsCauseOf cause (verdict.Nonresident c p w)
+IsVerdictOf (told.Hidden hiding) (verdict.Recovered s d) = ⊥
+IsVerdictOf (told.Hidden hiding) (verdict.Noncurrent c p w q) = IsHidingOf hiding (verdict.Noncurrent c p w q)
+IsVerdictOf (told.Hidden hiding) (verdict.Nonresident c p w q) = IsHidingOf hiding (verdict.Nonresident c p w q)
 IsVerdictOf (told.Recovered r c) _ = ⊥
 
 -- a verdict tells what is told, or that the home shows the variable where nothing is
@@ -98,7 +104,7 @@ pub record IsSomethingTold (all : declared-places.ToldPlaces) (p variable : ℕ)
 abbrev pub IsToldRight : List Logged → List Home → Graph → (p : ℕ) → declared-variable.ToldVariable → declared-told.Told → Type 0
 IsToldRight log homes g p t (told.Recovered r c) =
     (x : ℕ) → IsVariable g x t.var.0 → HoldsOnAllPaths (home_in homes) g p x (recipe_view r.now) × IsOther g p x (recipe_view r.now) × IsLeastAt log g p x (Some c)
-IsToldRight log homes g p t (told.Hidden cause) = AreDistinct homes → (x : ℕ) → IsVariable g x t.var.0 → IsHiddenAt (home_in homes) g p x
+IsToldRight log homes g p t (told.Hidden hiding) = AreDistinct homes → (x : ℕ) → IsVariable g x t.var.0 → IsHiddenAt (home_in homes) g p x
 
 -- What is told of a function: of each scalar that is visible at a place, its own value holds on all paths, or something is told of it; and what is told is right, at places that paths reach.
 pub record IsFunctionTold (log : List Logged) (homes : List Home) (g : Graph) (number : ℕ) (table : declared-table.PlaceTable) (old new : declared-places.ToldPlaces) : Type 0 where

@@ -37,9 +37,9 @@ pub record WritesHome (u : HomedForm) (variable : ℕ) (w : declared-writer.Writ
 abbrev pub IsWritten : HomedForm → (variable : ℕ) → declared-verdict.Verdict → Type 0
 IsWritten u v verdict.Home = Unit {0}
 IsWritten u v (verdict.Recovered r c) = Unit {0}
-IsWritten u v (verdict.Noncurrent c start None) = Unit {0}
-IsWritten u v (verdict.Noncurrent c start (Some w)) = WritesHome u v w
-IsWritten u v (verdict.Nonresident c start w) = WritesHome u v w
+IsWritten u v (verdict.Noncurrent c start None q) = Unit {0}
+IsWritten u v (verdict.Noncurrent c start (Some w) q) = WritesHome u v w
+IsWritten u v (verdict.Nonresident c start w q) = WritesHome u v w
 
 -- What each verdict says to write a home does.
 abbrev pub AreWritten : HomedForm → List declared-row.PlaceVerdict → Type 0

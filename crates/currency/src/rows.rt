@@ -200,8 +200,7 @@ fn told_of_all<'a>(
 /// The verdict on each variable that is visible at each place, in the order of places and then of variables.
 ///
 /// The unit is well marked, each of its names has its home, and its log tells of the registers that scalars share; the
-/// places and their flow are the unit's. The only error
-/// is want of memory.
+/// places and their flow are the unit's. The only error is want of memory.
 pub fn verdicts(
     alloc: Global,
     homed: &HomedUnit,

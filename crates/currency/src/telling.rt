@@ -1,23 +1,25 @@
 //! What can be told of the scalars that their homes do not show.
 
 ghost use Rattle.std.specs.Prelude.{IfOk};
-ghost use Rattle.currency.specs.Telling.{IsCauseOf, IsVerdictOf};
+ghost use Rattle.currency.specs.Telling.{IsHidingOf, IsVerdictOf};
 
 use crate::verdict::Verdict;
-use currency_hiding::Cause;
+use currency_hiding::{Cause, Hiding};
 use debug_records::{Place, Var};
 use graph_core::Recipe;
 use std::alloc::{AllocError, Global};
 
-/// The verdict that tells what hides a scalar.
-fn verdict_of(cause: Cause) -> Verdict
-    ensures { IsCauseOf cause result }
+/// The verdict that tells what hides a scalar, and where its least quiet path begins.
+fn verdict_of(hiding: Hiding) -> Verdict
+    ensures { IsHidingOf hiding result }
 {
-    match cause {
+    let quiet = hiding.quiet;
+    match hiding.cause {
         Cause::Removed { change, start } => Verdict::Noncurrent {
             change,
             start: Place(start),
             writer: None,
+            quiet,
         },
         Cause::Moved {
             change,
@@ -27,6 +29,7 @@ fn verdict_of(cause: Cause) -> Verdict
             change,
             start: Place(start),
             writer: Some(writer),
+            quiet,
         },
         Cause::Reused {
             change,
@@ -36,6 +39,7 @@ fn verdict_of(cause: Cause) -> Verdict
             change,
             start: Place(start),
             writer,
+            quiet,
         },
     }
 }
@@ -45,8 +49,8 @@ fn verdict_of(cause: Cause) -> Verdict
 pub enum Told<'a> {
     /// Its value by a recipe, since an assignment was removed by this change.
     Recovered { recipe: &'a Recipe, change: u32 },
-    /// What hides it.
-    Hidden(Cause),
+    /// What hides it, and where its least quiet path begins.
+    Hidden(Hiding),
 }
 
 impl Told<'_> {
@@ -59,7 +63,7 @@ impl Told<'_> {
                 recipe: recipe.duplicate(alloc)?,
                 change,
             }),
-            Told::Hidden(cause) => Ok(verdict_of(cause)),
+            Told::Hidden(hiding) => Ok(verdict_of(hiding)),
         }
     }
 }

@@ -55,7 +55,7 @@ fn told_of<'a>(one: &Unshown<'a>, teller: &Teller<'_>, function: &Function<'_>) 
             },
             None => unreachable!(),
         },
-        None => Told::Hidden(teller.cause_at(function, one.place)),
+        None => Told::Hidden(teller.hiding_at(function, one.place)),
     }
 }
 

@@ -12,28 +12,30 @@ pub enum Verdict {
     /// there.
     Home,
     /// Its value is that of a recipe over the names of its function, since an assignment was removed: by this change,
-    /// the least of those that removed one whose
-    /// note reaches the place.
+    /// the least of those that removed one whose note reaches the place.
     Recovered {
         recipe: Recipe,
         change: u32,
     },
     /// Its home may not hold its value: the change that removed an assignment or moved its computation, by its number;
-    /// a place that assigns the variable; and what
-    /// writes the home for the moved computation, on a way from there on which nothing else assigns the variable, or
-    /// nothing where the assignment was removed.
+    /// a place that assigns the variable; and what writes the home for the moved computation, on a way from there on
+    /// which nothing else assigns the variable, or nothing where the assignment was removed. The least place at which a
+    /// quiet path begins, on which nothing disturbs the home, is told beside it, if there is such a path: then its home
+    /// may hold its value as well.
     Noncurrent {
         change: u32,
         start: Place,
         writer: Option<Writer>,
+        quiet: Option<Place>,
     },
     /// Its home may hold another name's value: the change by which its register was given to other names too, by its
-    /// number; a place that assigns the
-    /// variable; and what writes the register on a way from there on which nothing else assigns the variable.
+    /// number; a place that assigns the variable; and what writes the register on a way from there on which nothing
+    /// else assigns the variable. The least place at which a quiet path begins is told beside it, if there is one.
     Nonresident {
         change: u32,
         start: Place,
         writer: Writer,
+        quiet: Option<Place>,
     },
 }
 

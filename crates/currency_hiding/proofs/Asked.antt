@@ -50,27 +50,32 @@ AreBare v x marks = (p : ℕ) → mark_of marks p ≢ None → IsHomeWritten v x
 abbrev pub AreOwnOnly : declared-function.Function → List Change → Type 0
 AreOwnOnly f moved = (t : ℕ) → mark_of f.own t ≢ None → (d : Change) × Contains moved d × IsCopied f d.place.0 t
 
--- the place of a write is marked, if it is one of the home of a name
-abbrev pub IsPlaceMarked : declared-writers.Writers → (x : ℕ) → declared-marks.Marks (Unit {0}) → declared-write.Write → Type 0
-IsPlaceMarked v x marks w = (z : declared-written.Written) → slice_get v.all.items w.number ≡ Some z → z.place ≡ w.place → HaveOneHome v z.name x → mark_of marks w.place ≢ None
+-- the place of a write is marked, if that is for a name that is so and the place is below a number
+abbrev pub IsPlaceMarked : declared-writers.Writers → (Is : ℕ → Type 0) → (room : ℕ) → declared-marks.Marks (Unit {0}) → declared-write.Write → Type 0
+IsPlaceMarked v Is room marks w = (z : declared-written.Written) → slice_get v.all.items w.number ≡ Some z → z.place ≡ w.place → Is z.name → w.place < room → mark_of marks w.place ≢ None
 
 -- all writes of the home were looked at
-pub marked_all : (v : declared-writers.Writers) (x : ℕ) (marks : declared-marks.Marks (Unit {0})) (list : List declared-write.Write) (k : ℕ) → AreWriters v → AreWritesBy v.all.items (home_key v) (home_key v x) list → length list ≤ k → All (IsPlaceMarked v x marks) (take k list) → AreMarked v x marks
-marked_all v x marks list k writers by le all p y w writes shared =
+pub marked_all : (v : declared-writers.Writers) (x : ℕ) (Is : ℕ → Type 0) (room : ℕ) (marks : declared-marks.Marks (Unit {0})) (list : List declared-write.Write) (k : ℕ) → AreWriters v → AreWritesBy v.all.items (home_key v) (home_key v x) list → length list ≤ k → ((y : ℕ) → Is y → HaveOneHome v y x) → All (IsPlaceMarked v Is room marks) (take k list)
+    → (p y : ℕ) (w : declared-writer.Writer) → Writes v p y w → Is y → p < room → mark_of marks p ≢ None
+marked_all v x Is room marks list k writers by le home all p y w writes is lt =
     let at = member_at v.all.items (record { place = p; name = y; writer = w }) (writers.all p y w writes) in
-    let number = same_number (home_in v.homes.now y) (home_in v.homes.now x) shared in
-    All-contains (IsPlaceMarked v x marks) list (record { place = p; number = at.0 }) (subst (λ (l : List declared-write.Write). All (IsPlaceMarked v x marks) l) (take_whole list k le) all) (by.complete at.0 (record { place = p; name = y; writer = w }) at.1 number)
-    (record { place = p; name = y; writer = w }) at.1 refl shared
+    let number = same_number (home_in v.homes.now y) (home_in v.homes.now x) (home y is) in
+    All-contains (IsPlaceMarked v Is room marks) list (record { place = p; number = at.0 }) (subst (λ (l : List declared-write.Write). All (IsPlaceMarked v Is room marks) l) (take_whole list k le) all) (by.complete at.0 (record { place = p; name = y; writer = w }) at.1 number)
+    (record { place = p; name = y; writer = w }) at.1 refl is lt
+
+-- a place is below a number that is the same
+pub same_room : (p old new : ℕ) → new ≡ old → p < old → p < new
+same_room p old new same lt = omega (arith, same, lt)
 
 -- nothing is in a list that is empty
 pub all_none : {A : Type 0} (P : A → Type 0) (xs : List A) → xs ≡ [] → All P xs
 all_none {A} P xs none k d lt = (let long = ap (λ (ys : List A). length ys) none in absurd (omega (arith, lt, long)))
 
 -- one write more
-pub marked_next : (v : declared-writers.Writers) (x : ℕ) (old new : declared-marks.Marks (Unit {0})) (list : List declared-write.Write) (k : ℕ) (d : declared-write.Write) → k < length list → ((p : ℕ) → mark_of old p ≢ None → mark_of new p ≢ None) → IsPlaceMarked v x new (get_or list k d) → All (IsPlaceMarked v x old) (take k list)
-    → All (IsPlaceMarked v x new) (take (k + 1) list)
-marked_next v x old new list k d lt kept here all =
-    All-more (IsPlaceMarked v x new) list k d lt (All-weaker (IsPlaceMarked v x old) (IsPlaceMarked v x new) (λ w was z at place shared. kept w.place (was z at place shared)) (take k list) all) here
+pub marked_next : (v : declared-writers.Writers) (Is : ℕ → Type 0) (room : ℕ) (old new : declared-marks.Marks (Unit {0})) (list : List declared-write.Write) (k : ℕ) (d : declared-write.Write) → k < length list → ((p : ℕ) → mark_of old p ≢ None → mark_of new p ≢ None) → IsPlaceMarked v Is room new (get_or list k d)
+    → All (IsPlaceMarked v Is room old) (take k list) → All (IsPlaceMarked v Is room new) (take (k + 1) list)
+marked_next v Is room old new list k d lt kept here all =
+    All-more (IsPlaceMarked v Is room new) list k d lt (All-weaker (IsPlaceMarked v Is room old) (IsPlaceMarked v Is room new) (λ w was z at place is small. kept w.place (was z at place is small)) (take k list) all) here
 
 pub bare_next : (v : declared-writers.Writers) (x : ℕ) (old new : declared-marks.Marks (Unit {0})) → ((p : ℕ) → mark_of new p ≢ None → (mark_of old p ≢ None) ⊎ IsHomeWritten v x p) → AreBare v x old → AreBare v x new
 bare_next v x old new only was p some = elim (only p some) [ inl e ↦ was p e | inr is ↦ is ]

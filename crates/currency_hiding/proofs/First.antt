@@ -1,5 +1,5 @@
 -- The first of all that may hide a scalar.
-use Rattle.std.proofs.Common.{◌≡◌, ◌≢◌, inl, inr, ℕ, ◌+◌, ◌-◌, ◌<◌, ◌≤◌, true, false, Option, Some, None, List, [], ◌∷◌, length, get_or, take, refl, sym, ap, subst, ◌∙◌, arith, true≢false}
+use Rattle.std.proofs.Common.{◌≡◌, ◌≢◌, inl, inr, ℕ, ◌+◌, ◌<◌, ◌≤◌, true, false, Option, Some, None, List, [], ◌∷◌, length, get_or, take, refl, sym, ap, subst, ◌∙◌, arith, true≢false}
 use Rattle.std.specs.Prelude.{slice_get, All, Contains, IfSome, IsSomeAnd, is_some, ◌⊎◌}
 use Rattle.std.proofs.lemmas.Bool.Decides.{eqb_tells}
 use Rattle.std.proofs.lemmas.List.Elements.{All-contains, All-more, All-weaker, Contains-get_or}
@@ -36,6 +36,7 @@ use Rattle.currency_hiding.specs.declared.causes.Via as declared-via
 use Rattle.currency_hiding.specs.declared.causes.Causes as declared-causes
 use Rattle.currency_hiding.specs.declared.teller.Teller as declared-teller
 use Rattle.currency_hiding.specs.Changes.{AreFound, AreListed, IsListed, IsNumbered, IsSharing, hides_as, log_of}
+use Rattle.currency_hiding.specs.QuietStarts.{AreQuietStarts}
 use Rattle.currency_hiding.specs.First.{MayBeTold, order_of}
 use Rattle.currency_hiding.specs.Found.{AreAllFound, AreCauses, AreForeign, AreMoreFound, AreMovesFound, AreSharesFound, HasNoneAt, HidesFrom, IsAsked, IsCovered, IsFirstAt, IsForeign, IsMovedTo, IsOfKind, IsReady, IsRemovalFound, IsToldBy, IsViaOf, IsViaTold, IsWayBy, IsWayOf, variable_of}
 use Rattle.currency_hiding.proofs.Asked.{member_at}
@@ -323,5 +324,5 @@ module _ (l : declared-changes.Changes) (s : declared-search.Search) (f : declar
 
 -- the questions are on a scalar
 pub ready_by : (t : declared-teller.Teller) (f : declared-function.Function) (first mid : declared-causes.Causes) → IsAsked t.changes t.search f → AreCauses t.changes t.search f t.causes → ((n : ℕ) → IsRemovalFound t.changes t.search f first.found.items n) → AreMoreFound first mid
-    → ((n : ℕ) → AreMovesFound t.changes t.search f mid.found.items n) → AreMoreFound mid t.causes → ((n : ℕ) → AreSharesFound t.changes t.search f t.causes.found.items n) → IsReady t f
-ready_by t f first mid asked causes removed one moved two reused = record { asked = asked; causes = causes; all = all_by t.changes t.search f first mid t.causes removed one moved two reused }
+    → ((n : ℕ) → AreMovesFound t.changes t.search f mid.found.items n) → AreMoreFound mid t.causes → ((n : ℕ) → AreSharesFound t.changes t.search f t.causes.found.items n) → AreQuietStarts t.changes t.search f t.quiet.starts → IsReady t f
+ready_by t f first mid asked causes removed one moved two reused quiet = record { asked = asked; causes = causes; all = all_by t.changes t.search f first mid t.causes removed one moved two reused; quiet = quiet }

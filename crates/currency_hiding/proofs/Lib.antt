@@ -6,5 +6,8 @@ mod Coming
 pub mod Within
 mod Asked
 mod Found
+mod Barring
+mod QuietLeft
+mod QuietWays
 mod First
 pub mod Same

@@ -1,19 +1,16 @@
 -- Changes by their numbers.
-use Rattle.std.proofs.Common.{◌≡◌, inl, inr, ℕ, ◌+◌, ◌-◌, ◌<◌, ◌≤◌, Bool, true, false, true≢false, Option, Some, None, List, [], ◌∷◌, ◌++◌, length, get_or, take, refl, sym, ap, subst, ◌∙◌, arith}
-use Rattle.std.specs.Prelude.{slice_get, option_map, All, AllPairs, Contains, IfSome, MatchOption, ◌⊎◌, ◌↔◌}
-use Rattle.std.proofs.lemmas.Bool.Decides.{eqb_tells}
+use Rattle.std.proofs.Common.{◌≡◌, inl, inr, ℕ, ◌+◌, ◌-◌, ◌<◌, ◌≤◌, Option, Some, None, List, [], ◌∷◌, ◌++◌, length, get_or, take, refl, sym, ap, subst, ◌∙◌, arith}
+use Rattle.std.specs.Prelude.{slice_get, option_map, All, AllPairs, Contains, IfSome, MatchOption, ◌⊎◌}
 use Rattle.std.proofs.lemmas.List.Elements.{All-contains, All-more, All-push, All-weaker, Contains-append_left, Contains-push}
-use Rattle.std.proofs.lemmas.Option.{none-some, same_Some, slice_get-map, slice_get-get_or}
+use Rattle.std.proofs.lemmas.Option.{none-some, same_Some, slice_get-map}
 use Rattle.debug_records.specs.declared.change.Change.{Change}
 use Rattle.debug_records.specs.declared.change.Kind.{Kind}
-use Rattle.debug_records.specs.declared.change.Kind.TheVariants.{Reused}
-use Rattle.debug_records.specs.Change.{letters}
 use Rattle.graph_core.specs.Graphs.{Logged, logged}
 use Rattle.graph_core.specs.Paths.{Among}
 use Rattle.currency_notes.proofs.Lists.{among_at, take_whole}
 use Rattle.currency_writers.specs.Lists.{entries_of}
 use Rattle.currency_hiding.specs.declared.changes.Changes as declared-changes
-use Rattle.currency_hiding.specs.Changes.{AreFound, AreListed, IsLastSharing, IsListed, IsNotBefore, IsNumbered, IsSharing, hides_as, homes_name, log_of}
+use Rattle.currency_hiding.specs.Changes.{AreFound, AreListed, IsLastSharing, IsListed, IsNotBefore, IsNumbered, IsSharing, hides_as, log_of}
 
 -- a change that is listed has its number in the log
 pub numbered : (c : declared-changes.Changes) (number : ℕ) (d : Change) → IsListed c number d → IsNumbered (log_of c) number (logged d)

@@ -7,11 +7,11 @@ use Rattle.currency_notes.specs.Homes.{home_in}
 use Rattle.currency_writers.specs.declared.writers.Writers as declared-writers
 use Rattle.currency_hiding.specs.declared.function.Function as declared-function
 use Rattle.currency_hiding.specs.declared.teller.Teller as declared-teller
-use Rattle.currency_hiding.specs.declared.causes.Cause as declared-cause
+use Rattle.currency_hiding.specs.declared.hiding.Hiding as declared-hiding
 use Rattle.currency_hiding.specs.First.{Tells}
 use Rattle.currency_hiding.specs.Found.{IsSameFunction, IsSameTeller, TellsBy, TellsFor}
 
-pub tells_same : (t u : declared-teller.Teller) (f h : declared-function.Function) (x variable p : ℕ) (c : declared-cause.Cause) → IsSameTeller t u → IsSameFunction f h → h.scalar ≡ x → u.search.flow.var.0 ≡ variable → TellsFor u h p c → TellsBy t f.writers x variable p c
+pub tells_same : (t u : declared-teller.Teller) (f h : declared-function.Function) (x variable p : ℕ) (c : declared-hiding.Hiding) → IsSameTeller t u → IsSameFunction f h → h.scalar ≡ x → u.search.flow.var.0 ≡ variable → TellsFor u h p c → TellsBy t f.writers x variable p c
 tells_same t u f h x variable p c teller function scalar var hides =
     subst (λ v. Tells (map logged t.changes.all.now) t.search.flow.table.now (home_in f.writers.homes.now) f.writers.function (graph_view f.writers.graph.now) x v p c) var
     (subst (λ y. Tells (map logged t.changes.all.now) t.search.flow.table.now (home_in f.writers.homes.now) f.writers.function (graph_view f.writers.graph.now) y u.search.flow.var.0 p c) scalar

@@ -1,16 +1,19 @@
 -- Which of all that may hide a scalar at a place is told: the first.
-use Rattle.std.specs.Prelude.{◌≡◌, ℕ, ◌≤◌, true, List, [], ◌∷◌}
+use Rattle.std.specs.Prelude.{◌≡◌, ℕ, ◌≤◌, true, option_map, List, [], ◌∷◌}
 use Rattle.places.specs.declared.flow.FlowTable.{FlowTable}
 use Rattle.places.specs.Flow.{assigns}
 use Rattle.debug_records.specs.Change.{letters}
+use Rattle.debug_records.specs.declared.change.Place.{Place}
 use Rattle.debug_records.specs.declared.change.Kind.TheVariants.{Reused}
 use Rattle.graph_homes.specs.declared.home.Home.{Home}
 use Rattle.graph_core.specs.Graphs.{Graph, Logged}
 use Rattle.currency_writers.specs.Order.{IsNoLater, rank_of}
 use Rattle.currency_hiding.specs.declared.causes.Cause as declared-cause
 use Rattle.currency_hiding.specs.declared.causes.Cause.TheVariants as cause
+use Rattle.currency_hiding.specs.declared.hiding.Hiding as declared-hiding
 use Rattle.currency_hiding.specs.Changes.{IsNumbered, homes_name}
 use Rattle.currency_hiding.specs.Evidence.{HasRoute, Hides, IsBareRemoval, IsMovedWrite, IsReusedWrite}
+use Rattle.currency_hiding.specs.Quiet.{IsLeastQuiet}
 
 -- THE ORDER in which causes are told, with the place by which their ways lead: removals by the numbers of their changes; then moved computations by the numbers of theirs, by the
 -- starts of their ways, by the places that they lead by, and by what writes there; then what writes a register that was given to other names too, by starts, places and writers.
@@ -53,6 +56,7 @@ module _ (log : List Logged) (flow : FlowTable) (home : ℕ → Home) (f : ℕ) 
   abbrev pub HasNone : (stop : ℕ) → Type 0
   HasNone stop = (d : declared-cause.Cause) (by : ℕ) → MayBeTold stop by d → ⊥
 
-  -- TOLD: a cause hides the scalar at a place, and is the first that may be told there.
-  abbrev pub Tells : (stop : ℕ) → declared-cause.Cause → Type 0
-  Tells stop c = Hides log flow home f g x variable stop c × IsFirst stop c
+  -- TOLD: a cause hides the scalar at a place, and is the first that may be told there; and the place beside it is the least at which a quiet path to there begins, or there is none.
+  abbrev pub Tells : (stop : ℕ) → declared-hiding.Hiding → Type 0
+  Tells stop h =
+      Hides log flow home f g x variable stop h.cause × IsFirst stop h.cause × IsLeastQuiet log flow home f g x variable stop (option_map (λ (p : Place). p.0) h.quiet)

@@ -22,11 +22,13 @@ use Rattle.currency_hiding.specs.declared.causes.Cause.TheVariants as cause
 use Rattle.currency_hiding.specs.declared.causes.Found as declared-found
 use Rattle.currency_hiding.specs.declared.causes.Via as declared-via
 use Rattle.currency_hiding.specs.declared.causes.Causes as declared-causes
+use Rattle.currency_hiding.specs.declared.hiding.Hiding as declared-hiding
 use Rattle.currency_writers.specs.Order.{IsNoLater}
 use Rattle.currency_writers.specs.Writers.{AreWriters, HaveOneHome, IsWriter, Writes}
 use Rattle.currency_writers.specs.Copies.{AreCopies}
 use Rattle.currency_hiding.specs.Changes.{AreListed, IsListed, hides_as, log_of}
 use Rattle.currency_hiding.specs.Evidence.{Hides, IsBareRemoval, IsMovedWrite, IsReusedWrite}
+use Rattle.currency_hiding.specs.QuietStarts.{AreQuietStarts, HasQuietRoom}
 use Rattle.currency_hiding.specs.First.{HasNone, IsFirst, IsLastShared, Tells, order_of}
 
 -- The names of a function are written in places below a number.
@@ -226,17 +228,19 @@ module _ (l : declared-changes.Changes) (s : declared-search.Search) (f : declar
 abbrev pub AreMoreFound : (old new : declared-causes.Causes) → Type 0
 AreMoreFound old new = (z : declared-found.Found) → Contains old.found.items z → Contains new.found.items z
 
--- The questions of a unit are on a scalar of a function, and what is found is all that hides it.
+-- The questions of a unit are on a scalar of a function; what is found is all that hides it, and where its quiet paths begin.
 pub record IsReady (t : declared-teller.Teller) (f : declared-function.Function) : Type 0 where
   pub asked : IsAsked t.changes t.search f
   pub causes : AreCauses t.changes t.search f t.causes
   pub all : AreAllFound t.changes t.search f t.causes.found.items
+  pub quiet : AreQuietStarts t.changes t.search f t.quiet.starts
 
 -- Questions on a unit: its changes are listed, and the places of its program are searched and may be told of.
 pub record IsTeller (t : declared-teller.Teller) : Type 0 where
   pub changes : AreListed t.changes
   pub search : IsSearch t.search
   pub room : HasRoom t.search.flow t.causes.told
+  pub quiet : HasQuietRoom t.search t.quiet
 
 -- EVIDENCE by what is known of a unit and of what writes a function's names.
 abbrev pub HidesBy : declared-teller.Teller → declared-writers.Writers → (x variable p : ℕ) → declared-cause.Cause → Type 0
@@ -258,9 +262,9 @@ abbrev pub HidesFor : declared-teller.Teller → declared-function.Function → 
 HidesFor t f p c = HidesAt t.changes t.search f p c
 
 -- what is told by what is known of a unit and of what writes a function's names
-abbrev pub TellsBy : declared-teller.Teller → declared-writers.Writers → (x variable p : ℕ) → declared-cause.Cause → Type 0
+abbrev pub TellsBy : declared-teller.Teller → declared-writers.Writers → (x variable p : ℕ) → declared-hiding.Hiding → Type 0
 TellsBy t w x variable p c = Tells (log_of t.changes) t.search.flow.table.now (home_in w.homes.now) w.function (graph_view w.graph.now) x variable p c
 
 -- what is told by the questions of a unit on a scalar of a function
-abbrev pub TellsFor : declared-teller.Teller → declared-function.Function → (p : ℕ) → declared-cause.Cause → Type 0
+abbrev pub TellsFor : declared-teller.Teller → declared-function.Function → (p : ℕ) → declared-hiding.Hiding → Type 0
 TellsFor t f p c = TellsBy t f.writers f.scalar t.search.flow.var.0 p c

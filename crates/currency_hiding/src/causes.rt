@@ -329,8 +329,7 @@ impl Causes {
     }
 
     /// Changes that moved computations of the scalar's value, with what writes its home for the temporaries that keep
-    /// them. They are told behind those that removed
-    /// assignments.
+    /// them. They are told behind those that removed assignments.
     pub fn add_moved(&mut self, alloc: Global, question: Question<'_>) -> Result<(), AllocError>
         requires asked { IsAsked question.changes.now question.search.now question.function.now }
         requires next { AreToldBefore self.old.found.items (1 ∷ []) }

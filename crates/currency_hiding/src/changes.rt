@@ -131,8 +131,7 @@ impl<'a> Changes<'a> {
     }
 
     /// The last of two numbers of changes, of which the first one is so already, if there is one, and the other one if
-    /// it is of a change by which the assignment of
-    /// homes gave the register of a variable to other names too.
+    /// it is of a change by which the assignment of homes gave the register of a variable to other names too.
     fn last_of(&self, found: Option<u32>, number: u32, var: Var) -> Option<u32>
         requires { IfSome found (λ n. IsSharing self.now var.0 n) }
         ensures is { IfSome result (λ n. IsSharing self.now var.0 n) }

@@ -33,14 +33,16 @@ pub struct Function<'a> {
     pub own: Marks<()>,
 }
 
-/// A place or name is marked from here on.
-fn mark_one(marks: &mut Marks<()>, place: u32)
-    requires { place < room_of marks.old }
+/// A place or name is marked from here on, if it may be.
+pub fn mark_one(marks: &mut Marks<()>, place: u32)
     ensures only { (p : ℕ) → mark_at marks.new p ≢ None → (mark_at marks.old p ≢ None) ⊎ (p ≡ place) }
     ensures kept { (p : ℕ) → mark_at marks.old p ≢ None → mark_at marks.new p ≢ None }
-    ensures there { mark_at marks.new place ≢ None }
+    ensures there { place < room_of marks.old → mark_at marks.new place ≢ None }
     ensures room { room_of marks.new ≡ room_of marks.old }
 {
+    if !marks.has_room(place) {
+        return;
+    }
     marks.put(place, ());
 }
 
@@ -58,15 +60,15 @@ fn is_of_home(writers: &Writers<'_>, scalar: u32, write: Write) -> bool
     }
 }
 
-/// The place of a write is marked, if it is one of the home of a scalar.
+/// The place of a write is marked, if it is one of the home of a scalar and may be marked.
 fn mark_home(writers: &Writers<'_>, scalar: u32, write: Write, marks: &mut Marks<()>)
-    requires writers { AreWriters writers.now }
-    requires placed { ArePlaced writers.now.function (graph_view writers.now.graph.now) (room_of marks.old) }
+    requires { AreWriters writers.now }
     ensures only { (p : ℕ) → mark_at marks.new p ≢ None → (mark_at marks.old p ≢ None)
         ⊎ IsHomeWritten writers.entry.now scalar p }
     ensures kept { (p : ℕ) → mark_at marks.old p ≢ None → mark_at marks.new p ≢ None }
     ensures there { (z : declared-written.Written) → slice_get writers.entry.now.all.items write.number ≡ Some z
-        → z.place ≡ write.place → HaveOneHome writers.entry.now z.name scalar → mark_at marks.new write.place ≢ None }
+        → z.place ≡ write.place → HaveOneHome writers.entry.now z.name scalar → write.place < room_of marks.old
+        → mark_at marks.new write.place ≢ None }
     ensures room { room_of marks.new ≡ room_of marks.old }
 {
     if !is_of_home(writers, scalar, write) {
@@ -75,15 +77,13 @@ fn mark_home(writers: &Writers<'_>, scalar: u32, write: Write, marks: &mut Marks
     mark_one(marks, write.place);
 }
 
-/// The places are marked where the home of a scalar is written.
-fn mark_homes(writers: &Writers<'_>, scalar: u32, marks: &mut Marks<()>)
+/// The places are marked where the home of a scalar is written, as far as they may be.
+pub fn mark_homes(writers: &Writers<'_>, scalar: u32, marks: &mut Marks<()>)
     requires writers { AreWriters writers.now }
-    requires placed { ArePlaced writers.now.function (graph_view writers.now.graph.now) (room_of marks.old) }
     requires none { (p : ℕ) → mark_at marks.old p ≡ None }
     ensures only { (p : ℕ) → mark_at marks.new p ≢ None → IsHomeWritten writers.entry.now scalar p }
     ensures marked { (p y : ℕ) (w : declared-writer.Writer) → Writes writers.entry.now p y w
-        → HaveOneHome writers.entry.now y scalar
-        → mark_at marks.new p ≢ None }
+        → HaveOneHome writers.entry.now y scalar → p < room_of marks.old → mark_at marks.new p ≢ None }
     ensures room { room_of marks.new ≡ room_of marks.old }
 {
     for write in writers.of_home(scalar) {

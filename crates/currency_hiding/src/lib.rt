@@ -5,9 +5,12 @@
 mod causes;
 mod changes;
 mod function;
+mod hiding;
 mod question;
+mod quiet;
 mod teller;
 
 pub use causes::Cause;
 pub use function::Function;
+pub use hiding::Hiding;
 pub use teller::Teller;

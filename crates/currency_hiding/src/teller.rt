@@ -1,15 +1,18 @@
 //! What hides the scalars of a unit, one after the other.
 
-ghost use Rattle.std.specs.Prelude.{◌≡◌, ◌<◌, IfOk, OnOk, length};
+ghost use Rattle.std.specs.Prelude.{◌≡◌, ◌<◌, IfOk, OnOk, length, option_map};
+ghost use Rattle.currency_writers.specs.Marks.{mark_at};
 ghost use Rattle.debug_records.specs.Numbers.{AreNumbered};
 ghost use Rattle.graph_core.specs.Graphs.{graph_view};
 ghost use Rattle.currency_writers.specs.Flow.{IsFlowOfPlaces};
-ghost use Rattle.currency_hiding.specs.Found.{HasNoneAt, HidesAt, IsFirstAt, IsFunction, IsReady, IsSameFunction, IsSameTeller, IsTeller};
+ghost use Rattle.currency_hiding.specs.Found.{HasNoneAt, IsFunction, IsReady, IsSameFunction, IsSameTeller, IsTeller, TellsFor};
 
-use crate::causes::{Cause, Causes};
+use crate::causes::Causes;
 use crate::changes::Changes;
 use crate::function::Function;
+use crate::hiding::Hiding;
 use crate::question::Question;
+use crate::quiet::Quiet;
 use currency_writers::Search;
 use debug_records::{Change, Place, Var};
 use places::FlowTable;
@@ -21,6 +24,7 @@ pub struct Teller<'a> {
     changes: Changes<'a>,
     search: Search<'a>,
     causes: Causes,
+    quiet: Quiet,
 }
 
 impl<'a> Teller<'a> {
@@ -41,10 +45,12 @@ impl<'a> Teller<'a> {
         let changes = Changes::new(alloc, changes)?;
         let search = Search::new(alloc, flow, places)?;
         let causes = Causes::new(alloc, places)?;
+        let quiet = Quiet::new(alloc, places)?;
         Ok(Teller {
             changes,
             search,
             causes,
+            quiet,
         })
     }
 
@@ -76,21 +82,35 @@ impl<'a> Teller<'a> {
         self.causes.add_removed(alloc, question)?;
         self.causes.add_moved(alloc, question)?;
         self.causes.add_reused(alloc, question)?;
+        self.quiet.turn_to(alloc, question)?;
         Ok(())
     }
 
-    /// What hides the scalar of the function at a place where something does, the first that does.
-    pub fn cause_at(&self, function: &Function<'_>, place: Place) -> Cause
+    /// What is told of the scalar of the function at a place where something hides it: the first that does, and the
+    /// least place at which a quiet path begins.
+    pub fn hiding_at(&self, function: &Function<'_>, place: Place) -> Hiding
         requires ready { IsReady self.now function.now }
         requires hidden { HasNoneAt self.now.changes self.now.search function.now place.0 → ⊥ }
-        ensures hides { HidesAt self.now.changes self.now.search function.now place.0 result }
-        ensures first { IsFirstAt self.now.changes self.now.search function.now place.0 result }
+        ensures { TellsFor self.now function.now place.0 result }
     {
         let question = Question {
             changes: &self.changes,
             search: &self.search,
             function,
         };
-        self.causes.at(question, place.0)
+        Hiding {
+            cause: self.causes.at(question, place.0),
+            quiet: self.quiet_at(place),
+        }
+    }
+
+    /// The least place at which a quiet path of the scalar to a place begins, if there is one.
+    fn quiet_at(&self, place: Place) -> Option<Place>
+        ensures { option_map (λ p. p.0) result ≡ mark_at self.now.quiet.starts place.0 }
+    {
+        match self.quiet.at(place.0) {
+            Some(start) => Some(Place(start)),
+            None => None,
+        }
     }
 }

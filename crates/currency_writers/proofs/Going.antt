@@ -8,10 +8,7 @@ use Rattle.places.specs.Flow.{IsAssignmentBefore, can_go, assigns}
 use Rattle.std.proofs.lemmas.List.{get_or_default}
 use Rattle.std.proofs.lemmas.List.Elements.{All-more, All-weaker}
 use Rattle.currency_writers.specs.declared.lists.Lists as declared-lists
-use Rattle.currency_writers.specs.declared.flow.Flow as declared-flow
 use Rattle.currency_writers.specs.Lists.{entries_of}
-use Rattle.currency_writers.specs.Ways.{at_once, on}
-use Rattle.currency_writers.specs.Flow.{ComesOn, IsAhead}
 use Rattle.base_laws.proofs.Booleans.{and_all as both, and_left, and_right, or_right_again as or_right}
 
 pub take_whole : {X : Type 0} (xs : List X) (k : ℕ) → length xs ≤ k → take k xs ≡ xs
@@ -49,13 +46,6 @@ pub assigns_found : (all : List Assignment) (p x : ℕ) → assigns all p x ≡ 
 assigns_found all p x e =
     let f = any_found (λ (a : Assignment). a.place.0 == p && a.var.0 == x) all e in
     (f.0, f.1, f.2, f.3, eqb-true f.0.place.0 p (and_left (f.0.place.0 == p) (f.0.var.0 == x) f.4), eqb-true f.0.var.0 x (and_right (f.0.place.0 == p) (f.0.var.0 == x) f.4))
-
--- one step more
-pub come_next : (f : declared-flow.Flow) (from q p : ℕ) → IsAhead f from q → can_go f.table.now.steps.items q p ≡ true → ComesOn f from p
-come_next f from q p ahead goes = elim ahead [
-  | inl e ↦ at_once (subst (λ n. can_go f.table.now.steps.items n p ≡ true) e goes)
-  | inr c ↦ on c.0 c.1 goes
-]
 
 -- each place that assigns a variable is in its list
 pub assigning_all : (all : List Assignment) (assigning : declared-lists.Lists) (k : ℕ) → length all ≤ k → All (λ (a : Assignment). Contains (entries_of assigning a.var.0) a.place.0) (take k all) → (x p : ℕ) → assigns all p x ≡ true → Contains (entries_of assigning x) p

@@ -1,9 +1,9 @@
 pub mod Pushing
 pub mod Entering
+mod Flooding
 mod Going
 mod Marking
 mod Telling
-mod Closing
 pub mod Routes
 mod Copied
 pub mod Order

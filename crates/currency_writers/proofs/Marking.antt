@@ -23,13 +23,14 @@ only_next first old new list k d value lt before put p some = elim (put p) [
   | inr r ↦ inr (subst (λ n. Contains list n) (sym r.0) (Contains-get_or list k d lt))
 ]
 
+-- what is marked stays so as one place more is
+pub kept_next : {T : Type 0} (old new : declared-marks.Marks T) (place : ℕ) (value : T) → ((p : ℕ) → (mark_at new p ≡ mark_at old p) ⊎ ((p ≡ place) × (mark_at new p ≡ Some value))) → (p : ℕ) → mark_at old p ≢ None → mark_at new p ≢ None
+kept_next old new place value put p some = elim (put p) [ inl e ↦ (λ q. some (sym e ∙ q)) | inr r ↦ some_not (mark_at new p) value r.1 ]
+
 pub all_next : {T : Type 0} (old new : declared-marks.Marks T) (list : List ℕ) (k d place : ℕ) (value : T) → k < length list → ((p : ℕ) → (mark_at new p ≡ mark_at old p) ⊎ ((p ≡ place) × (mark_at new p ≡ Some value))) → All (λ p. mark_at old p ≢ None) (take k list)
     → mark_at new (get_or list k d) ≢ None → All (λ p. mark_at new p ≢ None) (take (k + 1) list)
 all_next old new list k d place value lt put all here =
-    All-more (λ p. mark_at new p ≢ None) list k d lt (All-weaker (λ p. mark_at old p ≢ None) (λ p. mark_at new p ≢ None) kept (take k list) all) here
-  where
-    kept : (p : ℕ) → mark_at old p ≢ None → mark_at new p ≢ None
-    kept p some = elim (put p) [ inl e ↦ (λ q. some (sym e ∙ q)) | inr r ↦ some_not (mark_at new p) value r.1 ]
+    All-more (λ p. mark_at new p ≢ None) list k d lt (All-weaker (λ p. mark_at old p ≢ None) (λ p. mark_at new p ≢ None) (kept_next old new place value put) (take k list) all) here
 
 pub all_done : {T : Type 0} (marks : declared-marks.Marks T) (list : List ℕ) (k : ℕ) → length list ≤ k → All (λ p. mark_at marks p ≢ None) (take k list) → All (λ p. mark_at marks p ≢ None) list
 all_done marks list k le all = subst (λ (xs : List ℕ). All (λ p. mark_at marks p ≢ None) xs) (take_whole list k le) all

@@ -1,70 +1,75 @@
--- Places that get numbers.
-use Rattle.std.proofs.Common.{◌≡◌, ◌≢◌, inl, inr, ℕ, ◌<◌, ◌≤◌, true, None, Option, Some, List, [], ◌∷◌, ◌++◌, length, get_or, refl, sym, ap, subst, ◌∙◌, arith}
-use Rattle.std.specs.Prelude.{All, Contains, ◌⊎◌}
-use Rattle.std.proofs.lemmas.List.Elements.{All-contains, All-push, Contains-get_or}
-use Rattle.std.proofs.lemmas.Option.{same_Some}
+-- What assigns a variable is marked, and the ways of a flow are those on which nothing assigns it.
+use Rattle.std.proofs.Common.{◌≡◌, ◌≢◌, inl, inr, ℕ, ◌<◌, ◌≤◌, Bool, true, false, None, Option, Some, List, get_or, refl, sym, subst, ◌∙◌, true≢false, arith}
+use Rattle.std.specs.Prelude.{All, Contains, is_some, ◌⊎◌, ◌↔◌}
+use Rattle.std.specs.List.Sorted.{IsNonDecreasing}
+use Rattle.std.proofs.lemmas.List.Elements.{All-contains, Contains-get_or}
+use Rattle.places.specs.declared.flow.FlowStep.{FlowStep}
+use Rattle.places.specs.Flow.{can_go}
 use Rattle.currency_writers.specs.declared.flow.Flow as declared-flow
+use Rattle.currency_writers.specs.declared.lists.Lists as declared-lists
 use Rattle.currency_writers.specs.declared.marks.Marks as declared-marks
+use Rattle.currency_writers.specs.declared.ways.Ways as declared-ways
 use Rattle.currency_writers.specs.Lists.{entries_of}
 use Rattle.currency_writers.specs.Marks.{mark_at, room_of}
-use Rattle.currency_writers.specs.Flow.{AreAssigning, AreStarts, assigned, ComesOn, IsAhead, IsBlocked, IsFlow, IsToldFrom}
-use Rattle.currency_writers.proofs.Entering.{none_tells}
-use Rattle.currency_writers.proofs.Going.{come_next}
-use Rattle.base_laws.proofs.Booleans.{by_bool}
+use Rattle.currency_writers.specs.Ways.{Comes, at_once, on}
+use Rattle.currency_writers.specs.Flow.{AreAssigning, AreFollowing, AreLeast, AreStarts, AreTold, assigned, ComesOn, HasRoom, IsBlocked, IsClosed, IsFlow, IsToldFrom}
+use Rattle.currency_writers.specs.Flooding.{AreLeastOf, AreReached, AreStartsOf, AreWays, IsReachedFrom, IsShut, LeadsTo, is_blocked}
 
-is_none : {A : Type 0} (o : Option A) → (o ≢ None → ⊥) → o ≡ None
-is_none o none = elim (none_tells o) [ inl e ↦ e | inr e ↦ absurd (none e) ]
+-- what is so of each place by one test is so by another one
+pub comes_by : (steps : List FlowStep) (one other : ℕ → Bool) → ((q : ℕ) → one q ≡ other q) → (from : ℕ) {p : ℕ} → Comes steps one from p → Comes steps other from p
+comes_by steps one other same from (at_once goes) = at_once goes
+comes_by steps one other same from (on {q = q} comes free goes) = on (comes_by steps one other same from comes) (sym (same q) ∙ free) goes
 
-module _ {T : Type 0} (f : declared-flow.Flow) (from : ℕ) (value : T) where
-  pub told_same : (m : declared-marks.Marks T) → IsToldFrom f from value m m
-  told_same m p = inl refl
+-- a place is marked as one that assigns the variable exactly where it does
+marked_so : (b : Bool) (o : Option (Unit {0})) → (o ≢ None → b ≡ true) → (b ≡ true → o ≢ None) → is_some o ≡ b
+marked_so true None one other = absurd (other refl refl)
+marked_so true (Some u) one other = refl
+marked_so false None one other = refl
+marked_so false (Some u) one other = absurd (true≢false (sym (one (λ e. cc))))
 
-  pub told_on : (a b c : declared-marks.Marks T) → IsToldFrom f from value a b → IsToldFrom f from value b c → IsToldFrom f from value a c
-  told_on a b c one two p = elim (two p) [
-    | inl e ↦ elim (one p) [ inl g ↦ inl (e ∙ g) | inr r ↦ inr (r.0, e ∙ r.1, r.2) ]
-    | inr r ↦ elim (one p) [ inl g ↦ inr (sym g ∙ r.0, r.1, r.2) | inr q ↦ inr (q.0, r.1, r.2) ]
-  ]
+-- given: a flow with the places that assign its variable marked, and its ways past these
+module _ (f : declared-flow.Flow) (w : declared-ways.Ways) (blocked : IsBlocked f) (steps : w.steps.now ≡ f.table.now.steps.items) (marks : w.blocked.now ≡ f.assigns) where
+  blocked_is : (q : ℕ) → is_blocked w q ≡ assigned f q
+  blocked_is q = subst (λ (m : declared-marks.Marks (Unit {0})). is_some (mark_at m q) ≡ assigned f q) (sym marks) (marked_so (assigned f q) (mark_at f.assigns q) (blocked.marked q) (blocked.all q))
 
-  pub told_put : (old new : declared-marks.Marks T) (place : ℕ) → ComesOn f from place → (mark_at old place ≢ None → ⊥) → ((p : ℕ) → (mark_at new p ≡ mark_at old p) ⊎ ((p ≡ place) × (mark_at new p ≡ Some value))) → IsToldFrom f from value old new
-  told_put old new place comes none put p = elim (put p) [
-    | inl e ↦ inl e
-    | inr r ↦ inr (ap (λ q. mark_at old q) r.0 ∙ is_none (mark_at old place) none, r.1, subst (λ q. ComesOn f from q) (sym r.0) comes)
-  ]
+  leads_comes : (from p : ℕ) → LeadsTo w from p → ComesOn f from p
+  leads_comes from p leads = comes_by f.table.now.steps.items (λ q. is_blocked w q) (λ q. assigned f q) blocked_is from (subst (λ (s : List FlowStep). Comes s (λ q. is_blocked w q) from p) steps leads)
 
-  -- a place that has a number keeps it
-  pub told_kept : (old new : declared-marks.Marks T) → IsToldFrom f from value old new → (p : ℕ) → mark_at old p ≢ None → mark_at new p ≡ mark_at old p
-  told_kept old new told p some = elim (told p) [ inl e ↦ e | inr r ↦ absurd (some r.0) ]
+  comes_leads : (from p : ℕ) → ComesOn f from p → LeadsTo w from p
+  comes_leads from p comes = subst (λ (s : List FlowStep). Comes s (λ q. is_blocked w q) from p) (sym steps) (comes_by f.table.now.steps.items (λ q. assigned f q) (λ q. is_blocked w q) (λ q. sym (blocked_is q)) from comes)
 
-  pub some_kept : (old new : declared-marks.Marks T) → IsToldFrom f from value old new → (p : ℕ) → mark_at old p ≢ None → mark_at new p ≢ None
-  some_kept old new told p some e = some (sym (told_kept old new told p some) ∙ e)
+  pub told_from : {T : Type 0} (from : ℕ) (value : T) (old new : declared-marks.Marks T) → IsReachedFrom w from value old new → IsToldFrom f from value old new
+  told_from from value old new reached p = elim (reached p) [ inl e ↦ inl e | inr r ↦ inr (r.0, r.1, leads_comes from p r.2) ]
 
-module _ (f : declared-flow.Flow) (from : ℕ) where
-  -- a place that is not marked does not assign the variable
-  pub ahead_more : (ahead : List ℕ) (place : ℕ) → IsBlocked f → ComesOn f from place → (mark_at f.assigns place ≢ None → ⊥) → All (λ q. IsAhead f from q) ahead → All (λ q. IsAhead f from q) (ahead ++ (place ∷ []))
-  ahead_more ahead place blocked comes free all =
-      All-push (λ q. IsAhead f from q) ahead place all (inr (comes, by_bool (assigned f place) (λ e. absurd (free (blocked.all place e))) (λ e. e)))
+  pub shut_of : {T : Type 0} (told : declared-marks.Marks T) → IsClosed f told → IsShut w told
+  shut_of told closed q some free p goes = closed q some (sym (blocked_is q) ∙ free) p (subst (λ (s : List FlowStep). can_go s q p ≡ true) steps goes)
 
-  -- to the places of the list of one execution may go on
-  pub come_on : (next : ℕ) (list : List ℕ) (k d : ℕ) → IsFlow f → IsAhead f from next → list ≡ entries_of f.after next → k < length list → ComesOn f from (get_or list k d)
-  come_on next list k d flow ahead is lt =
-      come_next f from next (get_or list k d) ahead (flow.after.sound next (get_or list k d) (subst (λ xs. Contains xs (get_or list k d)) is (Contains-get_or list k d lt)))
+  pub closed_of : {T : Type 0} (told : declared-marks.Marks T) → IsShut w told → IsClosed f told
+  closed_of told shut q some free p goes = shut q some (blocked_is q ∙ free) p (subst (λ (s : List FlowStep). can_go s q p ≡ true) (sym steps) goes)
 
--- such places may be marked
-pub come_within : (f : declared-flow.Flow) (next : ℕ) (list : List ℕ) (k d room there : ℕ) → IsFlow f → list ≡ entries_of f.after next → room_of f.assigns ≤ room → k < length list → there ≡ room → get_or list k d < there
-come_within f next list k d room there flow is le lt same =
-    (let one = get_or list k d in
-    let inside : one < room_of f.assigns = flow.places.to next one (flow.after.sound next one (subst (λ xs. Contains xs one) is (Contains-get_or list k d lt))) in
-    omega (arith, inside, le, same))
+  pub told_of : {T : Type 0} (from : ℕ) (told : declared-marks.Marks T) → AreReached w from told → AreTold f from told
+  told_of from told all p comes = all p (comes_leads from p comes)
 
--- one start more
-pub starts_next : (f : declared-flow.Flow) (old new : declared-marks.Marks ℕ) (list : List ℕ) (k d : ℕ) → IsFlow f → list ≡ entries_of f.assigning f.var.0 → k < length list → AreStarts f old → IsToldFrom f (get_or list k d) (get_or list k d) old new → AreStarts f new
-starts_next f old new list k d flow is lt before told p start at = elim (told p) [
-  | inl e ↦ before p start (sym e ∙ at)
-  | inr r ↦ (let one = get_or list k d in
-      let same : one ≡ start = same_Some one start (sym r.1 ∙ at) in
-      let assigning : assigned f one ≡ true = flow.assigning.sound f.var.0 one (subst (λ xs. Contains xs one) is (Contains-get_or list k d lt)) in
-      (subst (λ n. assigned f n ≡ true) same assigning, subst (λ n. ComesOn f n p) same r.2))
-]
+  pub starts_of : (list : List ℕ) (starts : declared-marks.Marks ℕ) → IsFlow f → list ≡ entries_of f.assigning f.var.0 → AreStartsOf w list starts → AreStarts f starts
+  starts_of list starts flow is all p start at = (let one = all p start at in (flow.assigning.sound f.var.0 start (subst (λ xs. Contains xs start) is one.0), leads_comes start p one.1))
+
+  pub least_of : (list : List ℕ) (starts : declared-marks.Marks ℕ) → IsFlow f → list ≡ entries_of f.assigning f.var.0 → AreLeastOf w list starts → AreLeast f starts
+  least_of list starts flow is all start p assigns comes = all start p (subst (λ xs. Contains xs start) (sym is) (flow.assigning.all f.var.0 start assigns)) (comes_leads start p comes)
+
+-- THE WAYS of a flow past places that are marked, where each place of the flow may be
+pub ways_past : (f : declared-flow.Flow) (w : declared-ways.Ways) → IsFlow f → HasRoom f w.blocked.now → w.steps.now ≡ f.table.now.steps.items → w.after.now ≡ f.after → AreWays w
+ways_past f w flow room steps after = record {
+  after = subst (λ (l : declared-lists.Lists). AreFollowing w.steps.now l) (sym after) (subst (λ (s : List FlowStep). AreFollowing s f.after) (sym steps) flow.after);
+  from = λ p q goes. (let small = flow.places.from p q (subst (λ (s : List FlowStep). can_go s p q ≡ true) steps goes) in omega (arith, small, room));
+  to = λ p q goes. (let small = flow.places.to p q (subst (λ (s : List FlowStep). can_go s p q ≡ true) steps goes) in omega (arith, small, room));
+}
+
+-- the list of the variable has the places that assign it, in order
+pub assigning_so : (f : declared-flow.Flow) (list : List ℕ) → IsFlow f → list ≡ entries_of f.assigning f.var.0 → (p : ℕ) → Contains list p ↔ (assigned f p ≡ true)
+assigning_so f list flow is p = (λ there. flow.assigning.sound f.var.0 p (subst (λ xs. Contains xs p) is there), λ e. subst (λ xs. Contains xs p) (sym is) (flow.assigning.all f.var.0 p e))
+
+pub assigning_ascends : (f : declared-flow.Flow) (list : List ℕ) → IsFlow f → list ≡ entries_of f.assigning f.var.0 → IsNonDecreasing list
+assigning_ascends f list flow is = subst (λ (xs : List ℕ). IsNonDecreasing xs) (sym is) (flow.ordered f.var.0)
 
 -- the places that assign a variable may be marked
 pub assigning_within : (f : declared-flow.Flow) (x : ℕ) (list : List ℕ) (room : ℕ) → IsFlow f → list ≡ entries_of f.assigning x → room ≡ room_of f.assigns → All (λ p. p < room) list

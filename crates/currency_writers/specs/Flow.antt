@@ -1,5 +1,5 @@
 -- The flow of a program as a search has it, for one variable.
-use Rattle.std.specs.Prelude.{◌≡◌, ◌≢◌, ◌⊎◌, ℕ, ◌<◌, ◌≤◌, Bool, true, false, List, ◌++◌, AllPairs, Contains, IsSomeAnd, None, Some}
+use Rattle.std.specs.Prelude.{◌≡◌, ◌≢◌, ◌⊎◌, ℕ, ◌<◌, ◌≤◌, Bool, true, false, List, AllPairs, Contains, IsSomeAnd, None, Some}
 use Rattle.std.specs.List.Sorted.{IsNonDecreasing}
 use Rattle.places.specs.declared.flow.FlowStep.{FlowStep}
 use Rattle.places.specs.declared.flow.Assignment.{Assignment}
@@ -54,10 +54,6 @@ module _ (f : declared-flow.Flow) where
     pub marked : (p : ℕ) → mark_at f.assigns p ≢ None → assigned p ≡ true
     pub all : (p : ℕ) → assigned p ≡ true → mark_at f.assigns p ≢ None
 
-  -- Execution may go on from a place: it is the one from which the ways begin, or they come to it and it does not assign the variable.
-  abbrev pub IsAhead : (from q : ℕ) → Type 0
-  IsAhead from q = (q ≡ from) ⊎ (ComesOn from q × (assigned q ≡ false))
-
   -- A place that is marked is so with one that assigns the variable, and from which execution may come there.
   abbrev pub AreStarts : declared-marks.Marks ℕ → Type 0
   AreStarts starts = (p start : ℕ) → mark_at starts p ≡ Some start → (assigned start ≡ true) × ComesOn start p
@@ -81,9 +77,3 @@ module _ (f : declared-flow.Flow) where
   -- From a place that is marked and does not assign the variable execution may go on to such alone as are marked.
   abbrev pub IsClosed : {T : Type 0} → declared-marks.Marks T → Type 0
   IsClosed told = (q : ℕ) → mark_at told q ≢ None → assigned q ≡ false → AreNextTold q told
-
-  -- Places to go on from were added behind the others: all that were marked and do not assign the variable are among them.
-  pub record AreMoreAhead {T : Type 0} (old new : declared-marks.Marks T) (before after : List ℕ) : Type 0 where
-    pub rest : List ℕ
-    pub is : after ≡ before ++ rest
-    pub all : (p : ℕ) → mark_at old p ≡ None → mark_at new p ≢ None → assigned p ≡ false → Contains after p

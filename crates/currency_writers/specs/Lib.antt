@@ -3,6 +3,7 @@ pub mod Entries
 pub mod Marks
 pub mod Ways
 pub mod Flow
+pub mod Flooding
 pub mod Starts
 pub mod Order
 pub mod Writers

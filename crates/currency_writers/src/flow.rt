@@ -1,14 +1,16 @@
 //! The flow of a program, and the places that assign a variable.
 
-ghost use Rattle.std.specs.Prelude.{◌≡◌, ◌≢◌, ◌<◌, ℕ, All, AllPairs, IfOk, None, OnOk, true};
+ghost use Rattle.std.specs.Prelude.{◌≡◌, ◌<◌, ℕ, AllPairs, IfOk, None, OnOk, true};
 ghost use Rattle.std.specs.List.Sorted.{IsNonDecreasing};
 ghost use Rattle.places.specs.Flow.{IsAssignmentBefore, assigns, can_go};
 ghost use Rattle.currency_writers.specs.Lists.{entries_of};
 ghost use Rattle.currency_writers.specs.Marks.{mark_at, room_of};
-ghost use Rattle.currency_writers.specs.Flow.{AreAssigning, AreFollowing, AreLeast, AreMoreAhead, AreNextTold, AreStarts, AreTold, ComesOn, HasRoom, IsAhead, IsBlocked, IsClosed, IsFlow, IsToldFrom};
+ghost use Rattle.currency_writers.specs.Flooding.{AreWays};
+ghost use Rattle.currency_writers.specs.Flow.{AreAssigning, AreFollowing, AreLeast, AreStarts, AreTold, HasRoom, IsBlocked, IsClosed, IsFlow, IsToldFrom};
 
 use crate::lists::{Lists, count_with};
 use crate::marks::Marks;
+use crate::ways::Ways;
 use debug_records::Var;
 use places::{Assignment, FlowStep, FlowTable};
 use std::alloc::{AllocError, Global};
@@ -79,63 +81,29 @@ impl<'a> Flow<'a> {
         self.assigns.mark(places, ());
     }
 
-    /// A place to which execution may come is marked with this, if it is not marked yet. It is gone on from later, if
-    /// it does not assign the variable.
-    fn come_to<T: Copy>(
-        &self,
-        from: u32,
-        place: u32,
-        value: T,
-        told: &mut Marks<T>,
-        ahead: &mut Vec<u32>,
-    ) -> Result<(), AllocError>
-        requires blocked { IsBlocked self.now }
-        requires comes { ComesOn self.now from place }
-        requires room { place < room_of told.old }
-        requires ahead { All (λ q. IsAhead self.now from q) ahead.old.items }
-        ensures told { OnOk result (IsToldFrom self.now from value told.old told.new) }
-        ensures ahead { OnOk result (All (λ q. IsAhead self.now from q) ahead.new.items) }
-        ensures more { OnOk result (AreMoreAhead self.now told.old told.new ahead.old.items ahead.new.items) }
-        ensures there { OnOk result (mark_at told.new place ≢ None) }
-        ensures room { OnOk result (room_of told.new ≡ room_of told.old) }
+    /// Its ways on which nothing assigns the variable between their ends.
+    pub fn ways(&self) -> Ways<'_>
+        requires { IsFlow self.now }
+        ensures ways { AreWays result }
+        ensures steps { result.steps.now ≡ self.now.table.now.steps.items }
+        ensures blocked { result.blocked.now ≡ self.now.assigns }
     {
-        if told.has(place) {
-            return Ok(());
-        }
-        told.put(place, value);
-        if self.assigns.has(place) {
-            return Ok(());
-        }
-        ahead.push(place)?;
-        Ok(())
+        self.past(&self.assigns)
     }
 
-    /// The places to which execution may go on from one that are not marked yet are marked with this. Those of them
-    /// that do not assign the variable are gone on from
-    /// later.
-    fn go_on<T: Copy>(
-        &self,
-        from: u32,
-        next: u32,
-        value: T,
-        told: &mut Marks<T>,
-        ahead: &mut Vec<u32>,
-    ) -> Result<(), AllocError>
+    /// Its ways past places that are marked.
+    pub fn past<'w>(&'w self, blocked: &'w Marks<()>) -> Ways<'w>
         requires flow { IsFlow self.now }
-        requires blocked { IsBlocked self.now }
-        requires next { IsAhead self.now from next }
-        requires room { HasRoom self.now told.old }
-        requires ahead { All (λ q. IsAhead self.now from q) ahead.old.items }
-        ensures told { OnOk result (IsToldFrom self.now from value told.old told.new) }
-        ensures ahead { OnOk result (All (λ q. IsAhead self.now from q) ahead.new.items) }
-        ensures more { OnOk result (AreMoreAhead self.now told.old told.new ahead.old.items ahead.new.items) }
-        ensures next { OnOk result (AreNextTold self.now next told.new) }
-        ensures room { OnOk result (room_of told.new ≡ room_of told.old) }
+        requires room { HasRoom self.now blocked.now }
+        ensures ways { AreWays result }
+        ensures steps { result.steps.now ≡ self.now.table.now.steps.items }
+        ensures blocked { result.blocked.now ≡ blocked.now }
     {
-        for place in self.after.get(next) {
-            self.come_to(from, *place, value, told, ahead)?;
+        Ways {
+            steps: &self.table.steps,
+            after: &self.after,
+            blocked,
         }
-        Ok(())
     }
 
     /// Each place is marked with this that is not marked yet, and to which execution may come from a place, by one step
@@ -157,14 +125,7 @@ impl<'a> Flow<'a> {
         ensures all { OnOk result (AreTold self.now from told.new) }
         ensures room { OnOk result (room_of told.new ≡ room_of told.old) }
     {
-        let mut ahead = Vec::new(alloc);
-        ahead.push(from)?;
-        let mut at = 0usize;
-        while at < ahead.len() {
-            let next = ahead[at];
-            self.go_on(from, next, value, told, &mut ahead)?;
-            at += 1;
-        }
+        self.ways().flood(alloc, from, value, told)?;
         Ok(())
     }
 
@@ -179,9 +140,8 @@ impl<'a> Flow<'a> {
         ensures least { OnOk result (AreLeast self.now starts.new) }
         ensures room { OnOk result (room_of starts.new ≡ room_of starts.old) }
     {
-        for place in self.assigning.get(self.var.0) {
-            self.flood(alloc, *place, *place, starts)?;
-        }
+        let from = self.assigning.get(self.var.0);
+        self.ways().find_starts(alloc, from, starts)?;
         Ok(())
     }
 }

@@ -80,10 +80,18 @@ impl<T: Copy> Marks<T> {
         self.at(place).is_some()
     }
 
+    /// Whether a place may be marked.
+    pub fn has_room(&self, place: u32) -> bool
+        ensures { (result ≡ true) ↔ (place < room_of self.now) }
+    {
+        (place as usize) < self.entries.len()
+    }
+
     /// These places are marked with this from here on.
     pub fn mark(&mut self, places: &[u32], value: T)
         requires { All (λ p. p < room_of self.old) places.now }
         ensures only { (p : ℕ) → mark_at self.new p ≢ None → (mark_at self.old p ≢ None) ⊎ Contains places.now p }
+        ensures kept { (p : ℕ) → mark_at self.old p ≢ None → mark_at self.new p ≢ None }
         ensures all { All (λ p. mark_at self.new p ≢ None) places.now }
         ensures room { room_of self.new ≡ room_of self.old }
     {

@@ -1,12 +1,15 @@
 //! Where execution may come from to a place with nothing on its way that assigns a variable.
 
-ghost use Rattle.std.specs.Prelude.{◌≡◌, IfOk, MatchOption, OnOk};
+ghost use Rattle.std.specs.Prelude.{◌≡◌, ◌↔◌, ℕ, Contains, IfOk, MatchOption, OnOk, true};
+ghost use Rattle.std.specs.List.Sorted.{IsNonDecreasing};
+ghost use Rattle.currency_writers.specs.Flooding.{AreWays};
 ghost use Rattle.currency_writers.specs.Flow.{AreTold, HasRoom, IsClosed, IsFlowOfPlaces, IsToldFrom, assigned};
 ghost use Rattle.currency_writers.specs.Marks.{room_of};
 ghost use Rattle.currency_writers.specs.Starts.{HasNoStart, IsLeastStartBy, IsSearch, IsTurned};
 
 use crate::flow::{Flow, after_of, assigning_of};
 use crate::marks::Marks;
+use crate::ways::Ways;
 use debug_records::Var;
 use places::FlowTable;
 use std::alloc::{AllocError, Global};
@@ -60,6 +63,26 @@ impl<'a> Search<'a> {
         ensures { result.0 ≡ self.now.flow.var.0 }
     {
         self.flow.var
+    }
+
+    /// The places that assign the variable, in order.
+    pub fn assigning(&self) -> &[u32]
+        requires { IsTurned self.now }
+        ensures places { (p : ℕ) → Contains result.now p ↔ (assigned self.now.flow p ≡ true) }
+        ensures ascend { IsNonDecreasing result.now }
+    {
+        self.flow.assigning.get(self.flow.var.0)
+    }
+
+    /// The ways through the flow past places that are marked.
+    pub fn past<'w>(&'w self, blocked: &'w Marks<()>) -> Ways<'w>
+        requires turned { IsTurned self.now }
+        requires room { HasRoom self.now.flow blocked.now }
+        ensures ways { AreWays result }
+        ensures steps { result.steps.now ≡ self.now.flow.table.now.steps.items }
+        ensures blocked { result.blocked.now ≡ blocked.now }
+    {
+        self.flow.past(blocked)
     }
 
     /// Whether a place assigns the variable.

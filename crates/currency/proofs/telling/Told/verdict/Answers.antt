@@ -5,4 +5,4 @@ use Rattle.currency.proofs.Adding.{hidden_verdict}
 use Rattle.currency.proofs.telling.Told.verdict.Goals as goal
 
 pub returns-in-Hidden : goal.returns-in-Hidden
-returns-in-Hidden c = subst (λ (t : declared-told.Told). IsVerdictOf t c.verdict_of.result) (sym c.in-Hidden.is) (hidden_verdict c.in-Hidden.cause c.verdict_of.result c.verdict_of.ensures)
+returns-in-Hidden c = subst (λ (t : declared-told.Told). IsVerdictOf t c.verdict_of.result) (sym c.in-Hidden.is) (hidden_verdict c.in-Hidden.hiding c.verdict_of.result c.verdict_of.ensures)

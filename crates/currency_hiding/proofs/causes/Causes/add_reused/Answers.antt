@@ -1,5 +1,5 @@
-use Rattle.std.proofs.Common.{List, [], ◌∷◌, ◌+◌, arith, get_or, inr, refl, subst, sym}
-use Rattle.std.specs.Prelude.{All, Contains}
+use Rattle.std.proofs.Common.{List, [], ◌∷◌, arith, inr, refl, subst, sym}
+use Rattle.std.specs.Prelude.{All}
 use Rattle.std.proofs.lemmas.List.Elements.{All-contains}
 use Rattle.currency_writers.specs.declared.writers.Write as declared-write
 use Rattle.currency_hiding.specs.declared.causes.Via as declared-via

@@ -1,4 +1,4 @@
-use Rattle.std.proofs.Common.{◌∙◌, ◌<◌, length, arith, refl}
+use Rattle.std.proofs.Common.{◌∙◌, arith, refl}
 use Rattle.std.proofs.lemmas.Option.{slice_get_within}
 use Rattle.currency_hiding.proofs.Numbering.{listed_at, listing_next, listing_none}
 use Rattle.currency_hiding.proofs.changes.Changes.new.Goals as goal

@@ -1,5 +1,5 @@
 use Rattle.std.proofs.Common.{List, ℕ, ◌<◌, ◌≡◌, inl, inr, None, Some, ap, arith, length, subst, sym, ◌∙◌, ◌≤◌, ◌++◌, ◌∷◌, []}
-use Rattle.std.specs.Prelude.{All, AllPairs, ◌⊎◌}
+use Rattle.std.specs.Prelude.{AllPairs, ◌⊎◌}
 use Rattle.std.specs.Global.{Vec}
 use Rattle.debug_records.specs.declared.change.Change.{Change}
 use Rattle.currency_hiding.specs.Changes.{IsListed, hides_as}

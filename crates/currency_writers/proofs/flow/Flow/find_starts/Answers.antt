@@ -1,47 +1,8 @@
-use Rattle.std.proofs.Common.{◌∙◌, ◌≤◌, ℕ, List, arith, get_or, refl, subst, sym}
-use Rattle.std.proofs.lemmas.Option.{none-some}
-use Rattle.std.specs.List.Sorted.{IsNonDecreasing}
-use Rattle.currency_writers.specs.Marks.{room_of}
-use Rattle.currency_writers.proofs.Telling.{starts_next}
-use Rattle.currency_writers.proofs.Closing.{below_next, least_done, least_next, rest_next}
+use Rattle.currency_writers.proofs.Telling.{least_of, starts_of}
 use Rattle.currency_writers.proofs.flow.Flow.find_starts.Goals as goal
 
-pub loop-place-init : goal.loop-place-init
-loop-place-init c = record {
-  starts = λ p start at. absurd (none-some start (sym (c.requires.none p) ∙ at));
-  closed = λ q some. absurd (some (c.requires.none q));
-  below = λ j d le lt p start at. absurd (none-some start (sym (c.requires.none p) ∙ at));
-  least = λ k d lt. absurd (omega (arith, lt));
-  room = refl;
-}
-
-pub flood-requires : goal.flood-requires
-flood-requires c = record {
-  flow = c.requires.flow;
-  blocked = c.requires.blocked;
-  closed = c.loop-place.invariant.closed;
-  room = subst (λ n. room_of c.args.self.now.assigns ≤ n) (sym c.loop-place.invariant.room) c.requires.room;
-}
-
-pub loop-place-preserved : goal.loop-place-preserved
-loop-place-preserved c =
-    (let f = c.args.self.now in
-    let old = c.loop-place.starts in
-    let new = c.flood.new.told in
-    let list = c.get-place-items.result.now in
-    let k = c.loop-place.place-index in
-    let known = c.loop-place.invariant in
-    let said = c.in_ok-flood.ensures in
-    let lt = c.loop-place-test.true in
-    let ascends : IsNonDecreasing list = subst (λ (l : List ℕ). IsNonDecreasing l) (sym c.get-place-items.ensures) (c.requires.flow.ordered f.var.0) in
-    let below = below_next f old new (get_or list k 0) (get_or list k 0) (omega arith) said.told (known.below k 0 (omega arith) lt) in
-    record {
-      starts = starts_next f old new list k 0 c.requires.flow c.get-place-items.ensures lt known.starts said.told;
-      closed = said.closed;
-      below = rest_next f new list k 0 ascends lt below;
-      least = least_next f old new list k 0 (get_or list k 0) lt refl said.told said.all below known.least;
-      room = said.room ∙ known.room;
-    })
+pub returns-clause-starts : goal.returns-clause-starts
+returns-clause-starts c = starts_of c.args.self.now c.ways.result c.requires.blocked c.ways.ensures.steps c.ways.ensures.blocked c.get-from.result.now c.find_starts.new.starts c.requires.flow c.get-from.ensures c.in_ok-find_starts.ensures.starts
 
 pub returns-clause-least : goal.returns-clause-least
-returns-clause-least c = least_done c.args.self.now c.loop-place.starts c.get-place-items.result.now c.loop-place.place-index c.requires.flow c.get-place-items.ensures (omega arith) c.loop-place.invariant.least
+returns-clause-least c = least_of c.args.self.now c.ways.result c.requires.blocked c.ways.ensures.steps c.ways.ensures.blocked c.get-from.result.now c.find_starts.new.starts c.requires.flow c.get-from.ensures c.in_ok-find_starts.ensures.least
