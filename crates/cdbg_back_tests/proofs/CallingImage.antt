@@ -5,12 +5,12 @@ use Rattle.image_form.specs.RulesOfFunctions.{FunctionRules, code_start}
 use Rattle.image_form.specs.RulesOfNames.{NameRules}
 use Rattle.image_form.specs.RulesOfPlaces.{PlaceRules, OwnerRules, IsOwner, word_address}
 use Rattle.image_form.specs.Spelling.{size}
-use Rattle.image_form_sections.specs.Versions.{is_read, greatest_version}
+use Rattle.image_form_sections.specs.Versions.{is_read, greatest_level}
 use Rattle.image_form.proofs.TableLaws.{ascending_distinct, numbered_from_zero}
 use Rattle.cdbg_back_tests.specs.Samples.{calling_form}
 
 sizes : (count : ℕ) → (call : ℕ) → (last : ℕ) → SizeRules (calling_form count call last)
-unfolding calling_form size is_read greatest_version
+unfolding calling_form size is_read greatest_level
 sizes count call last = record {
   version = refl;
   code = omega arith;

@@ -1,4 +1,5 @@
-//! Words that the GNU assembler wrote for RV32IM (binutils 2.40), and words that it writes for no instruction of RV32IM.
+//! Words that the GNU assembler wrote for RV32IM (binutils 2.40), and words that it writes for no instruction of
+//! RV32IM.
 
 use rv_code::{
     BranchOperation, ImmediateOperation, Instruction, LoadOperation, RegisterOperation,

@@ -1,4 +1,5 @@
-//! Sessions over two small images. Their lines were computed outside of this program; those of the addition can be followed by hand.
+//! Sessions over two small images. Their lines were computed outside of this program; those of the addition can be
+//! followed by hand.
 
 ghost use Rattle.image_form.specs.Form.{form};
 ghost use Rattle.image_form.specs.Rules.{IsImage};

@@ -1,5 +1,5 @@
-//! Tests of the back: words, instructions, the machine, images, the engine of stops, lines, scripts and the world outside. It has no code of
-//! its own.
+//! Tests of the back: words, instructions, the machine, images, the engine of stops, lines, scripts and the world
+//! outside. It has no code of its own.
 #![tactic(auto)]
 
 #[cfg(test)]

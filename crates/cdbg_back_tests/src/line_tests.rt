@@ -1,4 +1,5 @@
-//! The lines of a transcript and the texts of a status. What they must be was written down before the program was: lines that a user reads.
+//! The lines of a transcript and the texts of a status. What they must be was written down before the program was:
+//! lines that a user reads.
 
 use debug_records::{Code, Kind, Place};
 use line_form::{

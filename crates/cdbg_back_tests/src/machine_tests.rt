@@ -1,4 +1,5 @@
-//! Small programs, in words that the GNU assembler wrote (binutils 2.40). What they must leave was computed by another machine, written in Python.
+//! Small programs, in words that the GNU assembler wrote (binutils 2.40). What they must leave was computed by another
+//! machine, written in Python.
 
 ghost use Rattle.std.specs.Prelude.{◌≡◌, ◌*◌, ◌≤◌, IfOk, length};
 
@@ -591,7 +592,8 @@ fn machine_with_a_stack(alloc: Global) -> Result<Machine, AllocError> {
     Ok(machine)
 }
 
-/// Bytes of that machine, each with its address: of the code, the static objects, the heap's end, the stack, and between them.
+/// Bytes of that machine, each with its address: of the code, the static objects, the heap's end, the stack, and
+/// between them.
 static BYTES: [(u32, u8); 17] = [
     (0x00000000, 0x00),
     (0x0000ffff, 0x00),

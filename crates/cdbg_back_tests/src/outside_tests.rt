@@ -1,4 +1,5 @@
-//! The shelf and the sink in memory, the files of the system, and reads and writes of a system that gives and takes a part at a time.
+//! The shelf and the sink in memory, the files of the system, and reads and writes of a system that gives and takes a
+//! part at a time.
 
 use outside::{FileShelf, MemShelf, MemSink, PutErr, QuietSink, Shelf, ShelfErr, Sink, StdoutSink};
 use std::alloc::Global;
@@ -52,7 +53,8 @@ struct Reading {
     given: Option<&'static [u8]>,
 }
 
-/// Parts are joined; a read that is interrupted is made again; a read of nothing is the end; a fault in mid-stream is told.
+/// Parts are joined; a read that is interrupted is made again; a read of nothing is the end; a fault in mid-stream is
+/// told.
 static READINGS: [Reading; 6] = [
     Reading {
         answers: &[
@@ -137,8 +139,8 @@ fn parts_are_joined(rt: HostRuntime) {
     }
 }
 
-/// The room of a file, whether it is an error that there is none, whether a flush succeeds, whether `abcde` is saved, and the bytes that the
-/// file took then.
+/// The room of a file, whether it is an error that there is none, whether a flush succeeds, whether `abcde` is saved,
+/// and the bytes that the file took then.
 static WRITINGS: [(usize, bool, bool, bool, u64); 5] = [
     (100, false, true, true, 0x61_62_63_64_65),
     (5, false, true, true, 0x61_62_63_64_65),

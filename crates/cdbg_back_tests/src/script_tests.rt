@@ -30,7 +30,8 @@ fn each_command_is_read(rt: HostRuntime) -> Result<(), Fail> {
     Ok(())
 }
 
-/// Texts that are no scripts, the rule that each breaks as docs/refusals.md has it, and its line. The last one has a line of 201 bytes.
+/// Texts that are no scripts, the rule that each breaks as docs/refusals.md has it, and its line. The last one has a
+/// line of 201 bytes.
 static REFUSALS: [(&[u8], Code, usize); 17] = [
     (b"jump 3\n", Code::UNKNOWN_COMMAND, 1),
     (b"quit\njump", Code::UNKNOWN_COMMAND, 2),

@@ -64,7 +64,7 @@ module _ (f : Form) (image : IsImage f) where
       rw (
         none_of_section (flow_tests s) flow_numbers f.flow (flow_complete f image.flow),
         none_of_section (assigned_tests s) assigned_numbers f.assigned (assigned_complete f image.assigned),
-        none_of_section (row_tests s) (row_numbers f.version.level) f.rows (rows_complete f image.rows),
+        none_of_section (row_tests s) (row_numbers f.version.level) f.rows (rows_complete f image.assigned image.rows),
         none_of_section (node_tests s) node_numbers f.nodes (nodes_complete f image.nodes),
         names_complete f image.names,
       ) refl

@@ -12,6 +12,7 @@ pub mod OneSpelling
 pub mod Parts
 pub mod PlacesKept
 pub mod Positions
+pub mod QuietPlaces
 pub mod Raw
 pub mod ReadBack
 pub mod RecordsBack

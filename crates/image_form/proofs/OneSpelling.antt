@@ -306,7 +306,7 @@ module _ (f : Form) (image : IsImage f) where
 
   rows_are : map row_of (map (row_numbers f.version.level) f.rows) ≡ f.rows
   rows_are = map_back (row_numbers f.version.level) row_of f.rows (each_from (λ r. row_of (row_numbers f.version.level r) ≡ r) f.rows (λ i r at.
-      row_back f f.version.level r (each_at _ f.rows i r image.rows.verdicts at) (each_at _ f.rows i r image.rows.quiet at) (λ none. each_at _ f.rows i r (image.rows.none_quiet none) at)))
+      row_back f f.version.level r image.assigned (each_at _ f.rows i r image.rows.verdicts at) (each_at _ f.rows i r image.rows.quiet at) (λ none. each_at _ f.rows i r (image.rows.none_quiet none) at)))
 
   pub decoded_back : decoded (sections_of f) ≡ f
   unfolding decoded

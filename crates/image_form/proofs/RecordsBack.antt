@@ -1,8 +1,9 @@
 -- Each record of an image is what its numbers say.
 use Rattle.std.proofs.Common.{◌≡◌, ℕ, ◌<◌, ◌≤◌, Bool, true, false, List, [], ◌∷◌, length, get_or, Option, Some, None, refl, sym, ap, ◌∙◌, arith}
-use Rattle.std.specs.Prelude.{unwrap_or, IsSomeAnd, ◌==◌}
+use Rattle.std.specs.Prelude.{unwrap_or, slice_get, Contains, IsSomeAnd, ◌==◌}
 use Rattle.std.specs.List.{AllByRecursion}
 use Rattle.std.proofs.lemmas.Bool.{ne_eqb}
+use Rattle.std.proofs.lemmas.Option.{slice_get-get_or}
 use Rattle.debug_records.specs.declared.mode.Mode.{Mode}
 use Rattle.debug_records.specs.declared.mode.Mode.TheVariants.{Slots, Registers}
 use Rattle.image_form.specs.declared.recipes.Node.{Node}
@@ -11,6 +12,7 @@ use Rattle.word_base.specs.declared.operation.Operation.{Operation}
 use Rattle.word_base.specs.declared.operation.Operation.TheVariants.{Add, Sub, Mul, Div, Divu, Rem, Remu, Sll, Srl, Sra, And, Or, Xor, Slt, Sltu}
 use Rattle.word_base.specs.declared.operation.Truncation.{Truncation}
 use Rattle.word_base.specs.declared.operation.Truncation.TheVariants.{Unsigned8, Signed16, Unsigned16, Signed8}
+use Rattle.image_form.specs.declared.tables.AssignedPair.{AssignedPair}
 use Rattle.image_form.specs.declared.tables.Change.{Change}
 use Rattle.debug_records.specs.declared.change.Kind.{Kind}
 use Rattle.debug_records.specs.declared.change.Kind.TheVariants.{Removed, Moved, Reused, Replaced, Sunk}
@@ -30,9 +32,11 @@ use Rattle.image_form_sections.specs.Versions.{has_quiet, has_callers}
 use Rattle.image_form.specs.Decoding.{mode_of, owner_of, element_of, storage_of, variable_of, kind_of, change_of, writer_of, quiet_of, row_of, function_of, member_of, node_of}
 use Rattle.image_form.specs.Form.{Form, numbered}
 use Rattle.image_form.specs.Numbers.{mode_number, no_function, element_number, storage_number, storage_value, variable_numbers, kind_number, change_numbers, verdict_then, last_if, row_numbers, function_numbers, member_numbers, operation_number, truncation_number, node_numbers}
-use Rattle.image_form.specs.RulesOfFunctions.{code_start}
+use Rattle.image_form.specs.RulesOfChanges.{AssignedRules}
+use Rattle.image_form.specs.RulesOfFunctions.{IsPlaceNumber, code_start}
 use Rattle.image_form.specs.RulesOfRows.{IsWriter, IsEvidence, IsVerdict, IsQuietStart}
 use Rattle.image_form.specs.RulesOfVariables.{IsVariable, IsKept}
+use Rattle.image_form.proofs.TableLaws.{each_at}
 pub use Rattle.base_laws.proofs.Lists.{number_there}
 
 -- What holds of each record holds of each in a list.
@@ -155,28 +159,34 @@ verdict_back f place variable (Noncurrent change start writer) more valid =
 verdict_back f place variable (Nonresident change start writer) more valid =
     ap (λ (w : Option ℕ). with_verdict place variable (Nonresident change start w) (quiet_of (get_or more 0 0))) (evidence_back f variable change start writer valid)
 
--- The number of a place is not 0.
-quiet_there : (f : Form) (v : Verdict) (start : ℕ) → IsQuietStart f v (Some start) → 1 ≤ start
-quiet_there f Home start valid = absurd valid
-quiet_there f (Recovered change node) start valid = absurd valid
-quiet_there f (Noncurrent change start writer) quiet valid = valid.0
-quiet_there f (Nonresident change start writer) quiet valid = valid.0
+-- The number of a place that assigns is not 0.
+pub assigned_there : (f : Form) (place variable : ℕ) → AssignedRules f → Contains f.assigned (record { place = place; variable = variable }) → 1 ≤ place
+assigned_there f place variable rules (k, lt, same) =
+    let pair : AssignedPair = record { place = place; variable = variable } in
+    let at : slice_get f.assigned k ≡ Some pair = slice_get-get_or f.assigned k pair lt ∙ ap Some same in
+    (each_at (λ p. IsPlaceNumber f p.place × (p.variable < length f.variables)) f.assigned k pair rules.each at).0.0
 
-quiet_back : (f : Form) (has : Bool) (v : Verdict) (quiet : Option ℕ) → IsQuietStart f v quiet → (has ≡ false → quiet ≡ None)
+quiet_there : (f : Form) (variable : ℕ) (v : Verdict) (start : ℕ) → AssignedRules f → IsQuietStart f variable v (Some start) → 1 ≤ start
+quiet_there f variable Home start rules valid = absurd valid
+quiet_there f variable (Recovered change node) start rules valid = absurd valid
+quiet_there f variable (Noncurrent change start writer) quiet rules valid = assigned_there f quiet variable rules valid.0
+quiet_there f variable (Nonresident change start writer) quiet rules valid = assigned_there f quiet variable rules valid.0
+
+quiet_back : (f : Form) (has : Bool) (variable : ℕ) (v : Verdict) (quiet : Option ℕ) → AssignedRules f → IsQuietStart f variable v quiet → (has ≡ false → quiet ≡ None)
     → quiet_of (get_or (last_if has (unwrap_or quiet 0)) 0 0) ≡ quiet
-quiet_back f false v quiet valid none = let is = none refl in rw is refl
-quiet_back f true v None valid none = refl
-quiet_back f true v (Some start) valid none =
-    let there = quiet_there f v start valid in
+quiet_back f false variable v quiet rules valid none = let is = none refl in rw is refl
+quiet_back f true variable v None rules valid none = refl
+quiet_back f true variable v (Some start) rules valid none =
+    let there = quiet_there f variable v start rules valid in
     let other : (start == 0) ≡ false = ne_eqb start 0 (λ e. omega (arith, e, there)) in
     rw other refl
 
-pub row_back : (f : Form) (level : Level) (r : VisibleRow) → IsVerdict f r.variable r.verdict → IsQuietStart f r.verdict r.quiet → (has_quiet level ≡ false → r.quiet ≡ None)
-    → row_of (row_numbers level r) ≡ r
+pub row_back : (f : Form) (level : Level) (r : VisibleRow) → AssignedRules f → IsVerdict f r.variable r.verdict → IsQuietStart f r.variable r.verdict r.quiet
+    → (has_quiet level ≡ false → r.quiet ≡ None) → row_of (row_numbers level r) ≡ r
 unfolding with_verdict
-row_back f level r valid quiet none =
+row_back f level r rules valid quiet none =
     verdict_back f r.place r.variable r.verdict (last_if (has_quiet level) (unwrap_or r.quiet 0)) valid
-    ∙ ap (with_verdict r.place r.variable r.verdict) (quiet_back f (has_quiet level) r.verdict r.quiet quiet none)
+    ∙ ap (with_verdict r.place r.variable r.verdict) (quiet_back f (has_quiet level) r.variable r.verdict r.quiet rules quiet none)
 
 -- A function's saved registers are 0 where they are not told.
 pub function_back : (level : Level) (g : Function) → (has_callers level ≡ false → g.saved ≡ 0) → function_of (function_numbers level g) ≡ g

@@ -19,16 +19,17 @@ use Rattle.image_form.specs.declared.verdicts.VisibleRow.{VisibleRow}
 use Rattle.image_form.specs.Decoding.{sections_of, word_numbers}
 use Rattle.image_form.specs.Form.{Form, numbered}
 use Rattle.image_form.specs.Numbers.{place_numbers, no_function, variable_numbers, kind_number, change_numbers, verdict_then, last_if, row_numbers, node_numbers}
-use Rattle.image_form.specs.RulesOfChanges.{IsPairBefore}
+use Rattle.image_form.specs.RulesOfChanges.{AssignedRules, IsPairBefore}
 use Rattle.image_form.specs.RulesOfFunctions.{IsCodeAddress, IsPlaceNumber, code_start}
 use Rattle.image_form.specs.RulesOfPlaces.{IsPlace, PlaceRules}
 use Rattle.image_form.specs.RulesOfRows.{IsVisible, IsWriter, IsVerdict, IsQuietStart, RowRules}
 use Rattle.image_form_sections.specs.Versions.{has_quiet}
 use Rattle.image_form_sections.specs.Sections.{cell}
-use Rattle.image_form_sections.specs.TestsOfChanges.{is_visible, is_change, is_node_or_start, is_taking, is_writer, is_quiet_start, row_tests}
+use Rattle.image_form_sections.specs.TestsOfChanges.{is_visible, is_change, is_node_or_start, is_taking, is_writer, is_quiet_place, is_quiet_start, row_tests}
 use Rattle.image_form_sections.specs.TestsOfTables.{within, is_place, is_not_below, is_pair_above, is_code_address}
 use Rattle.image_form.proofs.Kept.{AllTrue, row_is, next_from, next_at, before_at, at_each}
-use Rattle.image_form.proofs.RecordsBack.{some_and, number_there}
+use Rattle.image_form.proofs.RecordsBack.{assigned_there, some_and, number_there}
+use Rattle.image_form.proofs.QuietPlaces.{quiet_place_complete, quiet_place_sound}
 use Rattle.image_form.proofs.TableLaws.{each_at, each_from}
 
 -- No writer has the address that stands for none.
@@ -197,38 +198,38 @@ module _ (f : Form) where
   verdict_known (Nonresident change start writer) more = refl
 
   -- The place at which a quiet path begins, as the last number of a row.
-  quiet_sound : (has : Bool) (v : Verdict) (quiet : Option ℕ) → quiet ≢ Some 0 → (has ≡ false → quiet ≡ None)
-      → (get_or (verdict_then v (last_if has (unwrap_or quiet 0))) 4 0 == 0 || (nat_le 2 (get_or (verdict_then v (last_if has (unwrap_or quiet 0))) 0 0) && is_place (sections_of f) (get_or (verdict_then v (last_if has (unwrap_or quiet 0))) 4 0))) ≡ true
-      → IsQuietStart f v quiet
-  quiet_sound has v None told none kept = tt
-  quiet_sound false v (Some c) told none kept = absurd (let never = none refl in cc)
-  quiet_sound true v (Some c) told none kept = go v (ne_eqb c 0 (λ e. told (ap Some e))) kept
+  quiet_sound : (has : Bool) (variable : ℕ) (v : Verdict) (quiet : Option ℕ) → quiet ≢ Some 0 → (has ≡ false → quiet ≡ None)
+      → (get_or (verdict_then v (last_if has (unwrap_or quiet 0))) 4 0 == 0 || (nat_le 2 (get_or (verdict_then v (last_if has (unwrap_or quiet 0))) 0 0) && is_quiet_place (sections_of f) (get_or (verdict_then v (last_if has (unwrap_or quiet 0))) 4 0) variable)) ≡ true
+      → IsQuietStart f variable v quiet
+  quiet_sound has variable v None told none kept = tt
+  quiet_sound false variable v (Some c) told none kept = absurd (let never = none refl in cc)
+  quiet_sound true variable v (Some c) told none kept = go v (ne_eqb c 0 (λ e. told (ap Some e))) kept
     where
       go : (v : Verdict) → (c == 0) ≡ false
-          → (get_or (verdict_then v (c ∷ [])) 4 0 == 0 || (nat_le 2 (get_or (verdict_then v (c ∷ [])) 0 0) && is_place (sections_of f) (get_or (verdict_then v (c ∷ [])) 4 0))) ≡ true
-          → IsQuietStart f v (Some c)
+          → (get_or (verdict_then v (c ∷ [])) 4 0 == 0 || (nat_le 2 (get_or (verdict_then v (c ∷ [])) 0 0) && is_quiet_place (sections_of f) (get_or (verdict_then v (c ∷ [])) 4 0) variable)) ≡ true
+          → IsQuietStart f variable v (Some c)
       go Home other kept = absurd (let never = rw other at kept in cc)
       go (Recovered change node) other kept = absurd (let never = rw other at kept in cc)
-      go (Noncurrent change start writer) other kept = place_sound c (rw other at kept)
-      go (Nonresident change start writer) other kept = place_sound c (rw other at kept)
+      go (Noncurrent change start writer) other kept = quiet_place_sound f c variable (rw other at kept)
+      go (Nonresident change start writer) other kept = quiet_place_sound f c variable (rw other at kept)
 
-  quiet_complete : (has : Bool) (v : Verdict) (quiet : Option ℕ) → IsQuietStart f v quiet
-      → (get_or (verdict_then v (last_if has (unwrap_or quiet 0))) 4 0 == 0 || (nat_le 2 (get_or (verdict_then v (last_if has (unwrap_or quiet 0))) 0 0) && is_place (sections_of f) (get_or (verdict_then v (last_if has (unwrap_or quiet 0))) 4 0))) ≡ true
-  quiet_complete false Home quiet is = refl
-  quiet_complete false (Recovered change node) quiet is = refl
-  quiet_complete false (Noncurrent change start writer) quiet is = refl
-  quiet_complete false (Nonresident change start writer) quiet is = refl
-  quiet_complete true Home None is = refl
-  quiet_complete true (Recovered change node) None is = refl
-  quiet_complete true (Noncurrent change start writer) None is = refl
-  quiet_complete true (Nonresident change start writer) None is = refl
-  quiet_complete true Home (Some c) is = absurd is
-  quiet_complete true (Recovered change node) (Some c) is = absurd is
-  quiet_complete true (Noncurrent change start writer) (Some c) is = let other : (c == 0) ≡ false = ne_eqb c 0 (λ e. omega (arith, e, is.0)) in rw other (place_complete c is)
-  quiet_complete true (Nonresident change start writer) (Some c) is = let other : (c == 0) ≡ false = ne_eqb c 0 (λ e. omega (arith, e, is.0)) in rw other (place_complete c is)
+  quiet_complete : (has : Bool) (variable : ℕ) (v : Verdict) (quiet : Option ℕ) → AssignedRules f → IsQuietStart f variable v quiet
+      → (get_or (verdict_then v (last_if has (unwrap_or quiet 0))) 4 0 == 0 || (nat_le 2 (get_or (verdict_then v (last_if has (unwrap_or quiet 0))) 0 0) && is_quiet_place (sections_of f) (get_or (verdict_then v (last_if has (unwrap_or quiet 0))) 4 0) variable)) ≡ true
+  quiet_complete false variable Home quiet rules is = refl
+  quiet_complete false variable (Recovered change node) quiet rules is = refl
+  quiet_complete false variable (Noncurrent change start writer) quiet rules is = refl
+  quiet_complete false variable (Nonresident change start writer) quiet rules is = refl
+  quiet_complete true variable Home None rules is = refl
+  quiet_complete true variable (Recovered change node) None rules is = refl
+  quiet_complete true variable (Noncurrent change start writer) None rules is = refl
+  quiet_complete true variable (Nonresident change start writer) None rules is = refl
+  quiet_complete true variable Home (Some c) rules is = absurd is
+  quiet_complete true variable (Recovered change node) (Some c) rules is = absurd is
+  quiet_complete true variable (Noncurrent change start writer) (Some c) rules is = let there = assigned_there f c variable rules is.0 in let other : (c == 0) ≡ false = ne_eqb c 0 (λ e. omega (arith, e, there)) in rw other (quiet_place_complete f c variable is)
+  quiet_complete true variable (Nonresident change start writer) (Some c) rules is = let there = assigned_there f c variable rules is.0 in let other : (c == 0) ≡ false = ne_eqb c 0 (λ e. omega (arith, e, there)) in rw other (quiet_place_complete f c variable is)
 
   one_sound : (i : ℕ) (r : VisibleRow) → slice_get f.rows i ≡ Some r → length f.functions < no_function → PlaceRules f → TellsWriter r.verdict → r.quiet ≢ Some 0 → (has_quiet f.version.level ≡ false → r.quiet ≡ None) → AllTrue (row_tests (sections_of f) i)
-      → IsVisible f r.place r.variable × IsVerdict f r.variable r.verdict × IsQuietStart f r.verdict r.quiet
+      → IsVisible f r.place r.variable × IsVerdict f r.variable r.verdict × IsQuietStart f r.variable r.verdict r.quiet
   unfolding is_visible is_quiet_start
   one_sound i r at few rules told quiet none kept =
       let row = row_is (row_numbers f.version.level) f.rows i r at in
@@ -238,7 +239,7 @@ module _ (f : Form) where
       let there : r.variable < length f.variables = grind (arith, nat_tests, parts.0) in (
         visible_sound r.place r.variable few rules place there (eqb-true _ _ parts.1),
         verdict_sound i r.place r.variable r.verdict _ row told kept.1.1.1.0 kept.1.1.1.1.0 kept.1.1.1.1.1.0,
-        quiet_sound (has_quiet f.version.level) r.verdict r.quiet quiet none (rw row at kept.1.1.1.1.1.1.0),
+        quiet_sound (has_quiet f.version.level) r.variable r.verdict r.quiet quiet none (rw row at kept.1.1.1.1.1.1.0),
       )
 
   next_sound : (j : ℕ) (r s : VisibleRow) → slice_get f.rows j ≡ Some r → slice_get f.rows (suc j) ≡ Some s → AllTrue (row_tests (sections_of f) (suc j)) → IsPairBefore r.place r.variable s.place s.variable
@@ -266,9 +267,9 @@ module _ (f : Form) where
       let above = next_at _ f.rows rules.ascend j before.0 r before.1 at in
       rw (row_is (row_numbers f.version.level) f.rows j before.0 before.1, row_is (row_numbers f.version.level) f.rows (suc j) r at) (grind (arith, nat_tests, above), grind (arith, nat_tests, above))
 
-  one_complete : (i : ℕ) (r : VisibleRow) → slice_get f.rows i ≡ Some r → RowRules f → AllTrue (row_tests (sections_of f) i)
+  one_complete : (i : ℕ) (r : VisibleRow) → slice_get f.rows i ≡ Some r → AssignedRules f → RowRules f → AllTrue (row_tests (sections_of f) i)
   unfolding is_visible is_quiet_start
-  one_complete i r at rules =
+  one_complete i r at assigned rules =
       let row = row_is (row_numbers f.version.level) f.rows i r at in
       let visible = visible_complete r.place r.variable (each_at _ f.rows i r rules.visible at) in
       let verdict = verdict_complete i r.place r.variable r.verdict _ row (each_at _ f.rows i r rules.verdicts at) in
@@ -279,8 +280,8 @@ module _ (f : Form) where
       let first : (is_place (sections_of f) (cell (map (row_numbers f.version.level) f.rows) i 0) && is_not_below (map (row_numbers f.version.level) f.rows) 0 i) ≡ true = and_from _ _ (rw row place) above.0 in
       let second : (nat_lt (cell (map (row_numbers f.version.level) f.rows) i 1) (length (map variable_numbers f.variables)) && cell (map variable_numbers f.variables) (cell (map (row_numbers f.version.level) f.rows) i 1) 1 == cell (map place_numbers f.places) (cell (map (row_numbers f.version.level) f.rows) i 0 - 1) 2) ≡ true =
       rw (row, length-map f.variables variable_numbers) (and_from (nat_lt r.variable (length f.variables)) (cell (map variable_numbers f.variables) r.variable 1 == cell (map place_numbers f.places) (r.place - 1) 2) (grind (arith, nat_tests, there)) (eq-eqb _ _ visible.2)) in
-      let quiet = quiet_complete (has_quiet f.version.level) r.verdict r.quiet (each_at _ f.rows i r rules.quiet at) in
+      let quiet = quiet_complete (has_quiet f.version.level) r.variable r.verdict r.quiet assigned (each_at _ f.rows i r rules.quiet at) in
       (first, (and_from _ _ second above.1, (known, (verdict.0, (verdict.1, (verdict.2, (rw row quiet, tt)))))))
 
-  pub rows_complete : RowRules f → RowsKept
-  rows_complete rules = at_each f.rows _ (λ i r at. one_complete i r at rules)
+  pub rows_complete : AssignedRules f → RowRules f → RowsKept
+  rows_complete assigned rules = at_each f.rows _ (λ i r at. one_complete i r at assigned rules)

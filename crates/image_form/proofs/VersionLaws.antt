@@ -1,22 +1,34 @@
 -- Versions and their numbers.
-use Rattle.std.proofs.Common.{◌≡◌, ℕ, zero, suc, ◌+◌, ◌*◌, ◌≤◌, true, false, refl, arith}
-use Rattle.std.proofs.lemmas.Bool.{leb-true, and_parts}
-use Rattle.std.specs.Prelude.{nat_le}
+use Rattle.std.proofs.Common.{◌≡◌, ℕ, zero, suc, ◌+◌, ◌*◌, ◌≤◌, true, false, refl, inl, inr, arith}
+use Rattle.std.proofs.lemmas.Bool.{leb-true, and_parts, cases_Bool}
+use Rattle.std.specs.Prelude.{nat_le, ◌&&◌}
 use Rattle.memory_map.specs.declared.map.Map.{Map}
 use Rattle.memory_map.specs.declared.map.Map.TheVariants.{One, Two}
 use Rattle.image_form_sections.specs.declared.version.Level.{Level}
 use Rattle.image_form_sections.specs.declared.version.Level.TheVariants.{Plain, Quiet, Callers}
 use Rattle.image_form_sections.specs.declared.version.Version.{Version}
-use Rattle.image_form_sections.specs.Versions.{greatest_version, is_read, map_number, level_number, version_number, level_of, version_of, has_callers}
+use Rattle.image_form_sections.specs.Versions.{greatest_level, is_read, map_number, map_of, reads_map, level_number, version_number, level_of, version_of, has_callers}
+
+-- The versions whose level is read are the first four.
+few_read : (n : ℕ) → level_number (level_of n) ≤ 1 → n ≤ 4
+few_read n low = elim (cases_Bool (nat_le n 4)) [
+  | inl few ↦ leb-true n 4 few
+  | inr many ↦ elim (cases_Bool (nat_le n 2)) [
+    | inl fewer ↦ let two = leb-true n 2 fewer in omega (arith, two)
+    | inr more ↦ absurd (let high = rw (more, many) at low in omega (arith, high))
+  ]
+]
+
+read_parts : (n : ℕ) → is_read n ≡ true → (1 ≤ n) × (n ≤ 4)
+unfolding is_read greatest_level
+read_parts n read =
+    let whole = and_parts (nat_le 1 n && nat_le (level_number (level_of n)) greatest_level) (reads_map (map_of n)) read in
+    let parts = and_parts (nat_le 1 n) (nat_le (level_number (level_of n)) greatest_level) whole.0 in
+    (leb-true 1 n parts.0, few_read n (leb-true (level_number (level_of n)) greatest_level parts.1))
 
 -- The number of a version that is read is one of six.
 pub read_known : (n : ℕ) → is_read n ≡ true → (1 ≤ n) × (n ≤ 6)
-unfolding is_read greatest_version
-read_known n read =
-    let parts = and_parts (nat_le 1 n) (nat_le n greatest_version) read in
-    let first = leb-true 1 n parts.0 in
-    let last = leb-true n greatest_version parts.1 in
-    (first, omega (arith, last))
+read_known n read = let parts = read_parts n read in let last = parts.1 in (parts.0, omega (arith, last))
 
 -- The version of such a number has it.
 number_known : (n : ℕ) → 1 ≤ n → n ≤ 6 → version_number (version_of n) ≡ n
@@ -64,8 +76,4 @@ few_no_calls (suc (suc (suc (suc (suc n))))) low = absurd (omega (arith, low))
 
 -- No version that is read has rows of calls: with the first that has, what a row must be takes the place of this law.
 pub read_no_calls : (n : ℕ) → is_read n ≡ true → has_callers (level_of n) ≡ false
-unfolding is_read greatest_version
-read_no_calls n read =
-    let parts = and_parts (nat_le 1 n) (nat_le n greatest_version) read in
-    let last = leb-true n greatest_version parts.1 in
-    few_no_calls n (omega (arith, last))
+read_no_calls n read = few_no_calls n (read_parts n read).1

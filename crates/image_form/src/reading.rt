@@ -20,8 +20,8 @@ use std::alloc::{AllocError, Global};
 
 /// The image that the bytes spell.
 ///
-/// Bytes that spell no image are refused with the first rule that they break, in the order of the
-/// file, and the byte at which they break it. The only other error is want of memory.
+/// Bytes that spell no image are refused with the first rule that they break, in the order of the file, and the byte at
+/// which they break it. The only other error is want of memory.
 pub fn read(alloc: Global, bytes: &[u8]) -> Result<Image, ImageErr>
     // What is read is an image, and the bytes are its spelling.
     ensures found { IfOk result (λ image. IsImage (form image) × (bytes.now ≡ spelling (form image))) }

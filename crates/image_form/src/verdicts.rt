@@ -10,9 +10,8 @@ pub enum Verdict {
         change: u32,
         node: u32,
     },
-    /// No value: a path from a start place shows that its home does not hold what the source says.
-    /// The writer is the address of the code word that wrote too early or too late, none where the
-    /// assignment was removed.
+    /// No value: a path from a start place shows that its home does not hold what the source says. The writer is the
+    /// address of the code word that wrote too early or too late, none where the assignment was removed.
     Noncurrent {
         change: u32,
         start: u32,

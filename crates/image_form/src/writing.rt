@@ -24,8 +24,7 @@ pub fn write(alloc: Global, image: &Image) -> Result<Vec<u8>, AllocError>
 }
 
 /// The bytes that spell the tables of an image, whether or not they keep the rules of images: so that reading them back
-/// tells. None where
-/// they would be 2^32 bytes or more, whose number the header cannot say.
+/// tells. None where they would be 2^32 bytes or more, whose number the header cannot say.
 #[tactic(auto, unfolding(crate::specs::Spelling::size))]
 pub fn spell(alloc: Global, image: &Image) -> Result<Option<Vec<u8>>, AllocError>
     ensures { IfOk result (λ bytes.

@@ -31,8 +31,7 @@ fn image_in(alloc: Global, bytes: &[u8]) -> Result<Option<Image>, AllocError>
 }
 
 /// The image that says what these tables say, with as many owners as words: they are written and read back. None just
-/// where they break a rule of images. The
-/// only error is want of memory.
+/// where they break a rule of images. The only error is want of memory.
 pub fn spelled_image(alloc: Global, tables: &Image) -> Result<Option<SpelledImage>, AllocError>
     requires { length tables.now.owners.items ≡ length tables.now.code.items }
     ensures image { IfOk result (λ o. IfSome o (λ s. IsImage (form s.image))) }

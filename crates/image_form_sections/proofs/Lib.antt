@@ -3,6 +3,7 @@ pub mod FirstAt
 pub mod Inside
 pub mod MaskLaws
 pub mod Octets
+pub mod PairKeys
 pub mod RowLaws
 pub mod SectionLaws
 pub mod Unfit

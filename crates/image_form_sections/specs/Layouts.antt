@@ -1,13 +1,15 @@
 -- What tables and layouts in memory say.
-use Rattle.std.specs.Prelude.{◌≡◌, ℕ, ◌&&◌, ◌==◌, List, slice_index}
+use Rattle.std.specs.Prelude.{◌≡◌, ◌↔◌, ℕ, ◌<◌, ◌&&◌, ◌==◌, true, List, Contains, slice_index}
 use Rattle.std.specs.BTreeMap.{BTreeMap}
 use Rattle.std.specs.BTreeMap as tree
 use Rattle.std.specs.List.{position_from}
+use Rattle.std.specs.List.Sorted.{IsNonDecreasing}
 use Rattle.std.specs.Ordering.{nat_cmp, ordering_then}
 use Rattle.std.specs.declared.cmp.Ordering.{Ordering}
 use Rattle.image_form_sections.specs.declared.layout.Layout.{Layout}
 use Rattle.image_form_sections.specs.declared.table.Table.{Table}
 use Rattle.image_form_sections.specs.Sections.{rows_at, Sections}
+use Rattle.image_form_sections.specs.TestsOfChanges.{is_quiet_place, is_taken_from, pair_key}
 
 -- The rows of a table.
 abbrev pub rows_in : Table → List (List ℕ)
@@ -47,3 +49,17 @@ abbrev pub HoldsFirstNodes : BTreeMap (ℕ × ℕ × ℕ) ℕ → List (List ℕ
 HoldsFirstNodes map nodes =
     (key : ℕ × ℕ × ℕ) → tree.get node_cmp map key
     ≡ position_from (λ q. slice_index q 0 == key.0 && slice_index q 1 == key.1 && slice_index q 2 == key.2) 0 nodes
+
+-- The numbers are those of the places and variables of changes by which assignments went, in order.
+pub record HoldsTakenPlaces (keys : List ℕ) (s : Sections) : Type 0 where
+  pub ordered : IsNonDecreasing keys
+  pub all :
+      (place variable : ℕ) → variable < 4294967296
+      → Contains keys (pair_key place variable) ↔ (is_taken_from s place variable ≡ true)
+
+-- The numbers are those of the places and variables at which quiet paths may begin, in order.
+pub record HoldsQuietPlaces (keys : List ℕ) (s : Sections) : Type 0 where
+  pub ordered : IsNonDecreasing keys
+  pub all :
+      (place variable : ℕ) → variable < 4294967296
+      → Contains keys (pair_key place variable) ↔ (is_quiet_place s place variable ≡ true)

@@ -1,5 +1,6 @@
 -- The tests of changes, of the pairs of flow and assignments, and of visible rows.
-use Rattle.std.specs.Prelude.{ℕ, ◌-◌, Bool, ◌&&◌, ◌||◌, ◌==◌, nat_lt, nat_le, if◌then◌else◌, List, [], ◌∷◌, length}
+use Rattle.std.specs.List.{list_any}
+use Rattle.std.specs.Prelude.{ℕ, ◌+◌, ◌*◌, ◌-◌, Bool, not, ◌&&◌, ◌||◌, ◌==◌, nat_lt, nat_le, if◌then◌else◌, List, [], ◌∷◌, length, slice_index}
 use Rattle.image_form_sections.specs.Sections.{Sections, cell}
 use Rattle.image_form_sections.specs.Versions.{has_quiet, level_of}
 use Rattle.image_form_sections.specs.TestsOfTables.{within, is_not_below, is_pair_above, is_place, is_code_address}
@@ -53,9 +54,27 @@ is_writer s i =
     if nat_lt (cell s.rows i 2) 2 then cell s.rows i 5 == 0
     else (if is_taking (cell s.changes (cell s.rows i 3 - 1) 1) then cell s.rows i 5 == 0 else is_code_address s (cell s.rows i 5))
 
+-- A place and a variable as one number.
+unfoldable pub pair_key : (place variable : ℕ) → ℕ
+pair_key place variable = place * 4294967296 + variable
+
+-- A change took an assignment of a variable from a place.
+abbrev pub is_taken_from : Sections → (place variable : ℕ) → Bool
+is_taken_from s place variable =
+    list_any
+    (λ change. is_taking (slice_index change 1) && slice_index change 2 == place && slice_index change 3 == variable)
+    s.changes
+
+-- A place assigns a variable, and no change took that assignment.
+unfoldable pub is_quiet_place : Sections → (place variable : ℕ) → Bool
+is_quiet_place s place variable =
+    list_any (λ pair. slice_index pair 0 == place && slice_index pair 1 == variable) s.assigned
+    && not (is_taken_from s place variable)
+
 -- The place at which a quiet path begins: 0 where there is none, and where a value is shown.
 unfoldable pub is_quiet_start : Sections → ℕ → Bool
-is_quiet_start s i = cell s.rows i 6 == 0 || (nat_le 2 (cell s.rows i 2) && is_place s (cell s.rows i 6))
+is_quiet_start s i =
+    cell s.rows i 6 == 0 || (nat_le 2 (cell s.rows i 2) && is_quiet_place s (cell s.rows i 6) (cell s.rows i 1))
 
 -- The place, the variable, the verdict, the change, the node or start place, the writer and the quiet path's begin of the i-th
 -- visible row.

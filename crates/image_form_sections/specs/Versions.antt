@@ -7,17 +7,17 @@ use Rattle.image_form_sections.specs.declared.version.Level.{Level}
 use Rattle.image_form_sections.specs.declared.version.Level.TheVariants.{Plain, Quiet, Callers}
 use Rattle.image_form_sections.specs.declared.version.Version.{Version}
 
--- The greatest version that is read and written.
-unfoldable pub greatest_version : ℕ
-greatest_version = 1
+-- The number of the greatest level whose versions are read and written.
+unfoldable pub greatest_level : ℕ
+greatest_level = 1
+
+-- Whether the versions of the second map are read and written.
+unfoldable pub reads_large : Bool
+reads_large = false
 
 -- Whether structures may stand in an image.
 unfoldable pub has_structures : Bool
 has_structures = false
-
--- The number is that of a version that is read.
-unfoldable pub is_read : ℕ → Bool
-is_read n = nat_le 1 n && nat_le n greatest_version
 
 -- The number of a map.
 abbrev pub map_number : Map → ℕ
@@ -41,6 +41,15 @@ map_of n = if n % 2 == 1 then One else Two
 -- The level of the version of a number; the greatest one stands for all above it.
 abbrev pub level_of : ℕ → Level
 level_of n = if nat_le n 2 then Plain else if nat_le n 4 then Quiet else Callers
+
+-- The versions of a map are read.
+abbrev pub reads_map : Map → Bool
+reads_map One = true
+reads_map Two = reads_large
+
+-- The number is that of a version that is read.
+unfoldable pub is_read : ℕ → Bool
+is_read n = nat_le 1 n && nat_le (level_number (level_of n)) greatest_level && reads_map (map_of n)
 
 -- The version of a number.
 abbrev pub version_of : ℕ → Version

@@ -1,10 +1,11 @@
 //! The rules of changes, flow pairs, assigned pairs and visible rows.
 
 ghost use Rattle.std.specs.Prelude.{◌≡◌, ⊤};
-ghost use Rattle.image_form_sections.specs.Layouts.{rows_in, sections_in};
-ghost use Rattle.image_form_sections.specs.TestsOfChanges.{assigned_tests, change_tests, flow_tests, is_change, is_kind, is_node_or_start, is_quiet_start, is_taking, is_visible, is_writer, row_tests};
+ghost use Rattle.image_form_sections.specs.Layouts.{HoldsQuietPlaces, rows_in, sections_in};
+ghost use Rattle.image_form_sections.specs.TestsOfChanges.{assigned_tests, change_tests, flow_tests, is_change, is_kind, is_node_or_start, is_quiet_place, is_quiet_start, is_taking, is_visible, is_writer, row_tests};
 
 use crate::layout::Layout;
+use crate::quiet_rules::pair_key;
 use crate::rule::{Rule, is_code_address, is_not_below, is_pair_above, is_place};
 use crate::version::level_of;
 
@@ -47,7 +48,7 @@ fn is_kind(layout: &Layout<'_>, number: u32) -> bool
 }
 
 /// Whether an assignment went by changes of the kind of a number.
-fn is_taking(number: u32) -> bool
+pub fn is_taking(number: u32) -> bool
     ensures { result ≡ is_taking number }
 {
     number == 0 || number == 4
@@ -100,16 +101,18 @@ impl Rule for AssignedRule<'_, '_> {
     }
 }
 
-/// The rule of visible rows.
+/// The rule of visible rows, which knows where quiet paths may begin.
 #[derive(Clone, Copy)]
 pub struct VisibleRule<'a, 'b> {
     pub layout: &'a Layout<'b>,
+    /// The places with the variables that they assign, of which no change took the assignment, in order.
+    pub quiet: &'a [u64],
 }
 
 impl Rule for VisibleRule<'_, '_> {
     ghost tests = { λ rule. row_tests (sections_in rule.layout.now) };
 
-    ghost ready = { λ _. ⊤ };
+    ghost ready = { λ rule. HoldsQuietPlaces rule.quiet.now (sections_in rule.layout.now) };
 
     fn fault(&self, row: usize) -> Option<usize> {
         let rows = &self.layout.rows;
@@ -125,7 +128,7 @@ impl Rule for VisibleRule<'_, '_> {
             Some(4)
         } else if !is_writer(self.layout, row) {
             Some(5)
-        } else if !is_quiet_start(self.layout, row) {
+        } else if !self.is_quiet_start(row) {
             Some(6)
         } else {
             None
@@ -188,10 +191,23 @@ fn is_writer(layout: &Layout<'_>, row: usize) -> bool
     }
 }
 
-#[tactic(auto, unfolding(crate::specs::TestsOfChanges::is_quiet_start))]
-fn is_quiet_start(layout: &Layout<'_>, row: usize) -> bool
-    ensures { result ≡ is_quiet_start (sections_in layout.now) row }
-{
-    let begin = layout.rows.number(row, 6);
-    begin == 0 || (layout.rows.number(row, 2) >= 2 && is_place(layout, begin))
+impl VisibleRule<'_, '_> {
+    #[tactic(auto, unfolding(crate::specs::TestsOfChanges::is_quiet_start))]
+    fn is_quiet_start(&self, row: usize) -> bool
+        requires { HoldsQuietPlaces self.now.quiet.now (sections_in self.now.layout.now) }
+        ensures { result ≡ is_quiet_start (sections_in self.now.layout.now) row }
+    {
+        let rows = &self.layout.rows;
+        let begin = rows.number(row, 6);
+        begin == 0 || (rows.number(row, 2) >= 2 && self.is_quiet_place(begin, rows.number(row, 1)))
+    }
+
+    /// Whether a place assigns a variable, and no change took that assignment.
+    #[tactic(auto, unfolding(crate::specs::TestsOfChanges::is_quiet_place))]
+    fn is_quiet_place(&self, place: u32, variable: u32) -> bool
+        requires { HoldsQuietPlaces self.now.quiet.now (sections_in self.now.layout.now) }
+        ensures { result ≡ is_quiet_place (sections_in self.now.layout.now) place variable }
+    {
+        self.quiet.binary_search(&pair_key(place, variable)).is_ok()
+    }
 }

@@ -16,6 +16,7 @@ use crate::header::{HEADER_SIZE, check_header};
 use crate::layout::{Layout, layout_of};
 use crate::name_rules::first_misfit;
 use crate::node_rules::{NodeRule, first_nodes};
+use crate::quiet_rules::quiet_places;
 use crate::rule::first_fault;
 use crate::section::{Counts, Section, start};
 use crate::variable_rules::VariableRule;
@@ -95,7 +96,12 @@ fn check_tables(alloc: Global, layout: &Layout<'_>) -> Result<(), ImageErr>
     breach(Code::PAIRS_AND_ROWS, layout, Section::Flow, broken)?;
     let broken = first_fault(&AssignedRule { layout }, layout.assigned.len());
     breach(Code::PAIRS_AND_ROWS, layout, Section::Assigned, broken)?;
-    let broken = first_fault(&VisibleRule { layout }, layout.rows.len());
+    let quiet = quiet_places(alloc, layout)?;
+    let rule = VisibleRule {
+        layout,
+        quiet: &quiet,
+    };
+    let broken = first_fault(&rule, layout.rows.len());
     breach(Code::PAIRS_AND_ROWS, layout, Section::Rows, broken)?;
     let firsts = first_nodes(alloc, layout)?;
     let rule = NodeRule {

@@ -9,6 +9,7 @@ mod header;
 mod layout;
 mod name_rules;
 mod node_rules;
+mod quiet_rules;
 mod rule;
 mod section;
 mod table;

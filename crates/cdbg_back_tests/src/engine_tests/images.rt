@@ -35,7 +35,15 @@ fn place(position: u32, line: u32, function: u32, address: u32) -> Place
 
 /// An int with a name of one letter, in a slot.
 fn variable(function: u32, position: u32, offset: u32) -> Variable
-    ensures { result ≡ record { name_length = 1; function = Some function; position = position; element = ElementType.I32; storage = Storage.Slot offset; count = 0 } }
+    ensures { result ≡ record {
+      name_length = 1;
+      function = Some function;
+      position = position;
+      element = ElementType.I32;
+      storage =
+          Storage.Slot offset;
+      count = 0;
+    } }
 {
     Variable {
         name_length: 1,
@@ -121,7 +129,8 @@ pub fn addition_image(alloc: Global) -> Result<Image, AllocError>
     })
 }
 
-/// Two functions, f and main, each with an x, and main with a y. Main sets x to 9 and y to -5, calls f, which sets its x to 3, puts out
+/// Two functions, f and main, each with an x, and main with a y. Main sets x to 9 and y to -5, calls f, which sets its
+/// x to 3, puts out
 /// A so many times, and ends by a call of the environment: its number is given, and so is the word that should make it.
 #[tactic(auto, unfolding(crate::specs::Samples::calling_form))]
 pub fn calling_image(alloc: Global, count: u32, call: u32, last: u32) -> Result<Image, AllocError>

@@ -28,7 +28,8 @@ fn altered(alloc: Global, bytes: &[u8], at: usize, number: u32) -> Result<Vec<u8
     Ok(copy)
 }
 
-/// Where a number of an image is altered, the number that stands there then, the rule that it breaks, and at which byte.
+/// Where a number of an image is altered, the number that stands there then, the rule that it breaks, and at which
+/// byte.
 type Row = (usize, u32, Code, usize);
 
 /// Each altered image is refused as it should be, whether it is read or viewed.
@@ -120,9 +121,13 @@ fn what_is_read_is_written_again(rt: HostRuntime) -> Result<(), Fail> {
     Ok(())
 }
 
-static SMALL_REFUSALS: [Row; 13] = [
+static SMALL_REFUSALS: [Row; 17] = [
     (0, 0x47424444, Code::MAGIC, 0), // the first byte
-    (4, 9, Code::VERSION, 4), // the version
+    (4, 2, Code::VERSION, 4), // a version of the second map
+    (4, 3, Code::LENGTH, 8), // a version with longer rows
+    (4, 4, Code::VERSION, 4), // a version of the second map with longer rows
+    (4, 5, Code::VERSION, 4), // a version with rows of calls
+    (4, 9, Code::VERSION, 4), // no version
     (8, 378, Code::LENGTH, 8), // one byte more
     (12, 2, Code::HEADER_NUMBERS, 12), // the mode
     (60, 1, Code::HEADER_NUMBERS, 60), // the zero

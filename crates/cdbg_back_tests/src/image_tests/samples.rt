@@ -3,7 +3,8 @@
 /// How many code words the small image has.
 pub const N: usize = 7;
 
-/// An image of `int main(void){int x=2; x=x+3; putchar(65); return x;}`, with few code words: one function, five places and one
+/// An image of `int main(void){int x=2; x=x+3; putchar(65); return x;}`, with few code words: one function, five places
+/// and one
 /// variable in a slot.
 pub static SMALL: [u8; 377] = [
     67, 68, 66, 71, 1, 0, 0, 0, 121, 1, 0, 0, 0, 0, 0, 0, 7, 0, 0, 0, 0, 0, 0, 0, 1, 0, 0, 0, 5, 0,

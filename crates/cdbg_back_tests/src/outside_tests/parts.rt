@@ -14,7 +14,8 @@ pub enum Answer {
     Fault,
 }
 
-/// A system of which each file answers its reads in turn and is then at its end, and takes two bytes at a time as long as it has room.
+/// A system of which each file answers its reads in turn and is then at its end, and takes two bytes at a time as long
+/// as it has room.
 #[derive(Drop)]
 pub struct Parts<'a> {
     pub answers: &'static [Answer],
