@@ -1,16 +1,19 @@
 -- The run of an image that is stepped to its end, in counts.
 use Rattle.std.specs.Prelude.{◌≡◌, ℕ, ◌+◌, min, Some, List, [], ◌∷◌, length}
+use Rattle.std.specs.Option.{option_map_or}
 use Rattle.image_form.specs.Form.{Form}
+use Rattle.image_form.specs.declared.verdicts.Verdict.{Verdict}
+use Rattle.image_form.specs.declared.verdicts.Verdict.TheVariants.{Home, Recovered, Noncurrent, Nonresident}
+use Rattle.image_form.specs.declared.verdicts.VisibleRow.{VisibleRow}
 use Rattle.session_lines.specs.declared.lines.PairCounts.{PairCounts}
 use Rattle.rv_machine.specs.Run.{MachineEvent}
-use Rattle.stop_engine.specs.AtStop.{locals_at}
 use Rattle.stop_engine.specs.EngineState.{HasRun, RunState, fresh_run}
 use Rattle.stop_engine.specs.Halting.{halt_at, halt_of}
 use Rattle.stop_engine.specs.Transcript.{AnyStop, Ending, Position, Fresh, Standing, Over, Reach, ran}
-use Rattle.stop_engine.specs.Visible.{Visible}
 use Rattle.stop_engine.specs.declared.halt.Halt.{Halt}
 use Rattle.stop_engine.specs.declared.halt.Halt.TheVariants as halt
-use Rattle.stop_engine_texts.specs.Sight.{Sight, NoStop, NoName, Value, Recovered, Noncurrent, Nonresident}
+use Rattle.stop_engine_view.specs.Reading.{place_at}
+use Rattle.stop_engine_view.specs.Rows.{rows_at}
 use Rattle.session_lines.specs.declared.summary.Counts.{Counts}
 use Rattle.session_lines.specs.declared.summary.Summary.{Summary}
 
@@ -26,28 +29,34 @@ nothing = record { stops = 0; pairs = no_pairs; out = 0 }
 abbrev pub and_more : ℕ → ℕ → ℕ
 and_more n k = min (n + k) 18446744073709551615
 
--- a visible variable more, by what is seen of it
-abbrev pub counted : Sight → PairCounts → PairCounts
-counted NoStop c = c
-counted NoName c = c
-counted (Value text) c = record c { home = and_more c.home 1; pairs = and_more c.pairs 1 }
-counted (Recovered text change) c = record c { recovered = and_more c.recovered 1; pairs = and_more c.pairs 1 }
-counted (Noncurrent change path) c = record c { noncurrent = and_more c.noncurrent 1; pairs = and_more c.pairs 1 }
-counted (Nonresident change path) c = record c { nonresident = and_more c.nonresident 1; pairs = and_more c.pairs 1 }
+-- a visible variable more, by the verdict on it
+abbrev pub counted : Verdict → PairCounts → PairCounts
+counted Home c = record c { home = and_more c.home 1; pairs = and_more c.pairs 1 }
+counted (Recovered change node) c = record c { recovered = and_more c.recovered 1; pairs = and_more c.pairs 1 }
+counted (Noncurrent change start writer) c = record c { noncurrent = and_more c.noncurrent 1; pairs = and_more c.pairs 1 }
+counted (Nonresident change start writer) c = record c { nonresident = and_more c.nonresident 1; pairs = and_more c.pairs 1 }
 
--- some visible variables more
-abbrev pub counted_all : List Visible → PairCounts → PairCounts
+-- some visible variables more, by their rows
+abbrev pub counted_all : List VisibleRow → PairCounts → PairCounts
 counted_all [] c = c
-counted_all (v ∷ all) c = counted_all all (counted v.sight c)
+counted_all (r ∷ rows) c = counted_all rows (counted r.verdict c)
 
--- a stop more, with these visible variables
-abbrev pub counted_here : List Visible → Counts → Counts
-counted_here locals c = record c { stops = and_more c.stops 1; pairs = counted_all locals c.pairs }
+-- a stop more at a place, with the rows of its visible variables
+abbrev pub counted_here : Form → (place : ℕ) → Counts → Counts
+counted_here m place c = record c { stops = and_more c.stops 1; pairs = counted_all (rows_at place m.rows) c.pairs }
 
--- a stop more, if the run stands at one, with its visible variables
+-- a stop more, if the run halted at one
+abbrev pub counted_halt : Form → Halt → Counts → Counts
+counted_halt m (halt.At place depth) c = counted_here m place c
+counted_halt m (halt.Exited status) c = c
+counted_halt m halt.Depth c = c
+counted_halt m (halt.Fault address) c = c
+counted_halt m halt.Limit c = c
+
+-- a stop more, if the run stands at one
 abbrev pub counted_stop : Form → Position → Counts → Counts
 counted_stop m Fresh c = c
-counted_stop m (Standing s) c = counted_here (locals_at m (Standing s)) c
+counted_stop m (Standing s) c = option_map_or (λ place. counted_here m place c) (place_at m s.pc) c
 counted_stop m (Over e) c = c
 
 -- a step more: its output, and the stop to which it came

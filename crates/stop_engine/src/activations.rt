@@ -66,8 +66,7 @@ fn activations_at(
 }
 
 /// The activations that are live at a stop, the innermost, which stands at this place, first. `AllocError` where memory
-/// for them was
-/// refused.
+/// for them was refused.
 pub fn activations(
     alloc: Global,
     image: &View<'_>,

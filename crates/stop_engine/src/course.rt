@@ -80,8 +80,7 @@ fn make_room(output: &mut Vec<u8>) -> Result<(), AllocError>
 }
 
 /// Runs to the next stop of the aim or to the ending, with at most so many instructions. `AllocError` where the room
-/// for output is full
-/// and more of it was refused: the run then stands between two instructions, and may go on.
+/// for output is full and more of it was refused: the run then stands between two instructions, and may go on.
 pub fn run_on(
     table: &StopTable,
     aim: &Stops,

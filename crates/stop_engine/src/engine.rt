@@ -61,8 +61,7 @@ impl<'a> Model for Engine<'a> {
 
 impl<'a> Engine<'a> {
     /// The engine of an image, before the first instruction of a run on this input, of at most `limit` instructions.
-    /// `AllocError` where
-    /// memory for the machine or for a table of the image was refused.
+    /// `AllocError` where memory for the machine or for a table of the image was refused.
     pub fn new(
         alloc: Global,
         image: &View<'a>,
@@ -85,10 +84,8 @@ impl<'a> Engine<'a> {
     }
 
     /// Runs to the next of these stops or to the ending, and says where it halted. At least one instruction is executed
-    /// before a stop;
-    /// behind an ending nothing runs any more, and the ending is answered again. `AllocError` where memory for 65,536
-    /// more bytes of
-    /// output was refused: no event is lost, and a later call goes on.
+    /// before a stop; behind an ending nothing runs any more, and the ending is answered again. `AllocError` where
+    /// memory for 65,536 more bytes of output was refused: no event is lost, and a later call goes on.
     pub fn run_to(&mut self, stops: &Stops) -> Result<Halt, AllocError>
         ensures ran { OnOk result (HasRun (aim_of stops.now) self.old.run self.new.run) }
         ensures halt { IfOk result (λ halt. halt_at self.new.run.form self.new.run.position ≡ Some halt) }
@@ -126,8 +123,7 @@ impl<'a> Engine<'a> {
     }
 
     /// The variables that are visible where the engine stands, each by its own row, in the order of their positions: at
-    /// no stop none.
-    /// `AllocError` where memory for them was refused.
+    /// no stop none. `AllocError` where memory for them was refused.
     pub fn locals(&self, alloc: Global) -> Result<Vec<Local>, AllocError>
         ensures { IfOk result
             (λ locals. map visible_of locals.items ≡ locals_at self.now.run.form self.now.run.position) }
@@ -139,8 +135,7 @@ impl<'a> Engine<'a> {
     }
 
     /// The activations that are live where the engine stands, the innermost first: none exactly at no stop.
-    /// `AllocError` where memory
-    /// for them was refused.
+    /// `AllocError` where memory for them was refused.
     pub fn frames(&self, alloc: Global) -> Result<Vec<Frame>, AllocError>
         ensures frames { IfOk result
             (λ frames. map activation_of frames.items ≡ frames_at self.now.run.form self.now.run.position) }
@@ -153,8 +148,7 @@ impl<'a> Engine<'a> {
     }
 
     /// The lines that a command of a script prints, as texts without their ends. `AllocError` where memory for the
-    /// output or for a line
-    /// was refused.
+    /// output or for a line was refused.
     pub fn answer(&mut self, alloc: Global, command: &Command) -> Result<Vec<Vec<u8>>, AllocError>
         ensures answered { IfOk result (λ lines.
             Answers self.old self.new (order_of command.now) (map (λ line. line.items) lines.items)) }

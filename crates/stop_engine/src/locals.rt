@@ -44,8 +44,7 @@ fn visible_of_row(
 }
 
 /// The variables that are visible at a place, each by its own row, in the order of the rows. `AllocError` where memory
-/// for them was
-/// refused.
+/// for them was refused.
 pub fn visible_at(
     alloc: Global,
     image: &View<'_>,

@@ -55,8 +55,7 @@ impl<'a> Model for Run<'a> {
 
 impl<'a> Run<'a> {
     /// The run of an image before its first instruction, on this input, of at most `limit` instructions. `AllocError`
-    /// where memory for
-    /// the machine or for the table of stops was refused.
+    /// where memory for the machine or for the table of stops was refused.
     pub fn new(
         alloc: Global,
         image: &View<'a>,
@@ -78,10 +77,8 @@ impl<'a> Run<'a> {
     }
 
     /// Runs to the next of these stops or to the ending, and says where it halted. At least one instruction is executed
-    /// before a stop;
-    /// behind an ending nothing runs any more, and the ending is answered again. `AllocError` where memory for 65,536
-    /// more bytes of
-    /// output was refused: no event is lost, and a later call goes on.
+    /// before a stop; behind an ending nothing runs any more, and the ending is answered again. `AllocError` where
+    /// memory for 65,536 more bytes of output was refused: no event is lost, and a later call goes on.
     pub fn run_to(&mut self, stops: &Stops) -> Result<Halt, AllocError>
         ensures ran { OnOk result (HasRun (aim_of stops.now) self.old self.new) }
         ensures halt { IfOk result (λ halt. halt_at self.new.form self.new.position ≡ Some halt) }

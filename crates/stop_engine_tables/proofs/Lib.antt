@@ -1,3 +1,5 @@
+mod Flags
+mod HomeWords
 pub mod NameBounds
 mod NameStartLaws
 pub mod Records

@@ -79,8 +79,7 @@ pub fn greatest_depth() -> u32
 }
 
 /// The places of the activations that are live, from the innermost, which stands at this place, on. `AllocError` where
-/// memory for them
-/// was refused.
+/// memory for them was refused.
 pub fn frame_places(
     alloc: Global,
     image: &View<'_>,

@@ -96,10 +96,16 @@ row_none m place n end name past =
     let count : end - n ≡ 0 = omega (arith, past) in
     ap (λ k. row_of m place name (take k (drop n m.rows))) count
 
-next_row : (n end : ℕ) (r : VisibleRow) (rows : List VisibleRow) → n < end → slice_get rows n ≡ Some r → slice_range rows n end ≡ r ∷ slice_range rows (n + 1) end
+-- the next one of a range of rows
+pub next_row : (n end : ℕ) (r : VisibleRow) (rows : List VisibleRow) → n < end → slice_get rows n ≡ Some r → slice_range rows n end ≡ r ∷ slice_range rows (n + 1) end
 next_row n end r rows lt at =
     let count : end - n ≡ suc (end - (n + 1)) = omega (arith, lt) in
     ap (λ l. take (end - n) l) (records_from rows n r at) ∙ ap (λ k. take k (r ∷ drop (n + 1) rows)) count
+
+pub past_rows : (n end : ℕ) (rows : List VisibleRow) → end ≤ n → slice_range rows n end ≡ []
+past_rows n end rows past =
+    let count : end - n ≡ 0 = omega (arith, past) in
+    ap (λ k. take k (drop n rows)) count
 
 is_of_place : (place : ℕ) (r : VisibleRow) → r.place ≡ place → (r.place == place) ≡ true
 is_of_place place r of = grind (arith, nat_tests, of)

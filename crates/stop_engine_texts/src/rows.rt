@@ -4,13 +4,14 @@ ghost use Rattle.std.specs.Prelude.{◌≡◌, ◌<◌, ◌≤◌, [], IfOk, len
 ghost use Rattle.image_form.specs.Rules.{IsImage};
 ghost use Rattle.image_form.specs.RulesOfFunctions.{IsPlaceNumber};
 ghost use Rattle.image_form.specs.Views.{viewed};
-ghost use Rattle.image_form.specs.declared.verdicts.Verdict.TheVariants.{Recovered};
+ghost use Rattle.image_form.specs.declared.verdicts.Verdict.TheVariants.{Recovered as RecoveredBy};
 ghost use Rattle.places.specs.Path.{places};
 ghost use Rattle.places.specs.Route.{route_of};
 ghost use Rattle.stop_engine_tables.specs.Tables.{AreTablesOf};
-ghost use Rattle.stop_engine_texts.specs.Rows.{IsChangeNumber, IsRow, change_words, row_sight, verdict_sight};
-ghost use Rattle.stop_engine_texts.specs.Sight.{sight_of};
+ghost use Rattle.stop_engine_texts.specs.Rows.{IsChangeNumber, IsRow, change_words, hidden_sight, row_sight, verdict_sight};
+ghost use Rattle.stop_engine_texts.specs.Sight.{Noncurrent, Nonresident, Suspect, sight_of};
 ghost use Rattle.stop_engine_view.specs.Evidence.{row_path, row_quest, via_of};
+ghost use Rattle.stop_engine_view.specs.QuietPaths.{quiet_path};
 ghost use Rattle.stop_engine_view.specs.Values.{held_text, recipe_levels, recovered_text};
 
 use crate::recipes::recipe_value;
@@ -19,10 +20,10 @@ use crate::values::{variable_text, word_text};
 use debug_records::{Place, Var};
 use image_form::{Verdict, View, VisibleRow};
 use line_form::change_text;
-use places::{Path, route};
+use places::{Path, route, route_past};
 use rv_machine::Machine;
 use std::alloc::{AllocError, Global};
-use stop_engine_tables::{Tables, owner_of};
+use stop_engine_tables::{Tables, disturbed_places, owner_of};
 
 /// The text of a change, by its number.
 fn change_words(
@@ -170,7 +171,7 @@ fn anew(
     requires variable { row.variable < length (viewed image.now).variables }
     requires change { IsChangeNumber (viewed image.now) change }
     ensures { IfOk result (λ shown. sight_of shown
-        ≡ verdict_sight (viewed image.now) machine.now row.place row.variable (Recovered change node)) }
+        ≡ verdict_sight (viewed image.now) machine.now row.place row.variable row.quiet (RecoveredBy change node)) }
 {
     let value = recovered_text(alloc, image, machine, tables, row.place, row.variable, node)?;
     let change = change_words(alloc, image, tables, change)?;
@@ -201,6 +202,104 @@ fn tell(
     let path = evidence_path(alloc, image, tables, evidence)?;
     let change = change_words(alloc, image, tables, evidence.change)?;
     Ok(Witness { change, path })
+}
+
+/// The path from a start on which nothing disturbs the variable of a row, if there is one.
+fn quiet_path(
+    alloc: Global,
+    image: &View<'_>,
+    tables: &Tables,
+    row: VisibleRow,
+    start: u32,
+) -> Result<Option<Path>, AllocError>
+    requires image { IsImage (viewed image.now) }
+    requires tables { AreTablesOf (viewed image.now) tables.now }
+    requires variable { row.variable < length (viewed image.now).variables }
+    ensures { IfOk result (λ path. unwrap_or (option_map (λ p. places p) path) []
+        ≡ quiet_path (viewed image.now) row.variable start row.place) }
+{
+    let disturbed = disturbed_places(alloc, image, row.variable)?;
+    let (start, stop) = (Place(start), Place(row.place));
+    Ok(route_past(alloc, &tables.flow.steps, &disturbed, start, start, stop)?)
+}
+
+/// What is shown of a variable whose home may have its value, by a quiet path from a start, or not.
+fn suspect(
+    alloc: Global,
+    image: &View<'_>,
+    tables: &Tables,
+    row: VisibleRow,
+    start: u32,
+    witness: Witness,
+) -> Result<Shown, AllocError>
+    requires image { IsImage (viewed image.now) }
+    requires tables { AreTablesOf (viewed image.now) tables.now }
+    requires variable { row.variable < length (viewed image.now).variables }
+    ensures { IfOk result (λ shown. sight_of shown
+        ≡ Suspect witness.change.items (unwrap_or (option_map (λ p. places p) witness.path) [])
+        (quiet_path (viewed image.now) row.variable start row.place)) }
+{
+    let current = quiet_path(alloc, image, tables, row, start)?;
+    let Witness { change, path } = witness;
+    Ok(Shown::Suspect {
+        change,
+        path,
+        current,
+    })
+}
+
+/// What is shown of the variable of a row whose home has not its value.
+fn noncurrent(
+    alloc: Global,
+    image: &View<'_>,
+    tables: &Tables,
+    row: VisibleRow,
+    evidence: Evidence,
+) -> Result<Shown, AllocError>
+    requires image { IsImage (viewed image.now) }
+    requires tables { AreTablesOf (viewed image.now) tables.now }
+    requires variable { row.variable < length (viewed image.now).variables }
+    requires change { IsChangeNumber (viewed image.now) evidence.change }
+    requires of { (evidence.variable ≡ row.variable) × (evidence.place ≡ row.place) }
+    ensures { IfOk result (λ shown. sight_of shown
+        ≡ hidden_sight (viewed image.now) row.place row.variable row.quiet Noncurrent evidence.change evidence.start
+        evidence.writer) }
+{
+    let witness = tell(alloc, image, tables, evidence)?;
+    match row.quiet {
+        Some(start) => suspect(alloc, image, tables, row, start, witness),
+        None => Ok(Shown::Noncurrent {
+            change: witness.change,
+            path: witness.path,
+        }),
+    }
+}
+
+/// What is shown of the variable of a row whose home has another's value.
+fn nonresident(
+    alloc: Global,
+    image: &View<'_>,
+    tables: &Tables,
+    row: VisibleRow,
+    evidence: Evidence,
+) -> Result<Shown, AllocError>
+    requires image { IsImage (viewed image.now) }
+    requires tables { AreTablesOf (viewed image.now) tables.now }
+    requires variable { row.variable < length (viewed image.now).variables }
+    requires change { IsChangeNumber (viewed image.now) evidence.change }
+    requires of { (evidence.variable ≡ row.variable) × (evidence.place ≡ row.place) }
+    ensures { IfOk result (λ shown. sight_of shown
+        ≡ hidden_sight (viewed image.now) row.place row.variable row.quiet Nonresident evidence.change evidence.start
+        evidence.writer) }
+{
+    let witness = tell(alloc, image, tables, evidence)?;
+    match row.quiet {
+        Some(start) => suspect(alloc, image, tables, row, start, witness),
+        None => Ok(Shown::Nonresident {
+            change: witness.change,
+            path: witness.path,
+        }),
+    }
 }
 
 /// What is shown of the variable of a row. `AllocError` where memory for it was refused.
@@ -235,19 +334,23 @@ pub fn row_shown(
             change,
             start,
             writer,
-        } => {
-            let evidence = evidence_of(row, change, start, writer);
-            let Witness { change, path } = tell(alloc, image, tables, evidence)?;
-            Ok(Shown::Noncurrent { change, path })
-        }
+        } => noncurrent(
+            alloc,
+            image,
+            tables,
+            row,
+            evidence_of(row, change, start, writer),
+        ),
         Verdict::Nonresident {
             change,
             start,
             writer,
-        } => {
-            let evidence = evidence_of(row, change, start, writer);
-            let Witness { change, path } = tell(alloc, image, tables, evidence)?;
-            Ok(Shown::Nonresident { change, path })
-        }
+        } => nonresident(
+            alloc,
+            image,
+            tables,
+            row,
+            evidence_of(row, change, start, writer),
+        ),
     }
 }

@@ -6,7 +6,8 @@ ghost use Rattle.stop_engine_texts.specs.Sight.{sight_line, sight_of};
 
 use debug_records::Place;
 use line_form::{
-    no_stop_line, noncurrent_line, nonresident_line, nothing_here_line, recovered_line, value_line,
+    no_stop_line, noncurrent_line, nonresident_line, nothing_here_line, recovered_line,
+    suspect_line, value_line,
 };
 use places::Path;
 use std::alloc::{AllocError, Global};
@@ -22,13 +23,29 @@ pub enum Shown {
     /// The value of the variable.
     Value(Vec<u8>),
     /// The value, computed anew, and the change that took it away.
-    Recovered { value: Vec<u8>, change: Vec<u8> },
+    Recovered {
+        value: Vec<u8>,
+        change: Vec<u8>,
+    },
     /// The variable's home has not the variable's value: the change that made it so, and the path that shows it, if
     /// there is one.
-    Noncurrent { change: Vec<u8>, path: Option<Path> },
+    Noncurrent {
+        change: Vec<u8>,
+        path: Option<Path>,
+    },
     /// The variable's home has another's value: the change that made it so, and the path that shows it, if there is
     /// one.
-    Nonresident { change: Vec<u8>, path: Option<Path> },
+    Nonresident {
+        change: Vec<u8>,
+        path: Option<Path>,
+    },
+    /// The variable's home may have its value or not: the change that may have made it so, the path that shows it, and
+    /// the one on which nothing disturbs the home, if there are such.
+    Suspect {
+        change: Vec<u8>,
+        path: Option<Path>,
+        current: Option<Path>,
+    },
 }
 
 /// The places of a path, and none where there is no path.
@@ -55,6 +72,14 @@ pub fn shown_line(alloc: Global, name: &[u8], shown: &Shown) -> Result<Vec<u8>, 
         }
         Shown::Nonresident { change, path } => {
             Ok(nonresident_line(alloc, name, change, path_places(path))?)
+        }
+        Shown::Suspect {
+            change,
+            path,
+            current,
+        } => {
+            let (path, current) = (path_places(path), path_places(current));
+            Ok(suspect_line(alloc, name, change, path, current)?)
         }
     }
 }

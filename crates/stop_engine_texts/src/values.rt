@@ -48,8 +48,7 @@ fn element_word(machine: &Machine, element: ElementType, address: u32) -> u32
 }
 
 /// The text of a word as a value of a type, which takes as many low bits as the type has. `AllocError` where memory for
-/// it was refused,
-/// as for each of these texts.
+/// it was refused, as for each of these texts.
 pub fn word_text(
     alloc: Global,
     image: &View<'_>,

@@ -48,8 +48,7 @@ fn static_of(image: &View<'_>, tables: &Tables, position: u32, name: &[u8]) -> O
 }
 
 /// What is shown of a name: of the first visible variable that has it, else of the first static one that is declared
-/// before the place.
-/// `AllocError` where memory for the text was refused.
+/// before the place. `AllocError` where memory for the text was refused.
 pub fn name_shown(
     alloc: Global,
     image: &View<'_>,

@@ -1,6 +1,8 @@
 pub mod Callers
 pub mod Evidence
+pub mod HomeWrites
 pub mod Pointers
+pub mod QuietPaths
 pub mod Reading
 pub mod Recipes
 pub mod Rows
