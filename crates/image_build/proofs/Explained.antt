@@ -1,9 +1,10 @@
 -- What is evident in the words of the code is explained by the image alone.
-use Rattle.std.proofs.Common.{◌≡◌, ℕ, zero, suc, ◌-◌, ◌/◌, ◌%◌, ◌<◌, ◌^◌, ◌&&◌, true, Option, Some, None, List, [], ◌∷◌, length, map, slice_get, refl, sym, ap, ◌∙◌, subst, arith}
-use Rattle.std.specs.Prelude.{◌==◌, nat_le, slice_index, unwrap_or, if◌then◌else◌, IsSomeAnd}
+use Rattle.std.proofs.Common.{◌≡◌, ℕ, zero, suc, ◌-◌, ◌/◌, ◌%◌, ◌<◌, ◌≤◌, ◌^◌, ◌&&◌, ◌⊎◌, inl, inr, Bool, true, false, Option, Some, None, List, [], ◌∷◌, length, map, slice_get, refl, sym, ap, ◌∙◌, subst, arith}
+use Rattle.std.specs.Prelude.{◌==◌, ◌≢◌, nat_le, slice_index, unwrap_or, if◌then◌else◌, IsSomeAnd, Contains}
 use Rattle.std.specs.Option.{option_map_or}
 use Rattle.std.proofs.lemmas.Bool.{le-leb, eq-eqb, and_from}
 use Rattle.std.proofs.lemmas.List.{length-map}
+use Rattle.std.proofs.lemmas.Option.{none-some, slice_get-get_or}
 use Rattle.debug_records.specs.declared.change.Kind.{Kind}
 use Rattle.debug_records.specs.declared.change.Kind.TheVariants.{Moved, Reused}
 use Rattle.debug_records.specs.Change.{is_taken}
@@ -15,31 +16,39 @@ use Rattle.places.specs.Path.{IsLeastRoute, IsRoute, Quest, quest_by}
 use Rattle.places.proofs.LeastByPlaces.{route_there}
 use Rattle.c_tree.specs.Programs.{ProgramTree}
 use Rattle.graph_core.specs.Graphs.{Logged}
+use Rattle.graph_core.specs.Paths.{Among}
 use Rattle.graph_core.proofs.Among.{among_at, at_among}
-use Rattle.graph_homes.specs.Homed.{HomedForm}
-use Rattle.base_laws.proofs.Lists.{all_at, from_map, map_at}
+use Rattle.graph_homes.specs.Homed.{HomedForm, home_of}
+use Rattle.base_laws.proofs.Lists.{all_at, any_at, from_map, map_at}
 use Rattle.rv_emit_steps.specs.Programs.{address_of}
 use Rattle.currency.specs.Named.{IsNumbered}
 use Rattle.image_form.specs.Form.{Form, numbered}
 use Rattle.image_form.specs.Numbers.{row_numbers, verdict_numbers}
 use Rattle.image_form.specs.Rules.{IsImage}
 use Rattle.image_form.specs.Spelling.{size}
-use Rattle.image_form.specs.RulesOfFunctions.{code_start}
+use Rattle.image_form.specs.RulesOfFunctions.{IsPlaceNumber, code_start}
 use Rattle.memory_map.specs.Maps as maps
-use Rattle.image_form.specs.RulesOfRows.{IsEvidence, IsVerdict, IsWriter}
+use Rattle.image_form.specs.RulesOfRows.{IsEvidence, IsQuietStart, IsVerdict, IsWriter, MayBeQuiet}
+use Rattle.image_form_sections.specs.Versions.{has_quiet}
+use Rattle.image_form.specs.declared.tables.AssignedPair.{AssignedPair}
 use Rattle.image_form.specs.declared.tables.Change.{Change}
 use Rattle.image_form.specs.declared.verdicts.Verdict.{Verdict}
 use Rattle.image_form.specs.declared.verdicts.Verdict.TheVariants as verdict
 use Rattle.image_form.specs.declared.verdicts.VisibleRow.{VisibleRow}
 use Rattle.image_build_tables.specs.Tables.{assigned_pair, change_record, flow_pair}
 use Rattle.stop_engine_view.specs.Evidence.{assignment_of, row_path, row_quest, step_of, via_of}
+use Rattle.stop_engine_view.specs.HomeWrites.{disturbs}
 use Rattle.stop_engine_view.specs.Reading.{owner_of}
 use Rattle.stop_engine_view.proofs.FlowOrder.{steps_in_order}
-use Rattle.image_build.specs.Evidence.{IsEvidentIn, WasRemoved, WasWritten}
-use Rattle.image_build.specs.Explained.{ExplainsAll, IsExplained, IsExplainedBy}
-use Rattle.image_build.specs.Made.{IsMadeOf}
+use Rattle.image_truth_units.specs.Units.{HasVariablesIn}
+use Rattle.image_build.specs.Evidence.{IsEvidentIn, IsQuietIn, OwnsWriter, WasRemoved, WasWritten}
+use Rattle.image_build.specs.Explained.{ExplainsAll, IsExplained, IsExplainedBy, MayBeRight}
+use Rattle.image_build.specs.Made.{IsMadeOfCode}
+use Rattle.image_build.specs.Tables.{HasTablesOf}
+use Rattle.image_build.proofs.Disturbing.{undisturbed}
+use Rattle.image_build.proofs.QuietRoutes.{quiet_route}
 use Rattle.image_build.proofs.Told.{first_same, rest_same}
-use Rattle.image_build.proofs.RecordNumbers.{plain_same}
+use Rattle.image_build.proofs.RecordNumbers.{plain_same, quiet_same}
 use Rattle.image_form.proofs.Counts.{few_records}
 use Rattle.image_form_sections.specs.declared.section.Section.TheVariants.{Flow}
 
@@ -73,15 +82,15 @@ few_steps m whole = few_records m whole Flow
 
 -- ---- By a unit of which the image is made
 
-module _ (p : ProgramTree) (h : HomedForm) (m : Form) (made : IsMadeOf p h m) (image : IsImage m) where
+module _ (p : ProgramTree) (h : HomedForm) (m : Form) (made : IsMadeOfCode p h m) (image : IsImage m) (tables : HasTablesOf p m) (unit : HasVariablesIn p h.unit) where
   abbrev flow : FlowTable
-  flow = made.rows.borne_out.flow
+  flow = made.parts.rows.borne_out.flow
 
   same_steps : map step_of m.flow ≡ flow.steps.items
-  same_steps = ap (map step_of) made.flow ∙ steps_back h.unit.steps ∙ sym made.rows.borne_out.steps
+  same_steps = ap (map step_of) made.parts.flow ∙ steps_back h.unit.steps ∙ sym made.parts.rows.borne_out.steps
 
   same_assignments : map assignment_of m.assigned ≡ flow.assignments.items
-  same_assignments = ap (map assignment_of) made.assigned ∙ assignments_back h.unit.assignments ∙ sym made.rows.borne_out.assignments
+  same_assignments = ap (map assignment_of) made.parts.assigned ∙ assignments_back h.unit.assignments ∙ sym made.parts.rows.borne_out.assignments
 
   -- By a path by the flow of the unit there is one by that of the image, so the path that is printed is one.
   printed_by : (variable change start stop via : ℕ) (writer : Option ℕ) (path : List ℕ) → via_of m change writer ≡ via
@@ -104,7 +113,7 @@ module _ (p : ProgramTree) (h : HomedForm) (m : Form) (made : IsMadeOf p h m) (i
   removed : (v stop change start : ℕ) → WasRemoved h made.emits.code.arrangement made.emitted flow v stop change start → IsExplained m stop v (λ k. is_taken k ≡ true) change start None
   removed v stop change start was =
       let r = was.removed in
-      let logged : numbered m.changes change ≡ Some (change_record r.change) = change_at h.unit.log m.changes change r.change made.changes r.is in
+      let logged : numbered m.changes change ≡ Some (change_record r.change) = change_at h.unit.log m.changes change r.change made.parts.changes r.is in
       record {
         logged = change_record r.change;
         change_is = logged;
@@ -121,10 +130,10 @@ module _ (p : ProgramTree) (h : HomedForm) (m : Form) (made : IsMadeOf p h m) (i
   written kind v stop change start address was =
       let l = was.logged in
       let w = was.word in
-      let owner : owner_of m address ≡ was.via = ap (owner_of m) w.is ∙ owner_at m w.index ∙ ap (λ os. slice_index os w.index) made.owners ∙ w.owner in
+      let owner : owner_of m address ≡ was.via = ap (owner_of m) w.is ∙ owner_at m w.index ∙ ap (λ os. slice_index os w.index) made.parts.owners ∙ w.owner in
       record {
         logged = change_record l.change;
-        change_is = change_at h.unit.log m.changes change l.change made.changes l.is;
+        change_is = change_at h.unit.log m.changes change l.change made.parts.changes l.is;
         kind_is = l.kind;
         concerns = l.of;
         assigned = assigned_by start v was.assigned;
@@ -183,19 +192,83 @@ module _ (p : ProgramTree) (h : HomedForm) (m : Form) (made : IsMadeOf p h m) (i
       let same : verdict.Nonresident change start (Some b) ≡ verdict.Nonresident c s (Some a) = cc in
       subst (IsExplainedBy m stop v) same (by_evidence stop v (verdict.Nonresident change start (Some b)) is)
 
-  -- AN IMAGE THAT IS MADE OF A UNIT EXPLAINS what its rows say to hide variables.
+  -- ---- Quiet paths
+
+  -- a place that the image says to assign a variable does so, and is a place
+  assigned_there : (start variable : ℕ) → Contains m.assigned (record { place = start; variable = variable }) → (assigns (map assignment_of m.assigned) start variable ≡ true) × (1 ≤ start)
+  assigned_there start variable (k, low, is) =
+      let pair : AssignedPair = record { place = start; variable = variable } in
+      let at : slice_get m.assigned k ≡ Some pair = slice_get-get_or m.assigned k pair low ∙ ap Some is in
+      let test : (start == start && variable == variable) ≡ true = and_from (start == start) (variable == variable) (eq-eqb start start refl) (eq-eqb variable variable refl) in (
+        any_at (λ (a : Assignment). a.place.0 == start && a.var.0 == variable) (map assignment_of m.assigned) k (assignment_of pair) (map_at assignment_of m.assigned k pair at) test,
+        (all_at (λ (a : AssignedPair). IsPlaceNumber m a.place × (a.variable < length m.variables)) m.assigned k pair image.assigned.each at).0.0,
+      )
+
+  -- a row that hides a variable may tell where a quiet path begins
+  may_be : (v start : ℕ) (w : Verdict) → IsQuietStart m v w (Some start) → MayBeQuiet m start v
+  may_be v start verdict.Home none = absurd none
+  may_be v start (verdict.Recovered change node) none = absurd none
+  may_be v start (verdict.Noncurrent change s writer) is = is
+  may_be v start (verdict.Nonresident change s writer) is = is
+
+  -- an image in which a row tells it is of a version that has it
+  tells_quiet : (k : ℕ) (r : VisibleRow) (start : ℕ) → slice_get m.rows k ≡ Some r → r.quiet ≡ Some start → has_quiet m.version.level ≡ true
+  tells_quiet k r start at is = by_test (has_quiet m.version.level) refl
+    where
+      by_test : (t : Bool) → has_quiet m.version.level ≡ t → t ≡ true
+      by_test true t = refl
+      by_test false t = absurd (none-some start (sym (all_at (λ (x : VisibleRow). x.quiet ≡ None) m.rows k r (image.rows.none_quiet t) at) ∙ is))
+
+  some_start : (o : Option ℕ) (start : ℕ) → unwrap_or o 0 ≡ start → 1 ≤ start → o ≡ Some start
+  some_start None start e some = absurd (omega (arith, e, some))
+  some_start (Some n) start e some = ap Some e
+
+  -- What a unit's quiet path passes does not disturb the variable in the image.
+  clear_by : (v stop start : ℕ) (q : IsQuietIn h made.emits.code.arrangement made.emitted flow v stop start) (place : ℕ) → place ≢ 0
+      → (((assigns flow.assignments.items place v ≡ true) ⊎ OwnsWriter h made.emits.code.arrangement made.emitted q.scalar.f place (home_of h q.scalar.f q.scalar.x)) → ⊥)
+      → disturbs m v place ≡ false
+  clear_by v stop start q place some free =
+      undisturbed p h m made tables image unit q.scalar.f q.scalar.x v q.scalar.graph q.scalar.is q.scalar.of place some
+      (λ either. free (elim either [
+        | inl assigned ↦ inl (sym (ap (λ all. assigns all place v) same_assignments) ∙ assigned)
+        | inr owned ↦ inr owned
+      ]))
+
+  -- So a variable may be right where a unit has a quiet path.
+  right_by : (v stop start : ℕ) → MayBeQuiet m start v → IsQuietIn h made.emits.code.arrangement made.emitted flow v stop start → MayBeRight m stop v start
+  right_by v stop start may q = record {
+    assigned = (assigned_there start v may.0).0;
+    stays = λ c among at of. (let k = among_at m.changes c among in all_at (λ (x : Change). x.place ≡ start → x.variable ≡ v → is_taken x.kind ≡ false) m.changes k.0 c may.1 k.1) at of;
+    path = quiet_route m image flow same_steps v start (λ p. (assigns flow.assignments.items p v ≡ true) ⊎ OwnsWriter h made.emits.code.arrangement made.emitted q.scalar.f p (home_of h q.scalar.f q.scalar.x)) (clear_by v stop start q) stop q.path;
+  }
+
+  -- A row of the same numbers as one of the unit's tells of the same quiet path.
+  right_row : (k : ℕ) (r row : VisibleRow) → slice_get m.rows k ≡ Some r → Among row made.parts.rows.rows → row_numbers m.version.level row ≡ row_numbers m.version.level r → row.place ≡ r.place → row.variable ≡ r.variable
+      → (start : ℕ) → r.quiet ≡ Some start → MayBeRight m r.place r.variable start
+  right_row k r row at among numbers place var start is =
+      let may : MayBeQuiet m start r.variable = may_be r.variable start r.verdict (subst (IsQuietStart m r.variable r.verdict) is (all_at (λ (x : VisibleRow). IsQuietStart m x.variable x.verdict x.quiet) m.rows k r image.rows.quiet at)) in
+      let same : unwrap_or row.quiet 0 ≡ start = quiet_same m.version.level row r (tells_quiet k r start at is) numbers ∙ ap (λ o. unwrap_or o 0) is in
+      let told : row.quiet ≡ Some start = some_start row.quiet start same (assigned_there start r.variable may.0).1 in
+      right_by r.variable r.place start may
+      (subst (λ n. IsQuietIn h made.emits.code.arrangement made.emitted flow r.variable n start) place
+      (subst (λ n. IsQuietIn h made.emits.code.arrangement made.emitted flow n row.place start) var (made.parts.quiet row start among told)))
+
+  -- AN IMAGE THAT IS MADE OF A UNIT EXPLAINS what its rows say to hide variables, and why these may be right.
   pub explains_all : ExplainsAll m
   explains_all r among =
       let at = among_at m.rows r among in
       let k : ℕ = at.0 in
-      let q = from_map (row_numbers m.version.level) made.rows.rows k (row_numbers m.version.level r) (ap (λ l. slice_get l k) (sym made.rows.same) ∙ map_at (row_numbers m.version.level) m.rows k r at.1) in
+      let q = from_map (row_numbers m.version.level) made.parts.rows.rows k (row_numbers m.version.level r) (ap (λ l. slice_get l k) (sym made.parts.rows.same) ∙ map_at (row_numbers m.version.level) m.rows k r at.1) in
       let row : VisibleRow = q.0 in
       let numbers : row.place ∷ row.variable ∷ verdict_numbers row.verdict ≡ r.place ∷ r.variable ∷ verdict_numbers r.verdict = plain_same m.version.level row r q.2 in
       let place : row.place ≡ r.place = first_same row.place r.place (row.variable ∷ verdict_numbers row.verdict) (r.variable ∷ verdict_numbers r.verdict) numbers in
       let rest : row.variable ∷ verdict_numbers row.verdict ≡ r.variable ∷ verdict_numbers r.verdict = rest_same row.place r.place (row.variable ∷ verdict_numbers row.verdict) (r.variable ∷ verdict_numbers r.verdict) numbers in
       let var : row.variable ≡ r.variable = first_same row.variable r.variable (verdict_numbers row.verdict) (verdict_numbers r.verdict) rest in
-      let evident = made.evident row (at_among made.rows.rows k row q.1) in
-      by_numbers r.place r.variable row.verdict r.verdict (rest_same row.variable r.variable (verdict_numbers row.verdict) (verdict_numbers r.verdict) rest)
-      (all_at (λ (x : VisibleRow). IsVerdict m x.variable x.verdict) m.rows k r image.rows.verdicts at.1)
-      (subst (λ n. IsEvidentIn h made.emits.code.arrangement made.emitted flow r.variable n row.verdict) place
-      (subst (λ n. IsEvidentIn h made.emits.code.arrangement made.emitted flow n row.place row.verdict) var evident))
+      let there : Among row made.parts.rows.rows = at_among made.parts.rows.rows k row q.1 in
+      record {
+        hidden = by_numbers r.place r.variable row.verdict r.verdict (rest_same row.variable r.variable (verdict_numbers row.verdict) (verdict_numbers r.verdict) rest)
+            (all_at (λ (x : VisibleRow). IsVerdict m x.variable x.verdict) m.rows k r image.rows.verdicts at.1)
+            (subst (λ n. IsEvidentIn h made.emits.code.arrangement made.emitted flow r.variable n row.verdict) place
+            (subst (λ n. IsEvidentIn h made.emits.code.arrangement made.emitted flow n row.place row.verdict) var (made.parts.evident row there)));
+        quiet = right_row k r row at.1 there q.2 place var;
+      }

@@ -142,11 +142,11 @@ module _ (h : HomedForm) (a : Arrangement) (e : EmittedForm) (m : Form) (code : 
     row_rule v p told.Home s n naming named says evident = subst (IsVerdict m v) (sym says) tt
     row_rule v p (told.Recovered r c) s n naming named (k, says, node) evident =
         subst (IsVerdict m v) (sym says) (taken_rule v c k named (node_within m.nodes n (recipe_view r) k (subst (λ o. IsNodeIn m.nodes o (recipe_view r) k) naming node)))
-    row_rule v p (told.Noncurrent c start w) s n naming named says evident = hidden_rule v p s evident (λ change node is. absurd (none_recovered c start.0 _ change node (sym says ∙ is)))
+    row_rule v p (told.Noncurrent c start w q) s n naming named says evident = hidden_rule v p s evident (λ change node is. absurd (none_recovered c start.0 _ change node (sym says ∙ is)))
       where
         none_recovered : (c start : ℕ) (o : Option ℕ) (change node : ℕ) → verdict.Noncurrent c start o ≡ verdict.Recovered change node → ⊥
         none_recovered c start o change node same = cc
-    row_rule v p (told.Nonresident c start w) s n naming named says evident = hidden_rule v p s evident (λ change node is. absurd (none_recovered c start.0 _ change node (sym says ∙ is)))
+    row_rule v p (told.Nonresident c start w q) s n naming named says evident = hidden_rule v p s evident (λ change node is. absurd (none_recovered c start.0 _ change node (sym says ∙ is)))
       where
         none_recovered : (c start : ℕ) (o : Option ℕ) (change node : ℕ) → verdict.Nonresident c start o ≡ verdict.Recovered change node → ⊥
         none_recovered c start o change node same = cc

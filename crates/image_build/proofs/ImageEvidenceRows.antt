@@ -5,6 +5,7 @@ use Rattle.places.specs.declared.flow.FlowTable.{FlowTable}
 use Rattle.places.specs.declared.table.PlaceRow.{PlaceRow}
 use Rattle.places.specs.Flow.{assigns}
 use Rattle.debug_records.specs.declared.change.Kind.{Kind}
+use Rattle.debug_records.specs.declared.change.Place.{Place}
 use Rattle.debug_records.specs.declared.change.Kind.TheVariants.{Moved, Reused}
 use Rattle.graph_core.specs.Graphs.{Graph}
 use Rattle.graph_core.specs.Paths.{Among, front, behind}
@@ -38,26 +39,26 @@ use Rattle.image_build.proofs.Words.{IsToldAt, bare_words, writer_words}
 abbrev start_of : declared-verdict.Verdict → ℕ
 start_of told.Home = 0
 start_of (told.Recovered r c) = 0
-start_of (told.Noncurrent c s w) = s.0
-start_of (told.Nonresident c s w) = s.0
+start_of (told.Noncurrent c s w q) = s.0
+start_of (told.Nonresident c s w q) = s.0
 
 abbrev change_of : declared-verdict.Verdict → ℕ
 change_of told.Home = 0
 change_of (told.Recovered r c) = 0
-change_of (told.Noncurrent c s w) = c
-change_of (told.Nonresident c s w) = c
+change_of (told.Noncurrent c s w q) = c
+change_of (told.Nonresident c s w q) = c
 
 abbrev writer_of : declared-verdict.Verdict → Option declared-writer.Writer
 writer_of told.Home = None
 writer_of (told.Recovered r c) = None
-writer_of (told.Noncurrent c s w) = w
-writer_of (told.Nonresident c s w) = Some w
+writer_of (told.Noncurrent c s w q) = w
+writer_of (told.Nonresident c s w q) = Some w
 
 abbrev kind_of : declared-verdict.Verdict → ℕ
 kind_of told.Home = 0
 kind_of (told.Recovered r c) = 1
-kind_of (told.Noncurrent c s w) = 2
-kind_of (told.Nonresident c s w) = 3
+kind_of (told.Noncurrent c s w q) = 2
+kind_of (told.Nonresident c s w q) = 3
 
 module _ (h : HomedForm) (valid : IsValid h.unit) (e : EmittedForm) (emits : Emits h e) (countable : AreCountable h) (flow : FlowTable) where
   abbrev IsShown : (variable stop : ℕ) → Verdict → Type 0
@@ -111,34 +112,34 @@ module _ (h : HomedForm) (valid : IsValid h.unit) (e : EmittedForm) (emits : Emi
   evident_in : (v p : ℕ) (w : declared-verdict.Verdict) → IsNamed h.unit.log v w → IsEvident h.unit.log flow h v p w → (nodes : List Node) (places : List PlaceRow) (place : ℕ) (s : Verdict) → IsVerdictOf (telling_of h places e) nodes place w s → IsShown v p s
   evident_in v p told.Home named evident nodes places place s says = subst (IsShown v p) (sym says) tt
   evident_in v p (told.Recovered r c) named evident nodes places place s (k, says, node) = subst (IsShown v p) (sym says) tt
-  evident_in v p (told.Noncurrent c start None) named evident nodes places place s says = subst (IsShown v p) (sym says) (by_cause evident.cause evident.told evident.evident)
+  evident_in v p (told.Noncurrent c start None q) named evident nodes places place s says = subst (IsShown v p) (sym says) (by_cause evident.hiding.cause evident.hiding.quiet evident.told evident.evident)
     where
-      by_cause : (k : declared-cause.Cause) → IsCauseOf k (told.Noncurrent c start None) → Hides h.unit.log flow (home_of h evident.f) evident.f evident.graph evident.x v p k → WasRemoved h emits.code.arrangement e flow v p c start.0
-      by_cause (cause.Removed c2 start2) e2 hides =
+      by_cause : (k : declared-cause.Cause) (r : Option Place) → IsCauseOf k r (told.Noncurrent c start None q) → Hides h.unit.log flow (home_of h evident.f) evident.f evident.graph evident.x v p k → WasRemoved h emits.code.arrangement e flow v p c start.0
+      by_cause (cause.Removed c2 start2) r e2 hides =
           let number : c2 ≡ c = sym (ap change_of e2) in
           let first : start2 ≡ start.0 = sym (ap start_of e2) in
           removed v p c start.0 evident.f evident.x evident.graph evident.is evident.scalar named
           (subst (λ n. Hides h.unit.log flow (home_of h evident.f) evident.f evident.graph evident.x v p (cause.Removed n start.0)) number
           (subst (λ n. Hides h.unit.log flow (home_of h evident.f) evident.f evident.graph evident.x v p (cause.Removed c2 n)) first hides))
-      by_cause (cause.Moved c2 start2 w) e2 hides = absurd (none-some w (ap writer_of e2))
-      by_cause (cause.Reused c2 start2 w) e2 hides = let kinds : 2 ≡ 3 = ap kind_of e2 in absurd (omega (arith, kinds))
-  evident_in v p (told.Noncurrent c start (Some w)) named evident nodes places place s says = subst (IsShown v p) (sym says) (by_cause evident.cause evident.told evident.evident)
+      by_cause (cause.Moved c2 start2 w) r e2 hides = absurd (none-some w (ap writer_of e2))
+      by_cause (cause.Reused c2 start2 w) r e2 hides = let kinds : 2 ≡ 3 = ap kind_of e2 in absurd (omega (arith, kinds))
+  evident_in v p (told.Noncurrent c start (Some w) q) named evident nodes places place s says = subst (IsShown v p) (sym says) (by_cause evident.hiding.cause evident.hiding.quiet evident.told evident.evident)
     where
-      by_cause : (k : declared-cause.Cause) → IsCauseOf k (told.Noncurrent c start (Some w)) → Hides h.unit.log flow (home_of h evident.f) evident.f evident.graph evident.x v p k → IsShown v p (verdict.Noncurrent c start.0 (address_of_some h.unit.graphs e.functions (Some w)))
-      by_cause (cause.Removed c2 start2) e2 hides = absurd (none-some w (sym (ap writer_of e2)))
-      by_cause (cause.Moved c2 start2 w2) e2 hides =
+      by_cause : (k : declared-cause.Cause) (r : Option Place) → IsCauseOf k r (told.Noncurrent c start (Some w) q) → Hides h.unit.log flow (home_of h evident.f) evident.f evident.graph evident.x v p k → IsShown v p (verdict.Noncurrent c start.0 (address_of_some h.unit.graphs e.functions (Some w)))
+      by_cause (cause.Removed c2 start2) r e2 hides = absurd (none-some w (sym (ap writer_of e2)))
+      by_cause (cause.Moved c2 start2 w2) r e2 hides =
           let first : start2 ≡ start.0 = sym (ap start_of e2) in
           let same : w2 ≡ w = same_Some w2 w (sym (ap writer_of e2)) in
           moved v p c start.0 evident.f evident.x evident.graph w evident.is evident.scalar named c2
           (subst (λ n. Hides h.unit.log flow (home_of h evident.f) evident.f evident.graph evident.x v p (cause.Moved c2 start.0 n)) same
           (subst (λ n. Hides h.unit.log flow (home_of h evident.f) evident.f evident.graph evident.x v p (cause.Moved c2 n w2)) first hides))
-      by_cause (cause.Reused c2 start2 w2) e2 hides = let kinds : 2 ≡ 3 = ap kind_of e2 in absurd (omega (arith, kinds))
-  evident_in v p (told.Nonresident c start w) named evident nodes places place s says = subst (IsShown v p) (sym says) (by_cause evident.cause evident.told evident.evident)
+      by_cause (cause.Reused c2 start2 w2) r e2 hides = let kinds : 2 ≡ 3 = ap kind_of e2 in absurd (omega (arith, kinds))
+  evident_in v p (told.Nonresident c start w q) named evident nodes places place s says = subst (IsShown v p) (sym says) (by_cause evident.hiding.cause evident.hiding.quiet evident.told evident.evident)
     where
-      by_cause : (k : declared-cause.Cause) → IsCauseOf k (told.Nonresident c start w) → Hides h.unit.log flow (home_of h evident.f) evident.f evident.graph evident.x v p k → IsShown v p (verdict.Nonresident c start.0 (address_of_writer h.unit.graphs e.functions w))
-      by_cause (cause.Removed c2 start2) e2 hides = let kinds : 3 ≡ 2 = ap kind_of e2 in absurd (omega (arith, kinds))
-      by_cause (cause.Moved c2 start2 w2) e2 hides = let kinds : 3 ≡ 2 = ap kind_of e2 in absurd (omega (arith, kinds))
-      by_cause (cause.Reused c2 start2 w2) e2 hides =
+      by_cause : (k : declared-cause.Cause) (r : Option Place) → IsCauseOf k r (told.Nonresident c start w q) → Hides h.unit.log flow (home_of h evident.f) evident.f evident.graph evident.x v p k → IsShown v p (verdict.Nonresident c start.0 (address_of_writer h.unit.graphs e.functions w))
+      by_cause (cause.Removed c2 start2) r e2 hides = let kinds : 3 ≡ 2 = ap kind_of e2 in absurd (omega (arith, kinds))
+      by_cause (cause.Moved c2 start2 w2) r e2 hides = let kinds : 3 ≡ 2 = ap kind_of e2 in absurd (omega (arith, kinds))
+      by_cause (cause.Reused c2 start2 w2) r e2 hides =
           let first : start2 ≡ start.0 = sym (ap start_of e2) in
           let same : w2 ≡ w = same_Some w2 w (sym (ap writer_of e2)) in
           reused v p c start.0 evident.f evident.x evident.graph w evident.is evident.scalar named c2

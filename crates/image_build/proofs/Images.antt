@@ -26,6 +26,8 @@ use Rattle.image_form.specs.Rules.{IsImage}
 use Rattle.image_form.specs.RulesOfNodes.{NodeRules}
 use Rattle.image_form.specs.RulesOfRows.{RowRules}
 use Rattle.image_form_drafts.specs.Fitting.{AreFit}
+use Rattle.image_form_sections.specs.Versions.{has_quiet}
+use Rattle.image_form_sections.specs.declared.version.Version.{Version}
 use Rattle.image_build_tables.specs.Nodes.{AreEarlier, AreOnce, Naming}
 use Rattle.image_build_tables.specs.Rows.{AreNodesOf, AreRowsOf, AreShallow, Telling, naming_at, naming_in, size_told, telling_of}
 use Rattle.image_build_tables.specs.Tables as image
@@ -48,6 +50,7 @@ use Rattle.image_build.proofs.ImageEvidenceRows.{rows_evident}
 use Rattle.image_build.proofs.KeptUnits.{kept_all_variables, kept_places, kept_steps, kept_variables}
 use Rattle.image_build.proofs.PassesTruthWords.{homes_there}
 use Rattle.image_build.proofs.Plain.{visible_of}
+use Rattle.image_build.proofs.QuietRows.{quiet_rules, rows_quiet}
 use Rattle.image_build.proofs.Premises.{kept_in_order}
 use Rattle.image_build.proofs.Rows.{mapped, seen_from}
 use Rattle.image_build.proofs.Rules.{IsOwnSight, own_sight, row_rules}
@@ -137,6 +140,8 @@ module _ (p : ProgramTree) (h : HomedForm) (e : EmittedForm) (rows : List PlaceR
       row_rules p formed rows tables.rows_are m tables.places tables.belonging few told seen (telling_of h rows e) (said nodes_few)
       (verdict_rules h emits.code.arrangement e m tables.code tables.changes tables.assigned (assigned_rules p h e rows m given shape.assignments (kept_in_order p h.unit kept)) borne.flow borne.assignments (telling_of h rows e) told m.rows (said nodes_few) borne.named named_there
       (rows_evident h valid e emits countable borne.flow m.nodes rows told m.rows borne.named borne.evident (said nodes_few)))
+      (quiet_rules h emits.code.arrangement e m tables.changes tables.assigned borne.flow borne.assignments (telling_of h rows e) m.nodes told m.rows (said nodes_few) (rows_quiet h valid e emits borne.flow m.nodes rows told m.rows borne.evident (said nodes_few)))
+      (ap (λ (v : Version). has_quiet v.level) tables.version)
 
   -- ---- Nodes
 

@@ -10,7 +10,12 @@ mod Owned
 pub mod Rules
 pub mod ImageEvidenceRows
 pub mod Explained
+pub mod CarriedOut
 mod Words
+mod QuietWords
+pub mod QuietRows
+mod Disturbing
+mod QuietRoutes
 pub mod Elements
 pub mod RecordNumbers
 pub mod MadeAgain

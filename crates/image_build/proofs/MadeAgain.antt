@@ -19,7 +19,7 @@ use Rattle.image_build_tables.specs.Variables.{storage}
 use Rattle.image_build_tables.specs.Places.{address}
 use Rattle.image_build_tables.specs.Rows.{AreNodesOf, AreRowsOf, telling_of}
 use Rattle.image_build_tables.proofs.Kept.{storages_length}
-use Rattle.image_build.specs.Made.{IsMadeOf}
+use Rattle.image_build.specs.Made.{IsMadeOfCode}
 use Rattle.image_form_sections.specs.declared.version.Version.{Version}
 use Rattle.image_build.proofs.RecordNumbers.{spans_same}
 use Rattle.image_form.proofs.Counts.{few_records}
@@ -52,35 +52,38 @@ few_nodes : (m : Form) → size m < 2 ^ 32 → length m.nodes < 2 ^ 32
 few_nodes m whole = few_records m whole Nodes
 
 -- What tables are made of, that is an image made of that says the same.
-pub made_again : (p : ProgramTree) (h : HomedForm) (tables image : Form) → IsImage image → SaysTheSame tables image → (length tables.nodes < 2 ^ 32 → IsMadeOf p h tables) → IsMadeOf p h image
+pub made_again : (p : ProgramTree) (h : HomedForm) (tables image : Form) → IsImage image → SaysTheSame tables image → (length tables.nodes < 2 ^ 32 → IsMadeOfCode p h tables) → IsMadeOfCode p h image
 made_again p h tables image is same made_if =
     let made = made_if (subst (λ nodes. length nodes < 2 ^ 32) same.nodes (few_nodes image is.sizes.whole)) in
-    let rows = made.rows in
+    let rows = made.parts.rows in
     let as_many : length image.variables ≡ length tables.variables = sym (length-map image.variables variable_numbers) ∙ ap length same.variables ∙ length-map tables.variables variable_numbers in
     record {
       emitted = made.emitted;
       emits = made.emits;
-      version = same.version ∙ made.version;
-      mode = same.mode ∙ made.mode;
-      code = same.code ∙ made.code;
-      owners = same.owners ∙ made.owners;
-      initial = same.initial ∙ made.initial;
-      spans = spans_same tables.version.level image.functions tables.functions same.functions ∙ made.spans;
-      storages = storages_same image.variables tables.variables same.variables ∙ made.storages ∙ ap (storages_of h made.emitted) (sym as_many);
-      places = made.places;
-      places_are = made.places_are;
-      addresses = ap (map address) same.places ∙ made.addresses;
-      changes = same.changes ∙ made.changes;
-      flow = same.flow ∙ made.flow;
-      assigned = same.assigned ∙ made.assigned;
-      names = same.names ∙ made.names;
-      rows = record {
-        told = rows.told;
-        borne_out = rows.borne_out;
-        rows = rows.rows;
-        say = subst (λ nodes. AreRowsOf (telling_of h made.places made.emitted) nodes rows.told rows.rows) (sym same.nodes) rows.say;
-        needed = subst (λ nodes. AreNodesOf (telling_of h made.places made.emitted) nodes rows.told) (sym same.nodes) rows.needed;
-        same = subst (λ (v : Version). map (row_numbers v.level) image.rows ≡ map (row_numbers v.level) rows.rows) (sym same.version) (same.rows ∙ rows.same);
+      parts = record {
+        version = same.version ∙ made.parts.version;
+        mode = same.mode ∙ made.parts.mode;
+        code = same.code ∙ made.parts.code;
+        owners = same.owners ∙ made.parts.owners;
+        initial = same.initial ∙ made.parts.initial;
+        spans = spans_same tables.version.level image.functions tables.functions same.functions ∙ made.parts.spans;
+        storages = storages_same image.variables tables.variables same.variables ∙ made.parts.storages ∙ ap (storages_of h made.emitted) (sym as_many);
+        places = made.parts.places;
+        places_are = made.parts.places_are;
+        addresses = ap (map address) same.places ∙ made.parts.addresses;
+        changes = same.changes ∙ made.parts.changes;
+        flow = same.flow ∙ made.parts.flow;
+        assigned = same.assigned ∙ made.parts.assigned;
+        names = same.names ∙ made.parts.names;
+        rows = record {
+          told = rows.told;
+          borne_out = rows.borne_out;
+          rows = rows.rows;
+          say = subst (λ nodes. AreRowsOf (telling_of h made.parts.places made.emitted) nodes rows.told rows.rows) (sym same.nodes) rows.say;
+          needed = subst (λ nodes. AreNodesOf (telling_of h made.parts.places made.emitted) nodes rows.told) (sym same.nodes) rows.needed;
+          same = subst (λ (v : Version). map (row_numbers v.level) image.rows ≡ map (row_numbers v.level) rows.rows) (sym same.version) (same.rows ∙ rows.same);
+        };
+        evident = made.parts.evident;
+        quiet = made.parts.quiet;
       };
-      evident = made.evident;
     }

@@ -30,7 +30,7 @@ use Rattle.image_form.specs.declared.verdicts.Verdict.TheVariants as verdict
 use Rattle.currency.specs.declared.verdict.Verdict as told-verdict
 use Rattle.image_build_tables.specs.Rows.{AreRowsOf, AreShown, IsVerdictOf, telling_of}
 use Rattle.image_build_tables.specs.Tables as image
-use Rattle.image_build_tables.specs.Tables.{assigned_pair, change_record, flow_pair, plain_version}
+use Rattle.image_build_tables.specs.Tables.{assigned_pair, change_record, flow_pair, version_of_map}
 use Rattle.image_truth_units.specs.Tables.{AreTablesOf, entry_place, visible_from}
 use Rattle.std.proofs.lemmas.List.{length-map}
 use Rattle.std.proofs.Math.ListN.{length-append}
@@ -102,7 +102,7 @@ shapes_counted p =
     omega (arith, first, second, statics, literals, automatics)
 
 -- Tables whose sections say what a program, a unit with homes and its code say are made of these.
-pub tables_are : (p : ProgramTree) (h : HomedForm) (e : EmittedForm) (rows : List PlaceRow) (m : Form) → m.version ≡ plain_version e.map → m.code ≡ e.code → m.initial ≡ e.initial → m.owners ≡ e.owners → map name_length m.functions ≡ map length_of_name p.functions → map span m.functions ≡ map code_span e.functions
+pub tables_are : (p : ProgramTree) (h : HomedForm) (e : EmittedForm) (rows : List PlaceRow) (m : Form) → m.version ≡ version_of_map e.map → m.code ≡ e.code → m.initial ≡ e.initial → m.owners ≡ e.owners → map name_length m.functions ≡ map length_of_name p.functions → map span m.functions ≡ map code_span e.functions
     → map entry m.functions ≡ map entry_place h.unit.graphs → map saved m.functions ≡ map (λ f. 0) p.functions → map shape m.variables ≡ shapes_of p → map owner m.variables ≡ owners_of p → map storage m.variables ≡ storages_of h e (length m.variables) → m.names ≡ declared_names p ++ pass_names h.unit.log
     → map row_view rows ≡ rows_of_program p → map image.spot m.places ≡ map image.spot_of_row rows → map address m.places ≡ addresses_of e.functions e.stops rows → m.changes ≡ map change_record h.unit.log → m.flow ≡ map flow_pair h.unit.steps → m.assigned ≡ map assigned_pair h.unit.assignments → m.calls ≡ [] → m.members ≡ []
     → AreTablesOf p h e rows m

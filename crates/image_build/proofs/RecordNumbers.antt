@@ -1,5 +1,5 @@
 -- What the numbers of a record say of it in each version.
-use Rattle.std.proofs.Common.{◌≡◌, ℕ, List, [], ◌∷◌, map, refl, sym, ap, ◌∙◌}
+use Rattle.std.proofs.Common.{◌≡◌, ℕ, true, List, [], ◌∷◌, map, refl, sym, ap, ◌∙◌}
 use Rattle.std.specs.Prelude.{get_or, take, unwrap_or}
 use Rattle.image_form.specs.Numbers.{function_numbers, last_if, row_numbers, verdict_numbers, verdict_then}
 use Rattle.image_form.specs.Versions.{has_quiet}
@@ -55,3 +55,16 @@ row_front level r = ap (λ (l : List ℕ). r.place ∷ r.variable ∷ l) (verdic
 -- Rows of the same numbers are of the same place and variable, and their verdicts have the same numbers.
 pub plain_same : (level : Level) (q r : VisibleRow) → row_numbers level q ≡ row_numbers level r → q.place ∷ q.variable ∷ verdict_numbers q.verdict ≡ r.place ∷ r.variable ∷ verdict_numbers r.verdict
 plain_same level q r e = sym (row_front level q) ∙ ap (take 6) e ∙ row_front level r
+
+verdict_last : (v : Verdict) (n : ℕ) → get_or (verdict_then v (n ∷ [])) 4 0 ≡ n
+verdict_last verdict.Home n = refl
+verdict_last (verdict.Recovered change node) n = refl
+verdict_last (verdict.Noncurrent change start writer) n = refl
+verdict_last (verdict.Nonresident change start writer) n = refl
+
+row_last : (level : Level) (r : VisibleRow) → has_quiet level ≡ true → get_or (row_numbers level r) 6 0 ≡ unwrap_or r.quiet 0
+row_last level r tells = ap (λ b. get_or (verdict_then r.verdict (last_if b (unwrap_or r.quiet 0))) 4 0) tells ∙ verdict_last r.verdict (unwrap_or r.quiet 0)
+
+-- Where a version tells of quiet paths, those of rows of the same numbers begin at the same place; 0 stands for none.
+pub quiet_same : (level : Level) (q r : VisibleRow) → has_quiet level ≡ true → row_numbers level q ≡ row_numbers level r → unwrap_or q.quiet 0 ≡ unwrap_or r.quiet 0
+quiet_same level q r tells e = sym (row_last level q tells) ∙ ap (λ (ns : List ℕ). get_or ns 6 0) e ∙ row_last level r tells

@@ -53,8 +53,8 @@ module _ (t : Telling) (nodes : List Node) where
         variable_is = of;
         node_is = subst (λ p. IsNodeIn nodes (naming_at t p) (recipe_view r) node) at (subst (IsNodeIn nodes (naming_at t w.place.0) (recipe_view r)) (same_node c change say.0 node (sym say.1 ∙ e)) say.2);
       }
-  recipe_of w all place variable change node v among at of (told.Noncurrent c start writer) is say e = absurd (let f = sym say ∙ e in cc)
-  recipe_of w all place variable change node v among at of (told.Nonresident c start writer) is say e = absurd (let f = sym say ∙ e in cc)
+  recipe_of w all place variable change node v among at of (told.Noncurrent c start writer q) is say e = absurd (let f = sym say ∙ e in cc)
+  recipe_of w all place variable change node v among at of (told.Nonresident c start writer q) is say e = absurd (let f = sym say ∙ e in cc)
 
 -- Where a row says that a value is recovered, a verdict gives the recipe.
 pub gives_recipe : (t : Telling) (m : Form) (all : List PlaceVerdict) (rows : List VisibleRow) → AreRowsOf t m.nodes all rows → map (row_numbers m.version.level) m.rows ≡ map (row_numbers m.version.level) rows

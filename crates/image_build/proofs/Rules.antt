@@ -1,5 +1,5 @@
 -- The rows of visible variables keep the rules of an image's format, where their verdicts do.
-use Rattle.std.proofs.Common.{◌≡◌, ℕ, zero, suc, ◌+◌, ◌-◌, ◌≤◌, ◌<◌, ◌⊎◌, inl, inr, Some, None, List, [], ◌∷◌, ◌++◌, length, map, slice_get, refl, sym, ap, ◌∙◌, subst, arith}
+use Rattle.std.proofs.Common.{◌≡◌, ℕ, zero, suc, ◌+◌, ◌-◌, ◌≤◌, ◌<◌, ◌⊎◌, true, true≢false, inl, inr, Some, List, [], ◌∷◌, ◌++◌, length, map, slice_get, refl, sym, ap, ◌∙◌, subst, arith}
 use Rattle.std.specs.Prelude.{IsSomeAnd}
 use Rattle.std.specs.List.{AllByRecursion}
 use Rattle.std.proofs.Math.Nat.{min-eq_left}
@@ -18,6 +18,7 @@ use Rattle.image_form.specs.Form.{Form, numbered}
 use Rattle.image_form.specs.Lists.{BeforeFirst, EachToNext}
 use Rattle.image_form.specs.RulesOfChanges.{IsPairBefore}
 use Rattle.image_form.specs.RulesOfRows.{IsQuietStart, IsVerdict, IsVisible, RowRules}
+use Rattle.image_form_sections.specs.Versions.{has_quiet}
 use Rattle.image_form.specs.declared.recipes.Node.{Node}
 use Rattle.image_form.specs.declared.tables.Place.{Place as ImagePlace}
 use Rattle.image_form.specs.declared.variables.Variable.{Variable}
@@ -101,13 +102,6 @@ each_next t nodes (w ∷ all) (r ∷ rows) p least say h = (first all rows say.1
         let other = one.place in
         let name = one.variable in
         elim h.0 [ inl a ↦ inl (omega (arith, a, place, other)) | inr b ↦ (let at = b.0 in let le = b.1 in inr (omega (arith, at, place, other), omega (arith, le, variable, name))) ]
-
--- what holds of a row that tells of no quiet path holds of each row that says what is told
-each_unquiet : (t : Telling) (nodes : List Node) (all : List PlaceVerdict) (rows : List VisibleRow) → AreRowsOf t nodes all rows → (P : VisibleRow → Type 0) → ((r : VisibleRow) → r.quiet ≡ None → P r) → AllByRecursion P rows
-each_unquiet t nodes [] [] say P of = tt
-each_unquiet t nodes [] (r ∷ rows) say P of = absurd say
-each_unquiet t nodes (w ∷ all) [] say P of = tt
-each_unquiet t nodes (w ∷ all) (r ∷ rows) say P of = (of r say.0.quiet, each_unquiet t nodes all rows say.1 P of)
 
 -- ---- Rules
 
@@ -218,12 +212,12 @@ module _ (p : ProgramTree) (formed : IsWellFormed p) (table : List PlaceRow) (ar
     pub rows_ascend : EachToNext (λ (r s : VisibleRow). IsPairBefore r.place r.variable s.place s.variable) m.rows
     rows_ascend = each_next t m.nodes all m.rows 1 0 say (subst (λ l. Behind 1 0 l) (sym seen) (behind_from 1 table (omega (arith, few)) table_up))
 
-    -- Where verdicts keep their rule, the rows keep theirs.
-    pub row_rules : AllByRecursion (λ (r : VisibleRow). IsVerdict m r.variable r.verdict) m.rows → RowRules m
-    row_rules verdicts = record {
+    -- Where verdicts and quiet paths keep their rules, and are told of in this version, the rows keep theirs.
+    pub row_rules : AllByRecursion (λ (r : VisibleRow). IsVerdict m r.variable r.verdict) m.rows → AllByRecursion (λ (r : VisibleRow). IsQuietStart m r.variable r.verdict r.quiet) m.rows → has_quiet m.version.level ≡ true → RowRules m
+    row_rules verdicts quiet tells = record {
       visible = rows_visible;
       verdicts = verdicts;
-      quiet = each_unquiet t m.nodes all m.rows say (λ (r : VisibleRow). IsQuietStart m r.verdict r.quiet) (λ r none. subst (IsQuietStart m r.verdict) (sym none) tt);
-      none_quiet = λ untold. each_unquiet t m.nodes all m.rows say (λ (r : VisibleRow). r.quiet ≡ None) (λ r none. none);
+      quiet = quiet;
+      none_quiet = λ untold. absurd (true≢false (sym tells ∙ untold));
       ascend = rows_ascend;
     }

@@ -39,8 +39,8 @@ module _ (t : Telling) (nodes : List Node) where
   told_home : (w : told-verdict.Verdict) (place : ℕ) (v : Verdict) → IsVerdictOf t nodes place w v → v ≡ Home → w ≡ told.Home
   told_home told.Home place v is e = refl
   told_home (told.Recovered r change) place v is e = absurd (let f : Home ≡ Recovered change is.0 = sym e ∙ is.1 in cc)
-  told_home (told.Noncurrent change start w) place v is e = absurd (let f = sym e ∙ is in cc)
-  told_home (told.Nonresident change start w) place v is e = absurd (let f = sym e ∙ is in cc)
+  told_home (told.Noncurrent change start w q) place v is e = absurd (let f = sym e ∙ is in cc)
+  told_home (told.Nonresident change start w q) place v is e = absurd (let f = sym e ∙ is in cc)
 
   -- the verdict of a row
   pub said_by : (all : List PlaceVerdict) (rows : List VisibleRow) (k : ℕ) (r : VisibleRow) → AreRowsOf t nodes all rows → slice_get rows k ≡ Some r → (w : PlaceVerdict) × Among w all × IsRowOf t nodes w r

@@ -31,7 +31,7 @@ use Rattle.image_truth_units.proofs.ImageUnitsWhole as units
 use Rattle.rv_emit_runs.specs.Timed.{AreTimed}
 use Rattle.image_truth_units.proofs.UnitFactsPlaces as first-places
 use Rattle.image_truth_units.proofs.UnitFactsScalars.{HasScalar, has_scalars}
-use Rattle.image_build.specs.Made.{IsHomed, IsMadeOf}
+use Rattle.image_build.specs.Made.{IsHomed, IsMadeOfCode}
 use Rattle.image_build.specs.Tables.{HasTablesOf}
 use Rattle.image_build.specs.Truthful.{RunsTrue}
 use Rattle.image_build.proofs.Programs.{source_events}
@@ -80,7 +80,7 @@ scalars_of p formed u is f i k x g q v at place of seen declared outside = by (h
     by : HasScalar g (automatic_number p x) v.of → IsScalarIn g (automatic_number p x) v.of
     by s = record { index = s.index; scalar = s.scalar; is = s.is; variable_is = s.variable_is; scalar_type = s.scalar_type; of_is = s.of_is }
 
-module _ (mode : Mode) (p : ProgramTree) (h : HomedForm) (m : Form) (formed : IsWellFormed p) (homed : IsHomed mode h) (made : IsMadeOf p h m) (tables : HasTablesOf p m) (rules : IsImage m) (kept : IsKeptOf p h.unit)
+module _ (mode : Mode) (p : ProgramTree) (h : HomedForm) (m : Form) (formed : IsWellFormed p) (homed : IsHomed mode h) (made : IsMadeOfCode p h m) (tables : HasTablesOf p m) (rules : IsImage m) (kept : IsKeptOf p h.unit)
     -- its variables have names, its arrays elements, and its literals bytes
     (names : HasNames p) where
   abbrev first : UnitForm
@@ -111,7 +111,7 @@ module _ (mode : Mode) (p : ProgramTree) (h : HomedForm) (m : Form) (formed : Is
   has = has_places first h.unit statics functions m (first-places.has_places p formed first kept.built.forms m (functions_of p m tables.places))
 
   stops_are : (address : ℕ) → is_stop (image.stop_addresses m) address ≡ is_stop (laid.stop_addresses made.emitted) address
-  stops_are = stop-addresses.stops_are p formed m first h.unit kept.built.forms functions made.emitted.functions made.emitted.stops made.emits.stops made.places made.places_are made.addresses tables.entries
+  stops_are = stop-addresses.stops_are p formed m first h.unit kept.built.forms functions made.emitted.functions made.emitted.stops made.emits.stops made.parts.places made.parts.places_are made.parts.addresses tables.entries
 
   scalars : AreScalars p h.unit
   scalars = are_scalars first h.unit statics functions p (scalars_of p formed first kept.built.forms)
@@ -120,22 +120,22 @@ module _ (mode : Mode) (p : ProgramTree) (h : HomedForm) (m : Form) (formed : Is
   rows_seen = tables.visible ∙ seen_same 1 (rows_of_program p)
 
   -- the row of a place is that of its graph's function
-  row_there : (f n : ℕ) (g : Graph) → slice_get h.unit.graphs f ≡ Some g → IsPlaceOf g n → HasRow made.places f n
+  row_there : (f n : ℕ) (g : Graph) → slice_get h.unit.graphs f ≡ Some g → IsPlaceOf g n → HasRow made.parts.places f n
   row_there f n g at of =
       let back = graph_back first.graphs h.unit.graphs functions f g at in
       let ascend = (facts_of p formed).ascend in
       let place = place_of p first kept.built.forms (numbered_in (places_of_program p) ascend) (λ k t there is_main. graph_markers p k t there is_main ascend) f n back.0 back.1 (place_back back.0 g back.2 n of) in
-      let row = from_map row_view made.places place.0 (row_of p place.1) (ap (λ l. slice_get l place.0) made.places_are ∙ map_at (row_of p) (places_of_program p) place.0 place.1 place.3) in
+      let row = from_map row_view made.parts.places place.0 (row_of p place.1) (ap (λ l. slice_get l place.0) made.parts.places_are ∙ map_at (row_of p) (places_of_program p) place.0 place.1 place.3) in
       let number = place.2 in
       record { index = place.0; row = row.0; number_is = omega (arith, number); is = row.1; function_is = ap (λ (z : Row). z.function) row.2 ∙ place.4 }
 
   -- where a verdict gives a recipe for a variable, that is a scalar
-  of_scalars : AreOfScalars h made.rows.told
-  of_scalars w r change among is = subst (IsEvident h.unit.log made.rows.borne_out.flow h w.var.0 w.place.0) is (made.rows.borne_out.evident w among)
+  of_scalars : AreOfScalars h made.parts.rows.told
+  of_scalars w r change among is = subst (IsEvident h.unit.log made.parts.rows.borne_out.flow h w.var.0 w.place.0) is (made.parts.rows.borne_out.evident w among)
 
   -- the nodes of recipes come to the words of their values over homes
-  nodes_come : ComeToRecipes h made.emitted made.emits.code.arrangement m (telling_of h made.places made.emitted)
-  nodes_come = come p m tables.functions tables.variables tables.owners tables.names.0 tables.names.1 rules h homed.valid homed.homes made.emits.code.arrangement made.emitted made.storages unit made.emits.told made.places row_there
+  nodes_come : ComeToRecipes h made.emitted made.emits.code.arrangement m (telling_of h made.parts.places made.emitted)
+  nodes_come = come p m tables.functions tables.variables tables.owners tables.names.0 tables.names.1 rules h homed.valid homed.homes made.emits.code.arrangement made.emitted made.parts.storages unit made.emits.told made.parts.places row_there
 
   scalar_there : (place deep : ℕ) (activations : List source-frame.Frame) (shown : List Shown) (memory : source-memory.Memory) (s : State) (t : MeetAt p h made.emitted made.emits.code.arrangement place deep activations shown memory s)
       → t.lower.here.place ≡ place → (k x : ℕ) (v : AutomaticTree) → slice_get (visible p.automatics t.stop.at.scope) k ≡ Some x → slice_get p.automatics x ≡ Some v → v.in_memory ≡ false → IsScalarIn t.upper.here.graph (automatic_number p x) v.of
@@ -150,12 +150,12 @@ module _ (mode : Mode) (p : ProgramTree) (h : HomedForm) (m : Form) (formed : Is
   -- The image runs true to the program.
   pub runs_true : RunsTrue p m
   runs_true =
-      whole.runs_true p first h m made.emitted made.emits.code.arrangement functions statics does (leads_over_homes h homed.valid homed.homes homed.apart) (made.emits.in_time in_time) (ap (λ (v : Version). v.map) made.version) made.code made.initial stops_are (source_events p formed)
+      whole.runs_true p first h m made.emitted made.emits.code.arrangement functions statics does (leads_over_homes h homed.valid homed.homes homed.apart) (made.emits.in_time in_time) (ap (λ (v : Version). v.map) made.parts.version) made.parts.code made.parts.initial stops_are (source_events p formed)
       (λ place deep activations shown memory s t.
-      stopping.stopped p m tables.functions tables.variables tables.owners tables.names.0 tables.names.1 rules (static_law p formed names) (automatic_law p formed names) (literal_law p formed names) h homed.valid homed.homes made.emitted made.emits.code made.storages made.spans made.owners (outermost h made.emitted made.emits.code) unit has made.emits.told stops_are place deep activations shown memory s t
-      (visibles.visible_are p m tables.functions tables.variables tables.owners tables.names.0 tables.names.1 rules (static_law p formed names) (automatic_law p formed names) (literal_law p formed names) h homed.valid homed.homes made.emitted made.emits.code made.storages made.spans made.owners (outermost h made.emitted made.emits.code) unit has made.emits.told stops_are place deep activations shown memory s t rows_seen
-      (home_holds h (telling_of h made.places made.emitted) m made.rows.told made.rows.rows made.rows.say made.rows.same made.rows.borne_out.home)
-      (scalar_there place deep activations shown memory s t (stopping.here_place p m tables.functions tables.variables tables.owners tables.names.0 tables.names.1 rules (static_law p formed names) (automatic_law p formed names) (literal_law p formed names) h homed.valid homed.homes made.emitted made.emits.code made.storages made.spans made.owners (outermost h made.emitted made.emits.code) unit has made.emits.told stops_are place deep activations shown memory s t))
-      (recovered.recovered_shown p m tables.functions tables.variables tables.owners tables.names.0 tables.names.1 rules (static_law p formed names) (automatic_law p formed names) (literal_law p formed names) h homed.valid homed.homes made.emitted made.emits.code made.storages made.spans made.owners (outermost h made.emitted made.emits.code) unit has made.emits.told stops_are place deep activations shown memory s t
-      (scalar_there place deep activations shown memory s t (stopping.here_place p m tables.functions tables.variables tables.owners tables.names.0 tables.names.1 rules (static_law p formed names) (automatic_law p formed names) (literal_law p formed names) h homed.valid homed.homes made.emitted made.emits.code made.storages made.spans made.owners (outermost h made.emitted made.emits.code) unit has made.emits.told stops_are place deep activations shown memory s t))
-      (telling_of h made.places made.emitted) made.rows.told (gives_recipe (telling_of h made.places made.emitted) m made.rows.told made.rows.rows made.rows.say made.rows.same) made.rows.borne_out.recovered of_scalars nodes_come)))
+      stopping.stopped p m tables.functions tables.variables tables.owners tables.names.0 tables.names.1 rules (static_law p formed names) (automatic_law p formed names) (literal_law p formed names) h homed.valid homed.homes made.emitted made.emits.code made.parts.storages made.parts.spans made.parts.owners (outermost h made.emitted made.emits.code) unit has made.emits.told stops_are place deep activations shown memory s t
+      (visibles.visible_are p m tables.functions tables.variables tables.owners tables.names.0 tables.names.1 rules (static_law p formed names) (automatic_law p formed names) (literal_law p formed names) h homed.valid homed.homes made.emitted made.emits.code made.parts.storages made.parts.spans made.parts.owners (outermost h made.emitted made.emits.code) unit has made.emits.told stops_are place deep activations shown memory s t rows_seen
+      (home_holds h (telling_of h made.parts.places made.emitted) m made.parts.rows.told made.parts.rows.rows made.parts.rows.say made.parts.rows.same made.parts.rows.borne_out.home)
+      (scalar_there place deep activations shown memory s t (stopping.here_place p m tables.functions tables.variables tables.owners tables.names.0 tables.names.1 rules (static_law p formed names) (automatic_law p formed names) (literal_law p formed names) h homed.valid homed.homes made.emitted made.emits.code made.parts.storages made.parts.spans made.parts.owners (outermost h made.emitted made.emits.code) unit has made.emits.told stops_are place deep activations shown memory s t))
+      (recovered.recovered_shown p m tables.functions tables.variables tables.owners tables.names.0 tables.names.1 rules (static_law p formed names) (automatic_law p formed names) (literal_law p formed names) h homed.valid homed.homes made.emitted made.emits.code made.parts.storages made.parts.spans made.parts.owners (outermost h made.emitted made.emits.code) unit has made.emits.told stops_are place deep activations shown memory s t
+      (scalar_there place deep activations shown memory s t (stopping.here_place p m tables.functions tables.variables tables.owners tables.names.0 tables.names.1 rules (static_law p formed names) (automatic_law p formed names) (literal_law p formed names) h homed.valid homed.homes made.emitted made.emits.code made.parts.storages made.parts.spans made.parts.owners (outermost h made.emitted made.emits.code) unit has made.emits.told stops_are place deep activations shown memory s t))
+      (telling_of h made.parts.places made.emitted) made.parts.rows.told (gives_recipe (telling_of h made.parts.places made.emitted) m made.parts.rows.told made.parts.rows.rows made.parts.rows.say made.parts.rows.same) made.parts.rows.borne_out.recovered of_scalars nodes_come)))

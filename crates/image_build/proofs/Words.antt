@@ -40,11 +40,11 @@ is_itself : (a : Home) → is_same_home a a ≡ true
 is_itself (Register r) = eq-eqb r r refl
 is_itself (Slot n) = eq-eqb n n refl
 
-home_shared : (a b : Home) → a ≡ b → is_same_home a b ≡ true
+pub home_shared : (a b : Home) → a ≡ b → is_same_home a b ≡ true
 home_shared a b e = subst (λ c. is_same_home a c ≡ true) e (is_itself a)
 
 -- A scalar of a valid graph is one of its names.
-scalar_named : (u : HomedForm) (g : Graph) → IsGraph u.unit g → (x variable : ℕ) → IsVariable g x variable → x < g.name_count
+pub scalar_named : (u : HomedForm) (g : Graph) → IsGraph u.unit g → (x variable : ℕ) → IsVariable g x variable → x < g.name_count
 scalar_named u g graph x variable is = by_found (slice_get g.scalars x) refl is
   where
     by_found : (found : Option Scalar) → slice_get g.scalars x ≡ found → option_map (λ (s : Scalar). s.variable) found ≡ Some variable → x < g.name_count

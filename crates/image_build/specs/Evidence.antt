@@ -1,5 +1,5 @@
 -- Evidence in the words of code that a row of an image hides a variable rightly.
-use Rattle.std.specs.Prelude.{◌≡◌, ◌≢◌, ℕ, ◌<◌, ◌≤◌, true, Some, None, List, slice_get, slice_index}
+use Rattle.std.specs.Prelude.{◌≡◌, ◌≢◌, ◌⊎◌, ℕ, ◌<◌, ◌≤◌, true, Some, None, List, slice_get, slice_index}
 use Rattle.places.specs.declared.flow.FlowTable.{FlowTable}
 use Rattle.places.specs.Flow.{assigns}
 use Rattle.places.specs.Path.{IsRoute, quest_by}
@@ -15,6 +15,7 @@ use Rattle.rv_emit_steps.specs.Programs.{address_of}
 use Rattle.rv_emit_runs.specs.Laid.{Arrangement, code_of}
 use Rattle.rv_emit_runs.specs.Writing.{IsWriter, MayWrite}
 use Rattle.currency.specs.Named.{IsLogged, IsRemoval}
+use Rattle.currency_hiding.specs.Quiet.{GoesBy}
 use Rattle.image_form.specs.declared.verdicts.Verdict.{Verdict}
 use Rattle.image_form.specs.declared.verdicts.Verdict.TheVariants as verdict
 use Rattle.image_form.specs.declared.verdicts.VisibleRow.{VisibleRow}
@@ -44,6 +45,17 @@ module _ (h : HomedForm) (a : Arrangement) (e : EmittedForm) where
     pub x : ℕ
     pub is : slice_get h.unit.graphs f ≡ Some graph
     pub of : IsVariable graph x variable
+
+  -- A word of the code of a function that belongs to a place may write a home.
+  pub record OwnsWriter (f place : ℕ) (home : Home) : Type 0 where
+    pub some : place ≢ 0
+    pub code : FunctionCode
+    pub is : slice_get e.functions f ≡ Some code
+    pub index : ℕ
+    pub first : code.first ≤ address_of index
+    pub end : address_of index < code.end
+    pub owner : slice_index e.owners index ≡ place
+    pub writes : MayWrite (code_of h a f).storage e.code home index
 
   -- given: the flow of its program
   module _ (flow : FlowTable) where
@@ -77,3 +89,14 @@ module _ (h : HomedForm) (a : Arrangement) (e : EmittedForm) where
     -- So is what rows say.
     abbrev pub AreEvidentIn : List VisibleRow → Type 0
     AreEvidentIn rows = (r : VisibleRow) → Among r rows → IsEvidentIn r.variable r.place r.verdict
+
+    -- EVIDENCE OF A QUIET PATH: it begins at a place that assigns the variable, no change took that assignment, and no place between its ends assigns the variable or has a word that may write its home.
+    pub record IsQuietIn (variable stop start : ℕ) : Type 0 where
+      pub scalar : IsScalar variable
+      pub assigned : assigns flow.assignments.items start variable ≡ true
+      pub stays : (number : ℕ) → IsRemoval h.unit.log number variable start → ⊥
+      pub path : GoesBy flow (λ p. (assigns flow.assignments.items p variable ≡ true) ⊎ OwnsWriter scalar.f p (home_of h scalar.f scalar.x)) start stop
+
+    -- Where a row tells at which place a quiet path begins, there is one.
+    abbrev pub AreQuietIn : List VisibleRow → Type 0
+    AreQuietIn rows = (r : VisibleRow) (start : ℕ) → Among r rows → r.quiet ≡ Some start → IsQuietIn r.variable r.place start

@@ -1,5 +1,6 @@
 pub mod Shown
 pub mod Evidence
+pub mod Carried
 pub mod Explained
 pub mod Tables
 pub mod Made

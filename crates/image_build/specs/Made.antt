@@ -12,6 +12,7 @@ use Rattle.graph_homes.specs.Homed.{HaveHomes, HomedForm}
 use Rattle.home_assign.specs.Changes.{HaveChanges}
 use Rattle.home_assign.specs.Rule.{HaveHomesApart, HaveRegisters, HaveSlots}
 use Rattle.rv_emit_tables.specs.Emitted.{EmittedForm}
+use Rattle.rv_emit_runs.specs.Laid.{Arrangement}
 use Rattle.rv_emit.specs.Emits.{Emits}
 use Rattle.currency.specs.declared.verdict.PlaceVerdict.{PlaceVerdict}
 use Rattle.currency.specs.Evident.{AreEvident}
@@ -26,14 +27,16 @@ use Rattle.image_build_tables.specs.Storages.{storages_of}
 use Rattle.image_build_tables.specs.Variables.{declared_names, pass_names, storage}
 use Rattle.image_build_tables.specs.Places.{address, addresses_of}
 use Rattle.image_build_tables.specs.Rows.{AreNodesOf, AreRowsOf, telling_of}
-use Rattle.image_build_tables.specs.Tables.{assigned_pair, change_record, flow_pair, plain_version}
-use Rattle.image_build.specs.Evidence.{AreEvidentIn}
+use Rattle.image_build_tables.specs.Tables.{assigned_pair, change_record, flow_pair, version_of_map}
+use Rattle.image_build.specs.Carried.{CarriesOut}
+use Rattle.image_build.specs.Evidence.{AreEvidentIn, AreQuietIn}
 
 -- Verdicts are borne out by a unit with homes: where one says that a home shows a variable, or gives a recipe for it, that
 -- is so on all paths. A recipe is given only where the home does not show the variable and no other recipe holds, and
 -- beside it stands the least change that removed its assignment; a variable is hidden only where no recipe holds. At a
 -- place that no path reaches each is said to be shown by its home. The change that one names is in the log, and what one
--- says to write a home does so, and hides the variable.
+-- says to write a home does so, and hides the variable. Where nothing disturbs the home of a hidden variable on a path, the
+-- least place at which such a path begins is told.
 pub record AreBorneOut (h : HomedForm) (told : List PlaceVerdict) : Type 0 where
   pub flow : FlowTable
   pub steps : flow.steps.items ≡ h.unit.steps
@@ -75,29 +78,43 @@ pub record HasHomesOf (mode : Mode) (u : UnitForm) (h : HomedForm) : Type 0 wher
   pub changes : HaveChanges u h
   pub homed : IsHomed mode h
 
--- AN IMAGE IS MADE OF A UNIT WITH HOMES, of a program. Its words with their owners, its initial bytes, and where its
--- memory lies, are the code of the unit, which does what the unit does over its homes; each function lies where its code
--- does, with its frame; each variable is kept where the code has it; each place has the address of its stop, and an entry
--- that of its function; the changes, the flow and the assignments are the unit's, and the names those of the program and
--- of the passes of the changes. Its rows say what is right of the unit on all paths to the place: by one that shows a
--- variable its home has the value, or the recipe gives it; and a variable is hidden only where neither its home nor any
--- recipe that a note of the unit gives does so. What a row says to hide a variable is evident in the words of the code.
-pub record IsMadeOf (p : ProgramTree) (h : HomedForm) (m : Form) : Type 0 where
-  pub emitted : EmittedForm
-  pub emits : Emits h emitted
-  pub version : m.version ≡ plain_version emitted.map
+-- THE PARTS OF AN IMAGE ARE THOSE OF A UNIT WITH HOMES and of its code, of a program: its words with their owners, its
+-- initial bytes, and where its memory lies, are the code's; each function lies where its code does, with its frame; each
+-- variable is kept where the code has it; each place has the address of its stop, and an entry that of its function; the
+-- changes, the flow and the assignments are the unit's, and the names those of the program and of the passes of the
+-- changes. Its rows say what is right of the unit on all paths to the place: by one that shows a variable its home has the
+-- value, or the recipe gives it; and a variable is hidden only where neither its home nor any recipe that a note of the
+-- unit gives does so. What a row says to hide a variable is evident in the words of the code, and so is the quiet path that
+-- it tells of.
+pub record HasPartsOf (p : ProgramTree) (h : HomedForm) (a : Arrangement) (e : EmittedForm) (m : Form) : Type 0 where
+  pub version : m.version ≡ version_of_map e.map
   pub mode : m.mode ≡ h.mode
-  pub code : m.code ≡ emitted.code
-  pub owners : m.owners ≡ emitted.owners
-  pub initial : m.initial ≡ emitted.initial
-  pub spans : map span m.functions ≡ map code_span emitted.functions
-  pub storages : map storage m.variables ≡ storages_of h emitted (length m.variables)
+  pub code : m.code ≡ e.code
+  pub owners : m.owners ≡ e.owners
+  pub initial : m.initial ≡ e.initial
+  pub spans : map span m.functions ≡ map code_span e.functions
+  pub storages : map storage m.variables ≡ storages_of h e (length m.variables)
   pub places : List PlaceRow
   pub places_are : map row_view places ≡ rows_of_program p
-  pub addresses : map address m.places ≡ addresses_of emitted.functions emitted.stops places
+  pub addresses : map address m.places ≡ addresses_of e.functions e.stops places
   pub changes : m.changes ≡ map change_record h.unit.log
   pub flow : m.flow ≡ map flow_pair h.unit.steps
   pub assigned : m.assigned ≡ map assigned_pair h.unit.assignments
   pub names : m.names ≡ declared_names p ++ pass_names h.unit.log
-  pub rows : HasRowsOf h emitted places m
-  pub evident : AreEvidentIn h emits.code.arrangement emitted rows.borne_out.flow rows.rows
+  pub rows : HasRowsOf h e places m
+  pub evident : AreEvidentIn h a e rows.borne_out.flow rows.rows
+  pub quiet : AreQuietIn h a e rows.borne_out.flow rows.rows
+
+-- AN IMAGE IS MADE OF A UNIT WITH HOMES, of a program: its parts are those of the unit and of its code, and that code does
+-- what the unit does over its homes, event by event, with what the unit's homes and objects hold at each stop.
+pub record IsMadeOf (p : ProgramTree) (h : HomedForm) (m : Form) : Type 0 where
+  pub emitted : EmittedForm
+  pub arrangement : Arrangement
+  pub carries : CarriesOut h arrangement emitted
+  pub parts : HasPartsOf p h arrangement emitted m
+
+-- The same, and each word of the code is the one that the forms of code give.
+pub record IsMadeOfCode (p : ProgramTree) (h : HomedForm) (m : Form) : Type 0 where
+  pub emitted : EmittedForm
+  pub emits : Emits h emitted
+  pub parts : HasPartsOf p h emits.code.arrangement emitted m

@@ -17,7 +17,7 @@ ghost use Rattle.graph_homes.specs.Homed.{homed_view};
 ghost use Rattle.home_assign.specs.Changes.{HaveChanges};
 ghost use Rattle.image_build.specs.Behind.{ComesHomed};
 ghost use Rattle.image_build.specs.Kept.{IsKeptOf};
-ghost use Rattle.image_build.specs.Made.{IsHomed, IsMadeOf};
+ghost use Rattle.image_build.specs.Made.{IsHomed, IsMadeOfCode};
 ghost use Rattle.image_build.specs.ProgramImageShown.{ShowsAll};
 ghost use Rattle.image_build.specs.Tables.{HasShapeOf, HasTablesOf};
 ghost use Rattle.image_form.specs.Form.{form};
@@ -69,7 +69,7 @@ pub fn image_of_unit(
     ensures image { IfOk result (λ b. IsImage (form b.image)) }
     ensures bytes { IfOk result (λ b. b.bytes.items ≡ spelling (form b.image)) }
     ensures tables { IfOk result (λ b. HasTablesOf (program_view program) (form b.image)) }
-    ensures made { IfOk result (λ b. IsMadeOf (program_view program) (homed_view b.homed) (form b.image)) }
+    ensures made { IfOk result (λ b. IsMadeOfCode (program_view program) (homed_view b.homed) (form b.image)) }
     ensures homed { IfOk result (λ b. IsHomed mode (homed_view b.homed)) }
     ensures unit { IfOk result (λ b.
         (homed_view b.homed).unit ≡ record (unit_view unit.now) { log = (homed_view b.homed).unit.log }) }
@@ -93,8 +93,8 @@ pub fn image_of_unit(
 /// The image of a program that keeps the laws of accepted ones, with its scalars in slots or in registers, after the
 /// passes of these names, of which each in its turn made a step: an image whose tables are the program's, and that is
 /// made of the code of a unit with homes that comes of it so and keeps what the unit does that is built of the program.
-/// Where no pass is run and variables are kept in slots, each is shown wherever it is visible. The only error is want of
-/// memory.
+/// Where no pass is run and variables are kept in slots, each is shown wherever it is visible. The only error is want
+/// of memory.
 pub fn image_of_program(
     alloc: Global,
     program: Program,
@@ -112,7 +112,7 @@ pub fn image_of_program(
     ensures image { IfOk result (λ b. IsImage (form b.image)) }
     ensures bytes { IfOk result (λ b. b.bytes.items ≡ spelling (form b.image)) }
     ensures tables { IfOk result (λ b. HasTablesOf (program_view program) (form b.image)) }
-    ensures made { IfOk result (λ b. IsMadeOf (program_view program) (homed_view b.homed) (form b.image)) }
+    ensures made { IfOk result (λ b. IsMadeOfCode (program_view program) (homed_view b.homed) (form b.image)) }
     ensures homed { IfOk result (λ b. IsHomed mode (homed_view b.homed)) }
     ensures comes { IfOk result (λ b.
         ComesHomed (λ p. named p) (λ p. (steps p).leads) passes.now (map letters names.now) (program_view program)

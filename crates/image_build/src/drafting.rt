@@ -17,7 +17,7 @@ ghost use Rattle.image_form.specs.Rules.{IsImage};
 ghost use Rattle.image_truth_units.specs.Changes.{CanAllBeTold};
 ghost use Rattle.image_build.specs.Behind.{ComesOf};
 ghost use Rattle.image_build.specs.Kept.{IsKeptOf};
-ghost use Rattle.image_build.specs.Made.{IsMadeOf};
+ghost use Rattle.image_build.specs.Made.{IsMadeOfCode};
 ghost use Rattle.image_build.specs.ProgramImageShown.{IsPlainUnit, ShowsAll};
 ghost use Rattle.image_build.specs.Tables.{HasShapeOf, HasTablesOf};
 ghost use Rattle.graph_build_laws.specs.Built.{IsBuilt};
@@ -38,8 +38,8 @@ use rv_emit::emit;
 use std::alloc::{AllocError, Global};
 
 /// The unit of a program, after the passes of these names, of which each in its turn made a step. It is well marked: so
-/// is the one that is built of the program (`built_units_are_marked`), and each pass keeps it so. The only error is want
-/// of memory.
+/// is the one that is built of the program (`built_units_are_marked`), and each pass keeps it so. The only error is
+/// want of memory.
 pub fn unit_of(
     alloc: Global,
     program: &Program,
@@ -85,7 +85,7 @@ pub fn draft_of(
     ensures owners { IfOk result (λ m. length m.owners.items ≡ length m.code.items) }
     ensures tables { IfOk result (λ m. HasTablesOf (program_view program.now) (form m)) }
     ensures made { IfOk result (λ m.
-        length m.nodes.items < 2 ^ 32 → IsMadeOf (program_view program.now) (homed_view homed.now) (form m)) }
+        length m.nodes.items < 2 ^ 32 → IsMadeOfCode (program_view program.now) (homed_view homed.now) (form m)) }
     ensures image { IfOk result (λ m. IsImage (form m)) }
     ensures shows { is_plain ≡ true → IfOk result (λ m. ShowsAll (form m)) }
 {

@@ -24,8 +24,9 @@ fn push_place(place: u32, visible: &[Var], rows: &mut Vec<PlaceVerdict>) -> Resu
     Ok(())
 }
 
-/// The verdicts on the variables that are visible at each place, in the order of places and then of variables: the home of each shows it. So it is in a well marked unit of which no
-/// assignment was removed and whose names have slots of their own (`shown_home`). The only error is want of memory.
+/// The verdicts on the variables that are visible at each place, in the order of places and then of variables: the home
+/// of each shows it. So it is in a well marked unit of which no assignment was removed and whose names have slots of
+/// their own (`shown_home`). The only error is want of memory.
 pub fn slot_verdicts(alloc: Global, places: &PlaceTable) -> Result<Vec<PlaceVerdict>, AllocError>
     ensures visible { IfOk result (λ v. map sight v.items ≡ sights_from 1 places.now.rows.items) }
     ensures shown { IfOk result (λ v. AreShown v.items) }

@@ -18,8 +18,8 @@ use pass_law::{Pass, RunErr, Trail, run_list};
 use std::alloc::Global;
 
 /// The units of a program before and after each of the passes of these names, of which each in its turn makes a step:
-/// the first is built of the program, and the last comes of it after all of them. The error tells the first name that is
-/// no pass's, or that memory was refused.
+/// the first is built of the program, and the last comes of it after all of them. The error tells the first name that
+/// is no pass's, or that memory was refused.
 pub fn trail_of(
     alloc: Global,
     program: &Program,

@@ -10,7 +10,7 @@ use Rattle.image_form.specs.declared.verdicts.Verdict.{Verdict}
 use Rattle.image_form.specs.declared.verdicts.VisibleRow.{VisibleRow}
 use Rattle.image_build_tables.proofs.Ahead.{behind_first}
 use Rattle.image_build_tables.specs.Nodes.{Begin, Naming}
-use Rattle.image_build_tables.specs.Rows.{AreRowsOf, IsNodeIn, IsRowOf, IsVerdictOf, Telling, naming_at}
+use Rattle.image_build_tables.specs.Rows.{AreRowsOf, IsNodeIn, IsRowOf, IsVerdictOf, Telling, naming_at, quiet_of}
 use Rattle.image_build_tables.specs.Tables.{sight, sight_of_verdict}
 use Rattle.image_build_tables.proofs.Growing.{begin_fewer, begin_itself, begin_twice, node_kept}
 
@@ -23,12 +23,16 @@ node_in_kept nodes all (Some n) r k begin is = node_kept nodes all n r k begin i
 pub verdict_kept : (t : Telling) (nodes all : List Node) (place : ℕ) (w : told-verdict.Verdict) (v : Verdict) → Begin nodes all → IsVerdictOf t nodes place w v → IsVerdictOf t all place w v
 verdict_kept t nodes all place told.Home v begin is = is
 verdict_kept t nodes all place (told.Recovered r change) v begin (k, is, of) = (k, is, node_in_kept nodes all (naming_at t place) (recipe_view r) k begin of)
-verdict_kept t nodes all place (told.Noncurrent change start w) v begin is = is
-verdict_kept t nodes all place (told.Nonresident change start w) v begin is = is
+verdict_kept t nodes all place (told.Noncurrent change start w q) v begin is = is
+verdict_kept t nodes all place (told.Nonresident change start w q) v begin is = is
 
 -- the row that an image has of what is told
 abbrev pub row_of : PlaceVerdict → Verdict → VisibleRow
-row_of w v = record { place = w.place.0; variable = w.var.0; verdict = v; quiet = None }
+row_of w v = record { place = w.place.0; variable = w.var.0; verdict = v; quiet = quiet_of w.verdict }
+
+-- the row that is put tells of the quiet path that is told of
+pub row_put : (w : PlaceVerdict) (v : Verdict) (q : Option ℕ) (rows pushed : List VisibleRow) → q ≡ quiet_of w.verdict → pushed ≡ rows ++ (record { place = w.place.0; variable = w.var.0; verdict = v; quiet = q } ∷ []) → pushed ≡ rows ++ (row_of w v ∷ [])
+row_put w v q rows pushed is put = put ∙ ap (λ (o : Option ℕ). rows ++ (record { place = w.place.0; variable = w.var.0; verdict = v; quiet = o } ∷ [])) is
 
 -- the sights of rows, and of those ahead, are those of all
 pub sights_step : (ahead : List PlaceVerdict) (w : PlaceVerdict) (v : Verdict) (rows pushed : List VisibleRow) (all : List PlaceVerdict) → w ∷ behind_first ahead ≡ ahead → pushed ≡ rows ++ (row_of w v ∷ [])

@@ -1,6 +1,5 @@
 -- The nodes of rows are those that their recipes need.
 use Rattle.std.proofs.Common.{◌≡◌, ◌<◌, ◌≤◌, ◌+◌, ◌⊎◌, ◌^◌, inl, inr, ℕ, List, [], ◌∷◌, Option, Some, None, length, slice_get, refl, subst, sym, ap, ◌∙◌, arith}
-use Rattle.std.specs.List.{AllByRecursion}
 use Rattle.std.proofs.lemmas.Option.{none-some}
 use Rattle.graph_core.specs.declared.recipe.Recipe as declared-recipe
 use Rattle.graph_core.specs.Graphs.{recipe_view}
@@ -30,8 +29,8 @@ module _ (t : Telling) (nodes grown : List Node) (w : PlaceVerdict) (all : List 
   by_verdict : (v : told-verdict.Verdict) → w.verdict ≡ v → AreNewBy t nodes grown w.place.0 v → IsNodeToldBy t grown all k
   by_verdict told.Home is new = absurd (omega (arith, new, after, within))
   by_verdict (told.Recovered r change) is new = by_naming r change is (naming_at t w.place.0) refl new
-  by_verdict (told.Noncurrent change start writer) is new = absurd (omega (arith, new, after, within))
-  by_verdict (told.Nonresident change start writer) is new = absurd (omega (arith, new, after, within))
+  by_verdict (told.Noncurrent change start writer q) is new = absurd (omega (arith, new, after, within))
+  by_verdict (told.Nonresident change start writer q) is new = absurd (omega (arith, new, after, within))
 
 -- so it is when the nodes of a verdict come to them
 pub nodes_step : (t : Telling) (nodes grown : List Node) (ahead : List PlaceVerdict) (w : PlaceVerdict) (all : List PlaceVerdict) → w ∷ behind_first ahead ≡ ahead → Begin nodes grown → ((x : PlaceVerdict) → Among x ahead → Among x all)

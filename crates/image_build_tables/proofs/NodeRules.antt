@@ -1,5 +1,5 @@
 -- THE NODES OF AN IMAGE KEEP THEIR RULES, where they are those of recipes that are told, each once, behind its operands.
-use Rattle.std.proofs.Common.{◌≡◌, ◌<◌, ◌≤◌, ◌+◌, ◌*◌, ◌⊎◌, inl, inr, ℕ, zero, suc, Option, Some, None, List, [], ◌∷◌, length, slice_get, refl, subst, sym, ap, ◌∙◌, arith}
+use Rattle.std.proofs.Common.{◌≡◌, ◌<◌, ◌≤◌, ◌+◌, ◌*◌, inl, inr, ℕ, zero, suc, Option, Some, None, List, [], ◌∷◌, length, slice_get, refl, subst, sym, ap, ◌∙◌, arith}
 use Rattle.std.specs.Prelude.{IsSomeAnd, max, option_and_then, option_map}
 use Rattle.std.specs.List.{AllByRecursion}
 use Rattle.std.specs.Option.{option_map_or}
@@ -7,7 +7,6 @@ use Rattle.std.proofs.lemmas.Option.{none-some, same_Some, slice_get_within}
 use Rattle.places.specs.declared.table.PlaceRow.{PlaceRow}
 use Rattle.rv_emit_tables.specs.Emitted.{FunctionCode}
 use Rattle.graph_homes.specs.declared.home.Home.{Home}
-use Rattle.graph_core.specs.declared.recipe.Recipe as declared-recipe
 use Rattle.graph_core.specs.Graphs.{Graph, Operand, Name, Constant, StaticAddress, Recipe, Of, Truncated, Operated, Scalar, recipe_view}
 use Rattle.graph_core.specs.Paths.{Among, front, behind}
 use Rattle.graph_core.specs.Validity.{depth_of, total}
@@ -57,8 +56,8 @@ one_told w all shallow among (told.Recovered r change) is =
     let deep = shallow w r change among is in
     let fits : size_of (recipe_view r) + 1 ≤ 16 = size_fits (recipe_view r) 4 deep in
     omega (arith, fits)
-one_told w all shallow among (told.Noncurrent change start writer) is = omega arith
-one_told w all shallow among (told.Nonresident change start writer) is = omega arith
+one_told w all shallow among (told.Noncurrent change start writer q) is = omega arith
+one_told w all shallow among (told.Nonresident change start writer q) is = omega arith
 
 -- A row asks for fifteen nodes at most, where recipes have at most four levels.
 pub few_told : (all : List PlaceVerdict) → AreShallow all → total (λ (w : PlaceVerdict). size_told w.verdict) all ≤ 15 * length all

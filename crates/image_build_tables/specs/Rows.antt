@@ -1,5 +1,6 @@
 -- The rows of visible variables.
 use Rattle.std.specs.Prelude.{◌≡◌, ℕ, zero, suc, ◌+◌, ◌<◌, ◌≤◌, get_or, option_and_then, option_map, Option, Some, None, List, [], ◌∷◌, length, map, slice_get}
+use Rattle.debug_records.specs.declared.change.Place.{Place}
 use Rattle.places.specs.declared.table.PlaceRow.{PlaceRow}
 use Rattle.rv_emit_tables.specs.Emitted.{EmittedForm, FunctionCode, function_view}
 use Rattle.graph_homes.specs.declared.home.Home.{Home}
@@ -78,15 +79,22 @@ IsNodeIn nodes (Some n) r k = IsNodeOf nodes n r k
 abbrev pub IsVerdictOf : Telling → List Node → (place : ℕ) → told-verdict.Verdict → Verdict → Type 0
 IsVerdictOf t nodes place told.Home v = v ≡ verdict.Home
 IsVerdictOf t nodes place (told.Recovered r change) v = (k : ℕ) × (v ≡ verdict.Recovered change k) × IsNodeIn nodes (naming_at t place) (recipe_view r) k
-IsVerdictOf t nodes place (told.Noncurrent change start w) v = v ≡ verdict.Noncurrent change start.0 (address_of_some t.graphs t.codes w)
-IsVerdictOf t nodes place (told.Nonresident change start w) v = v ≡ verdict.Nonresident change start.0 (address_of_writer t.graphs t.codes w)
+IsVerdictOf t nodes place (told.Noncurrent change start w q) v = v ≡ verdict.Noncurrent change start.0 (address_of_some t.graphs t.codes w)
+IsVerdictOf t nodes place (told.Nonresident change start w q) v = v ≡ verdict.Nonresident change start.0 (address_of_writer t.graphs t.codes w)
 
--- A ROW SAYS WHAT IS TOLD: of the same variable at the same place. It tells of no quiet path.
+-- the place at which the quiet path begins that is told of, if one is
+abbrev pub quiet_of : told-verdict.Verdict → Option ℕ
+quiet_of told.Home = None
+quiet_of (told.Recovered r change) = None
+quiet_of (told.Noncurrent change start w q) = option_map (λ (p : Place). p.0) q
+quiet_of (told.Nonresident change start w q) = option_map (λ (p : Place). p.0) q
+
+-- A ROW SAYS WHAT IS TOLD: of the same variable at the same place, with the same quiet path.
 pub record IsRowOf (t : Telling) (nodes : List Node) (told : told-row.PlaceVerdict) (r : VisibleRow) : Type 0 where
   pub place : r.place ≡ told.place.0
   pub variable : r.variable ≡ told.var.0
   pub verdict : IsVerdictOf t nodes told.place.0 told.verdict r.verdict
-  pub quiet : r.quiet ≡ None
+  pub quiet : r.quiet ≡ quiet_of told.verdict
 
 -- rows say what is told, one by one
 abbrev pub AreRowsOf : Telling → List Node → List told-row.PlaceVerdict → List VisibleRow → Type 0
@@ -104,8 +112,8 @@ AreNewIn old new (Some n) r = AreNewOf old new n r
 abbrev pub AreNewBy : Telling → (old new : List Node) → (place : ℕ) → told-verdict.Verdict → Type 0
 AreNewBy t old new place told.Home = length new ≤ length old
 AreNewBy t old new place (told.Recovered r change) = AreNewIn old new (naming_at t place) (recipe_view r)
-AreNewBy t old new place (told.Noncurrent change start w) = length new ≤ length old
-AreNewBy t old new place (told.Nonresident change start w) = length new ≤ length old
+AreNewBy t old new place (told.Noncurrent change start w q) = length new ≤ length old
+AreNewBy t old new place (told.Nonresident change start w q) = length new ≤ length old
 
 -- A NODE IS NEEDED: it is the node of a recipe that is told at a place, or of a part of it.
 pub record IsNodeToldBy (t : Telling) (nodes : List Node) (all : List told-row.PlaceVerdict) (k : ℕ) : Type 0 where
@@ -128,8 +136,8 @@ AreNodesOf t nodes all = (k : ℕ) → k < length nodes → IsNodeToldBy t nodes
 abbrev pub size_told : told-verdict.Verdict → ℕ
 size_told told.Home = 0
 size_told (told.Recovered r change) = size_of (recipe_view r)
-size_told (told.Noncurrent change start w) = 0
-size_told (told.Nonresident change start w) = 0
+size_told (told.Noncurrent change start w q) = 0
+size_told (told.Nonresident change start w q) = 0
 
 -- the recipes that are told have at most four levels
 abbrev pub AreShallow : List told-row.PlaceVerdict → Type 0

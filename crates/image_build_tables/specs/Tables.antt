@@ -4,7 +4,7 @@ use Rattle.debug_records.specs.Change.{letters}
 use Rattle.graph_core.specs.Graphs.{Logged}
 use Rattle.image_build_tables.specs.Variables.{counted}
 use Rattle.image_form.specs.declared.tables.Change.{Change}
-use Rattle.image_form_sections.specs.declared.version.Level.TheVariants.{Plain}
+use Rattle.image_form_sections.specs.declared.version.Level.TheVariants.{Quiet}
 use Rattle.image_form_sections.specs.declared.version.Version.{Version}
 use Rattle.memory_map.specs.declared.map.Map.{Map}
 use Rattle.places.specs.declared.flow.Assignment.{Assignment}
@@ -16,9 +16,9 @@ use Rattle.image_form.specs.declared.tables.FlowPair.{FlowPair}
 use Rattle.image_form.specs.declared.tables.Place.{Place}
 use Rattle.image_form.specs.declared.verdicts.VisibleRow.{VisibleRow}
 
--- the version of an image whose memory has this map: it tells neither where quiet paths begin nor of calls
-abbrev pub plain_version : Map → Version
-plain_version m = record { map = m; level = Plain }
+-- the version of an image whose memory has this map: it tells where quiet paths begin, and nothing of calls
+abbrev pub version_of_map : Map → Version
+version_of_map m = record { map = m; level = Quiet }
 
 -- a step of the flow as an image has it
 abbrev pub flow_pair : FlowStep → FlowPair

@@ -11,7 +11,7 @@ ghost use Rattle.image_build_tables.specs.Places.{address, addresses_of};
 ghost use Rattle.image_build_tables.specs.Rows.{AreNodesOf, AreRowsOf, AreShown, size_told, telling_of};
 ghost use Rattle.c_tree.specs.Programs.{program_view};
 ghost use Rattle.image_build_tables.specs.Variables.{declared_names, entry, length_of_name, name_length, owned_from, owner, owners_of, pass_names, shape, shapes_of, storage};
-ghost use Rattle.image_build_tables.specs.Tables.{assigned_pair, change_record, flow_pair, plain_version, sight, sight_of_verdict, spot, spot_of_row};
+ghost use Rattle.image_build_tables.specs.Tables.{assigned_pair, change_record, flow_pair, version_of_map, sight, sight_of_verdict, spot, spot_of_row};
 
 use crate::pairs::{assigned_of, changes_of, flow_of};
 use crate::places_table::places_of;
@@ -37,9 +37,8 @@ pub struct Parts<'a> {
 }
 
 /// The image of a program with this code. The parts belong to one program, and the code is that of its homed unit: so
-/// there are as many graphs and codes as functions, and as
-/// many automatic variables as the functions have. Where they do not, what is made may be no image. The only error is
-/// want of memory.
+/// there are as many graphs and codes as functions, and as many automatic variables as the functions have. Where they
+/// do not, what is made may be no image. The only error is want of memory.
 pub fn image_of(alloc: Global, parts: &Parts<'_>, emitted: Emitted) -> Result<Image, AllocError>
     requires graphs { length parts.now.homed.now.unit.graphs.items ≡ length parts.now.program.now.functions.items }
     requires codes { length emitted.functions.items ≡ length parts.now.program.now.functions.items }
@@ -50,7 +49,7 @@ pub fn image_of(alloc: Global, parts: &Parts<'_>, emitted: Emitted) -> Result<Im
         + length
         parts.now.program.now.automatics.items < 2 ^ 32 }
     requires places { length parts.now.places.now.rows.items + 1 < 2 ^ 32 }
-    ensures version { IfOk result (λ m. m.version ≡ plain_version emitted.map) }
+    ensures version { IfOk result (λ m. m.version ≡ version_of_map emitted.map) }
     ensures mode { IfOk result (λ m. m.mode ≡ parts.now.homed.now.mode) }
     ensures code { IfOk result (λ m. m.code.items ≡ emitted.code.items) }
     ensures initial { IfOk result (λ m. m.initial.items ≡ emitted.initial.items) }
@@ -123,7 +122,7 @@ pub fn image_of(alloc: Global, parts: &Parts<'_>, emitted: Emitted) -> Result<Im
     Ok(Image {
         version: Version {
             map: emitted.map,
-            level: Level::Plain,
+            level: Level::Quiet,
         },
         mode: parts.homed.mode,
         functions,

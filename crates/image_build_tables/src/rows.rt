@@ -1,17 +1,19 @@
 //! The rows of visible variables.
 
 ghost use Rattle.std.specs.Prelude.{◌≡◌, ◌+◌, ◌<◌, ◌≤◌, ◌^◌, [], IfOk, OnOk, get_or, length, map, option_and_then, option_map, slice_get};
+ghost use Rattle.debug_records.specs.declared.change.Place as declared-place;
 ghost use Rattle.currency.specs.declared.verdict.Verdict.TheVariants.{Home};
 ghost use Rattle.rv_emit_tables.specs.Emitted.{FunctionCode, function_view};
 ghost use Rattle.graph_core.specs.Graphs.{block_view, graph_view, recipe_view};
 ghost use Rattle.graph_core.specs.Validity.{total};
 ghost use Rattle.image_build_tables.specs.Nodes.{AreEarlier, AreOnce, Begin, naming_view, size_of};
-ghost use Rattle.image_build_tables.specs.Rows.{AreNewBy, AreNewIn, AreNodesOf, AreRowsOf, AreShown, IsNodeIn, IsVerdictOf, address_of_some, address_of_writer, firsts_from, naming_at, naming_in, size_told, telling_view};
+ghost use Rattle.image_build_tables.specs.Rows.{AreNewBy, AreNewIn, AreNodesOf, AreRowsOf, AreShown, IsNodeIn, IsVerdictOf, address_of_some, address_of_writer, firsts_from, naming_at, naming_in, quiet_of, size_told, telling_view};
 ghost use Rattle.image_build_tables.specs.Tables.{sight, sight_of_verdict};
 
 use crate::nodes::{Naming, Nodes};
 use crate::{entry, number_of};
 use currency::{PlaceVerdict, Verdict as Told, Writer};
+use debug_records::Place;
 use graph_core::{Block, Graph, Recipe};
 use graph_homes::FunctionHomes;
 use image_form::{Node, Verdict, VisibleRow};
@@ -217,6 +219,7 @@ fn verdict_of(
             change,
             start,
             writer,
+            quiet: _,
         } => Ok(Verdict::Noncurrent {
             change: *change,
             start: start.0,
@@ -226,11 +229,34 @@ fn verdict_of(
             change,
             start,
             writer,
+            quiet: _,
         } => Ok(Verdict::Nonresident {
             change: *change,
             start: start.0,
             writer: telling.address_of(before, *writer),
         }),
+    }
+}
+
+/// The number of the place at which a path begins, if there is one.
+fn start_of(place: Option<Place>) -> Option<u32>
+    ensures { result ≡ option_map (λ (p : declared-place.Place). p.0) place }
+{
+    match place {
+        Some(place) => Some(place.0),
+        None => None,
+    }
+}
+
+/// The place at which the quiet path begins that a verdict tells of, if it tells of one.
+fn quiet_of(told: &Told) -> Option<u32>
+    ensures { result ≡ quiet_of told.now }
+{
+    match told {
+        Told::Home => None,
+        Told::Recovered { .. } => None,
+        Told::Noncurrent { quiet, .. } => start_of(*quiet),
+        Told::Nonresident { quiet, .. } => start_of(*quiet),
     }
 }
 
@@ -260,7 +286,7 @@ pub fn rows_of(
             place: told.place.0,
             variable: told.var.0,
             verdict,
-            quiet: None,
+            quiet: quiet_of(&told.verdict),
         })?;
         left = rest;
     }

@@ -155,8 +155,7 @@ pub fn variable_count(program: &Program) -> usize
 }
 
 /// The variables of a program, which are kept there: the static ones, the literals and the automatic ones, each by
-/// position. The program has as many automatic
-/// variables as its functions have.
+/// position. The program has as many automatic variables as its functions have.
 pub fn variables_of(
     alloc: Global,
     program: &Program,

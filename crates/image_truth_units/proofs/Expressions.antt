@@ -14,7 +14,7 @@ use Rattle.c_type_rules.specs.Integers.{object_size}
 use Rattle.c_type_rules.specs.ValueTypes.{type_of, given_by, is_void, is_pointer, integer_in}
 use Rattle.word_base.specs.declared.operation.Operation.TheVariants as operation
 use Rattle.graph_core.specs.Graphs as unit
-use Rattle.graph_core.specs.Graphs.{Operand, Location, Instruction, Operate, Truncate, Same, Block, End, Jump}
+use Rattle.graph_core.specs.Graphs.{Operand, Instruction, Operate, Truncate, Same, Block, Jump}
 use Rattle.graph_build_names.specs.Conversions.{word_of, keeps_bits, is_narrow, is_kept_constant}
 use Rattle.graph_build_names.specs.Operands.{held}
 use Rattle.graph_build_names.specs.Scales.{is_scaled}
@@ -22,10 +22,10 @@ use Rattle.graph_build_layout.specs.declared.laid.Use.{Use}
 use Rattle.graph_build_layout.specs.declared.laid.Use.TheVariants.{Anywhere, In, Nothing, Tested}
 use Rattle.graph_build_names.specs.Names.{scalar_named, object_of, object_location, pick}
 use Rattle.graph_build_names.specs.Writes.{writes, writes_within, writes_any, names_it, is_that, is_moved, is_location_moved}
-use Rattle.graph_build_layout.specs.Laid.{Laid, Pair, PlaceLaid, pair, behind_move, behind_own, as_value, worked, use_for, operation_laid, standing, converted_laid, both_laid, void_arms_laid, arms_laid, begun_at, assigned_laid, begun_behind, updated_laid, step_laid, loaded_laid}
+use Rattle.graph_build_layout.specs.Laid.{Laid, PlaceLaid, pair, behind_move, behind_own, as_value, worked, use_for, operation_laid, standing, converted_laid, both_laid, void_arms_laid, arms_laid, begun_at, assigned_laid, begun_behind, updated_laid, step_laid, loaded_laid}
 use Rattle.graph_build_layout.specs.Layout.{laid, place_laid, address_laid, passed_laid, named_location}
 use Rattle.graph_build_steps.specs.Rules.{element_of, truncation_to, callee_for, steps_by}
-use Rattle.graph_build_steps.specs.Drafts.{Made, Goal, To, Unused, Either, use_of, before, ending, leaf, label_of, closed, forked, valued, used, operated, move_if, hold_location, held_location, stored, noted, note, called_by, tested}
+use Rattle.graph_build_steps.specs.Drafts.{Made, Goal, To, Unused, Either, use_of, before, ending, leaf, label_of, closed, forked, valued, used, operated, move_if, hold_location, held_location, noted, called_by, tested}
 use Rattle.graph_build_steps.specs.Drafts as drafts
 use Rattle.graph_build_steps.specs.declared.site.Two as declared-two
 use Rattle.graph_build_steps.specs.declared.site.Two.TheVariants as two

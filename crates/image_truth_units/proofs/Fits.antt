@@ -1,6 +1,6 @@
 -- The numbers of tables fit, and their sections are no longer than they may be.
-use Rattle.std.proofs.Common.{◌≡◌, ℕ, zero, suc, ◌+◌, ◌*◌, ◌/◌, ◌%◌, ◌≤◌, ◌<◌, ◌^◌, Bool, true, false, ◌&&◌, Option, Some, None, List, [], ◌∷◌, ◌++◌, length, map, slice_get, refl, sym, ap, ◌∙◌, subst, arith}
-use Rattle.std.specs.Prelude.{nat_lt, sum_by}
+use Rattle.std.proofs.Common.{◌≡◌, ℕ, ◌+◌, ◌*◌, ◌%◌, ◌≤◌, ◌<◌, ◌^◌, true, false, Option, Some, None, List, [], ◌∷◌, ◌++◌, length, map, slice_get, refl, sym, ap, subst, arith}
+use Rattle.std.specs.Prelude.{nat_lt}
 use Rattle.std.specs.List.{AllByRecursion, flat_map}
 use Rattle.std.proofs.lemmas.List.{length-append, length-map}
 use Rattle.std.proofs.lemmas.List.Sums.{sum_by-cons}
@@ -10,7 +10,7 @@ use Rattle.c_tree.specs.Programs.{AutomaticTree, LiteralTree, ProgramTree, Stati
 use Rattle.c_places.specs.Places.{Place, entry_of, places_of_program, visible}
 use Rattle.c_flow.specs.Assigns.{variable_number}
 use Rattle.c_tree.specs.declared.object_type.Object.TheVariants as object
-use Rattle.c_flow.specs.Rows.{Row, numbers_of, row_of, rows_of_program, variable_if}
+use Rattle.c_flow.specs.Rows.{numbers_of, row_of, rows_of_program, variable_if}
 use Rattle.c_type_bounds.specs.Visible.{visible_at}
 use Rattle.c_type_laws.specs.Laws.{is_main}
 use Rattle.c_type_laws.specs.Orders.{ascends, ascends_behind}
@@ -26,16 +26,16 @@ use Rattle.memory_map.specs.Maps.{bytes_size, most_words}
 use Rattle.memory_map.proofs.Facts.{code_few}
 use Rattle.image_form.specs.Form.{Form}
 use Rattle.image_form.specs.Rules.{FitRules, SizeRules}
-use Rattle.image_form.specs.Versions.{greatest_version, is_read, version_number}
+use Rattle.image_form.specs.Versions.{greatest_level, is_read, reads_large, version_number}
 use Rattle.image_form_sections.specs.declared.version.Version.{Version}
 use Rattle.memory_map.specs.declared.map.Map.{Map}
 use Rattle.rv_emit_storage.specs.UnitMaps.{map_of_unit}
 use Rattle.image_form.specs.Order.{behind, order}
 use Rattle.image_form.specs.Spelling.{record_count, size}
-use Rattle.image_form_sections.specs.declared.version.Level.TheVariants.{Plain}
+use Rattle.image_form_sections.specs.declared.version.Level.TheVariants.{Quiet}
 use Rattle.image_form_drafts.specs.Fitting.{AreFit}
 use Rattle.image_build_tables.specs.Variables.{automatic_shape, length_of_name, literal_shape, name_length, shape, static_shape}
-use Rattle.image_build_tables.specs.Tables.{Sight, plain_version, sight}
+use Rattle.image_build_tables.specs.Tables.{Sight, version_of_map, sight}
 use Rattle.image_truth_units.specs.Changes.{most_told}
 use Rattle.image_truth_units.specs.Tables.{visible_from}
 use Rattle.image_truth_units.proofs.Accepted.{both, facts_of, is_less}
@@ -115,8 +115,8 @@ seen_few p n (q ∷ places) =
 -- ---- The version
 
 -- The version of the image of a unit is read.
-unit_read : (u : UnitForm) → is_read (version_number (plain_version (map_of_unit u))) ≡ true
-unfolding map_of_unit is_read greatest_version
+unit_read : (u : UnitForm) → is_read (version_number (version_of_map (map_of_unit u))) ≡ true
+unfolding map_of_unit is_read greatest_level reads_large
 unit_read u = refl
 
 -- ---- All of it
@@ -209,7 +209,7 @@ module _ (p : ProgramTree) (h : HomedForm) (e : EmittedForm) (rows : List PlaceR
       let changes_most : length m.changes ≤ 33000000 = changes_few in
       let no_calls = ap length given.tables.calls in
       let no_members = ap length given.tables.members in
-      let size_is : size m ≡ behind Plain (record_count m) order = ap (λ (v : Version). behind v.level (record_count m) order) given.tables.version in
+      let size_is : size m ≡ behind Quiet (record_count m) order = ap (λ (v : Version). behind v.level (record_count m) order) given.tables.version in
       let flow_few = are_few.flow in
       let assigned_few = are_few.assigned in
       let nodes_few = are_few.nodes in
@@ -219,7 +219,7 @@ module _ (p : ProgramTree) (h : HomedForm) (e : EmittedForm) (rows : List PlaceR
       let places_most : length m.places ≤ 1048576 = omega (arith, places, places_few, pl) in
       let variables_most : length m.variables ≤ 3145728 = omega (arith, variables, statics_few, sl, literals_few, ll, automatics_few, al) in
       record {
-        version = subst (λ (v : Version). is_read (version_number v) ≡ true) (sym given.tables.version) (subst (λ (r : Map). is_read (version_number (plain_version r)) ≡ true) (sym given.emits.code.map) (unit_read h.unit));
+        version = subst (λ (v : Version). is_read (version_number v) ≡ true) (sym given.tables.version) (subst (λ (r : Map). is_read (version_number (version_of_map r)) ≡ true) (sym given.emits.code.map) (unit_read h.unit));
         code = code_within;
         initial = initial_few;
         initial_words = omega (arith, initial, initial_is, whole_words);

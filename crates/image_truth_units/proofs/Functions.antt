@@ -5,9 +5,8 @@ use Rattle.std.proofs.lemmas.List.{length-map}
 use Rattle.std.proofs.lemmas.Option.{same_Some, slice_get_within}
 use Rattle.places.specs.declared.table.PlaceRow.{PlaceRow}
 use Rattle.c_tree.specs.Programs.{ProgramTree, TypedFunctionTree}
-use Rattle.c_places.specs.Places.{Place, entry_of, places_of_program}
+use Rattle.c_places.specs.Places.{entry_of, places_of_program}
 use Rattle.c_flow.specs.Rows.{row_of, row_view}
-use Rattle.c_type_laws.specs.Names.{is_name}
 use Rattle.c_type_laws.proofs.Named.{function_named, name_short, name_some}
 use Rattle.graph_core.specs.Graphs.{Graph}
 use Rattle.graph_homes.specs.Homed.{HomedForm}

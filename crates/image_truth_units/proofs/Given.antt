@@ -1,12 +1,10 @@
 -- What is known of the tables of a program, of its unit with homes and of its code.
 use Rattle.std.proofs.Common.{ap}
-use Rattle.std.specs.Prelude.{◌≡◌, ℕ, false, Some, List, ◌+◌, map, slice_get}
+use Rattle.std.specs.Prelude.{◌≡◌, List, map}
 use Rattle.places.specs.declared.table.PlaceRow.{PlaceRow}
 use Rattle.c_tree.specs.Programs.{ProgramTree}
-use Rattle.c_places.specs.Places.{Place, places_of_program}
 use Rattle.c_type_laws.specs.Laws.{IsWellFormed}
 use Rattle.c_type_laws.specs.Names.{HasNames}
-use Rattle.graph_core.specs.Graphs.{Graph}
 use Rattle.graph_core.specs.Validity.{IsValid}
 use Rattle.graph_homes.specs.Homed.{HaveHomes, HomedForm}
 use Rattle.rv_emit_tables.specs.Emitted.{EmittedForm}

@@ -1,6 +1,6 @@
 -- What is so of each record of a table, by their indices.
 use Rattle.std.proofs.Common.{◌≡◌, ℕ, suc, Some, List, [], ◌∷◌, map, slice_get, refl, sym, ap, ◌∙◌}
-use Rattle.image_form.specs.Lists.{BeforeFirst, EachToNext}
+use Rattle.image_form.specs.Lists.{EachToNext}
 pub use Rattle.base_laws.proofs.Lists.{each_from as all_from, from_map, got_one as all_at, map_at, there_again as there}
 
 pub next_from : {A : Type 0} (R : A → A → Type 0) (xs : List A) → ((i : ℕ) (x y : A) → slice_get xs i ≡ Some x → slice_get xs (suc i) ≡ Some y → R x y) → EachToNext R xs

@@ -1,9 +1,8 @@
 -- The code of functions lies in their order.
-use Rattle.std.proofs.Common.{◌≡◌, ◌≢◌, ℕ, zero, suc, ◌+◌, ◌%◌, ◌<◌, ◌≤◌, inl, inr, ◌==◌, Bool, true, false, Option, Some, None, List, [], ◌∷◌, ◌++◌, length, map, slice_get, slice_index, get_or, refl, sym, ap, ◌∙◌, subst, arith}
-use Rattle.std.specs.List.{AllByRecursion}
+use Rattle.std.proofs.Common.{◌≡◌, ◌≢◌, ℕ, zero, suc, ◌+◌, ◌%◌, ◌<◌, ◌≤◌, inl, inr, ◌==◌, Bool, true, false, Some, None, List, [], ◌∷◌, ◌++◌, length, map, slice_get, slice_index, get_or, refl, sym, ap, ◌∙◌, subst, arith}
 use Rattle.std.proofs.lemmas.Bool.{cases_lt}
 use Rattle.std.proofs.lemmas.List.{length-append, length-map}
-use Rattle.std.proofs.lemmas.Option.{none-some, same_Some, slice_get_within}
+use Rattle.std.proofs.lemmas.Option.{same_Some, slice_get_within}
 use Rattle.rv_code.specs.declared.instruction.Instruction.{Instruction}
 use Rattle.memory_map.specs.Maps.{most_words}
 use Rattle.memory_map.proofs.Facts.{code_few, map_facts}
@@ -32,7 +31,7 @@ use Rattle.rv_emit_runs.proofs.Maps.{emitted_in_reach}
 use Rattle.rv_emit_runs.proofs.Owners.{AreOwned, first_owned}
 use Rattle.rv_emit_runs.proofs.Told.{told_there}
 use Rattle.rv_emit_runs.proofs.UnitPlaced.{HasCode, LaidAt, fits, found, laid_at, laid_count, stub_words, together}
-use Rattle.rv_emit_runs.proofs.UnitStops.{FitTogether, Fits}
+use Rattle.rv_emit_runs.proofs.UnitStops.{Fits}
 use Rattle.image_truth_units.specs.Lying.{IsLying, IsWordOf, LieInOrder}
 use Rattle.image_truth_units.proofs.Lists.{there}
 

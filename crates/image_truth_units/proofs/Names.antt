@@ -1,6 +1,6 @@
 -- The names of tables keep their rules, where an image can tell of the changes.
 use Rattle.std.proofs.Common.{◌≡◌, ℕ, zero, suc, ◌+◌, ◌*◌, ◌≤◌, true, Some, List, [], ◌∷◌, ◌++◌, length, map, take, drop, sum, slice_get, refl, sym, ap, ◌∙◌, subst, append-nil, arith}
-use Rattle.std.specs.Prelude.{◌-◌, IsTrue, nat_le, slice_index}
+use Rattle.std.specs.Prelude.{IsTrue, nat_le, slice_index}
 use Rattle.std.specs.List.{AllByRecursion, flat_map, list_all}
 use Rattle.std.proofs.lemmas.List.{length-map, length-append}
 use Rattle.std.proofs.lemmas.List.Concat.{flat_map-append}
@@ -9,7 +9,7 @@ use Rattle.std.proofs.lemmas.Option.{none-some, same_Some}
 use Rattle.std.proofs.Math.Seq.{take-append_seam, drop-append-add}
 use Rattle.places.specs.declared.table.PlaceRow.{PlaceRow}
 use Rattle.c_tree.specs.Programs.{AutomaticTree, LiteralTree, ProgramTree, StaticTree, TypedFunctionTree}
-use Rattle.c_type_laws.specs.Names.{begins_identifier, is_identifier_byte, is_identifier, is_name, is_named, has_few_elements}
+use Rattle.c_type_laws.specs.Names.{begins_identifier, is_identifier_byte, is_identifier, is_name, has_few_elements}
 use Rattle.c_type_laws.proofs.Named.{automatic_named, function_named, name_short, static_named}
 use Rattle.debug_records.specs.Change.{IsPassName, letters}
 use Rattle.graph_core.specs.Graphs.{Logged}
@@ -20,12 +20,12 @@ use Rattle.image_form.specs.Names.{function_name, function_name_lengths, name_at
 use Rattle.image_form.specs.RulesOfNames.{IsIdentifier, IsIdentifierOrEmpty, NameRules, is_lower_letter}
 use Rattle.image_form.specs.declared.tables.Change.{Change}
 use Rattle.image_form.specs.declared.variables.Variable.{Variable}
-use Rattle.image_build_tables.specs.Variables.{Shape, automatic_shape, counted, declared_names, length_of_name, literal_shape, name_length, pass_names, shape, shapes_of, static_shape}
+use Rattle.image_build_tables.specs.Variables.{Shape, automatic_shape, counted, length_of_name, literal_shape, name_length, pass_names, shape, static_shape}
 use Rattle.image_build_tables.specs.Tables.{change_record}
 use Rattle.image_truth_units.specs.Changes.{CanBeTold}
 use Rattle.image_truth_units.proofs.Accepted.{both}
 use Rattle.image_truth_units.proofs.Given.{Given}
-use Rattle.image_truth_units.proofs.Lists.{all_at, all_from, from_map, map_at, there}
+use Rattle.image_truth_units.proofs.Lists.{all_at, all_from, map_at, there}
 use Rattle.image_truth_units.proofs.ProgramPlaces.{both_all}
 use Rattle.base_laws.proofs.Lists.{all_map, all_weaker, append_same, map_map, sum_more}
 

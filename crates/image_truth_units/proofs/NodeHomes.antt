@@ -1,5 +1,5 @@
 -- What the nodes of recipes name are variables of tables that have homes, and homes within a frame.
-use Rattle.std.proofs.Common.{◌≡◌, ℕ, zero, suc, ◌+◌, ◌-◌, ◌*◌, ◌%◌, ◌<◌, ◌≤◌, inl, inr, Option, Some, None, List, [], ◌∷◌, ◌++◌, length, map, slice_get, refl, sym, ap, ◌∙◌, subst, arith}
+use Rattle.std.proofs.Common.{◌≡◌, ℕ, zero, suc, ◌+◌, ◌*◌, ◌<◌, inl, inr, Option, Some, None, List, [], ◌∷◌, ◌++◌, length, map, slice_get, sym, ap, ◌∙◌, subst, arith}
 use Rattle.std.specs.Prelude.{IsSomeAnd}
 use Rattle.std.specs.Option.{option_map_or}
 use Rattle.std.proofs.lemmas.List.{length-map}
@@ -17,8 +17,6 @@ use Rattle.image_form.specs.Form.{Form}
 use Rattle.image_form.specs.RulesOfNodes.{IsHome, IsHomeNumber, NamesHome}
 use Rattle.image_form.specs.RulesOfVariables.{IsKept, IsKeptInFunction, IsVariable}
 use Rattle.image_form.specs.declared.recipes.Node.TheVariants as node
-use Rattle.image_form.specs.declared.variables.Storage.{Storage}
-use Rattle.image_form.specs.declared.variables.Storage.TheVariants as storage
 use Rattle.image_form.specs.declared.variables.Variable.{Variable}
 use Rattle.image_build_tables.specs.Nodes.{Naming, home_node}
 use Rattle.image_build_tables.specs.Rows.{naming_at, telling_of}

@@ -1,5 +1,5 @@
 -- The block of a place that assigns a scalar's variable notes the scalar on each way to the next marker.
-use Rattle.std.proofs.Common.{◌≡◌, ◌⊎◌, inl, inr, ℕ, ◌+◌, ◌*◌, ◌<◌, Bool, true, false, Option, Some, None, List, [], ◌∷◌, ◌++◌, refl, sym, ap, ◌∙◌, subst, arith, if◌then◌else◌, ◌==◌}
+use Rattle.std.proofs.Common.{◌≡◌, ◌⊎◌, inl, inr, ℕ, ◌+◌, ◌*◌, Bool, true, false, Option, Some, None, List, [], ◌∷◌, ◌++◌, refl, sym, ap, ◌∙◌, subst, if◌then◌else◌}
 use Rattle.std.specs.Prelude.{nat_le}
 use Rattle.c_tree.specs.declared.object_type.Scalar.{Scalar}
 use Rattle.c_tree.specs.declared.object_type.ObjectType.{ObjectType}
@@ -20,7 +20,7 @@ use Rattle.c_flow.specs.Assigns.{assigns_object, assigned, assigned_by_values, a
 use Rattle.c_flow.specs.Flow.{start, start_of_declarators, round_of, within_loop, within_switch, before as with_rest}
 use Rattle.debug_records.specs.declared.source.Spot.{Spot}
 use Rattle.graph_core.specs.Graphs as unit
-use Rattle.graph_core.specs.Graphs.{Operand, Instruction, Automatic, Store, CopyWords, End}
+use Rattle.graph_core.specs.Graphs.{Instruction, Automatic, Store}
 use Rattle.graph_core.specs.Paths.{Among, front, behind, is_marker}
 use Rattle.graph_build_layout.specs.declared.laid.Use.TheVariants.{Anywhere, Tested}
 use Rattle.graph_build_names.specs.Names.{scalar_of, object_of, pick}

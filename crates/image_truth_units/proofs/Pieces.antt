@@ -14,7 +14,7 @@ use Rattle.graph_core.specs.declared.instruction.Element as declared-element
 use Rattle.graph_core.specs.declared.instruction.Callee.{Callee}
 use Rattle.graph_core.specs.declared.block.Comparison.TheVariants as branch
 use Rattle.graph_core.specs.Graphs as unit
-use Rattle.graph_core.specs.Graphs.{Operand, Location, Instruction, Operate, Truncate, Same, Address, Store, Call, Block, Jump}
+use Rattle.graph_core.specs.Graphs.{Operand, Location, Instruction, Operate, Truncate, Address, Store, Call, Block, Jump}
 use Rattle.graph_core.specs.Uses.{is_computation, target_of}
 use Rattle.graph_build_names.specs.Conversions.{is_narrow}
 use Rattle.graph_build_names.specs.Operands.{held, is_two, is_two_pointers, operand_at, located}
@@ -25,7 +25,7 @@ use Rattle.graph_build_names.specs.Writes.{is_that}
 use Rattle.graph_build_layout.specs.Laid.{Laid, Pair, PlaceLaid, behind_move, operation_laid, standing, moved_laid, steps_laid, compared_laid, left_scalar_laid, left_memory_laid, called_laid, object_laid}
 use Rattle.graph_build_layout.specs.Layout.{named_address}
 use Rattle.graph_build_steps.specs.Rules.{truncation_to, operation_for, move_by}
-use Rattle.graph_build_steps.specs.Drafts.{Made, Goal, To, Unused, Either, use_of, before, ending, leaf, target, follow, tested, scale, scaling, unscaling, move_if, note, noted, compare_by, compare_pointers_by, closed, arm, forked, stored, keep_old, use_old, behind_old, left_free, called_by, renew, operated, code_scaled_pair, compared, compared_value, compared_pointers, compared_pointers_value, label_of, hold_location, held_location, branch_by}
+use Rattle.graph_build_steps.specs.Drafts.{Made, Goal, To, Unused, Either, use_of, before, ending, leaf, target, follow, tested, scale, scaling, unscaling, move_if, note, noted, compare_by, compare_pointers_by, closed, forked, stored, called_by, renew, operated, code_scaled_pair, compared, compared_value, compared_pointers, compared_pointers_value, label_of, hold_location, held_location, branch_by}
 use Rattle.graph_build_steps.specs.Drafts as drafts
 use Rattle.graph_build_steps.specs.declared.site.Two as declared-two
 use Rattle.graph_build_steps.specs.declared.site.Two.TheVariants as two

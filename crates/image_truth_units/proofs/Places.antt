@@ -1,7 +1,6 @@
 -- The places of tables keep their rules, and so do the owners of words.
-use Rattle.std.proofs.Common.{◌≡◌, ◌≢◌, ℕ, zero, suc, ◌+◌, ◌*◌, ◌%◌, ◌≤◌, ◌<◌, Some, List, [], ◌∷◌, length, map, slice_get, slice_index, refl, sym, ap, ◌∙◌, subst, arith}
+use Rattle.std.proofs.Common.{◌≡◌, ◌≢◌, ℕ, zero, suc, ◌+◌, ◌≤◌, ◌<◌, Some, List, [], ◌∷◌, length, map, slice_get, slice_index, sym, ap, ◌∙◌, subst, arith}
 use Rattle.std.specs.Prelude.{IsSomeAnd}
-use Rattle.std.proofs.lemmas.List.{length-map}
 use Rattle.std.proofs.lemmas.Option.{none-some, same_Some, slice_get_within}
 use Rattle.places.specs.declared.table.PlaceRow.{PlaceRow}
 use Rattle.c_tree.specs.Programs.{ProgramTree}
@@ -22,7 +21,7 @@ use Rattle.image_truth_units.proofs.Functions.{places_many}
 use Rattle.image_truth_units.proofs.Given.{Given}
 use Rattle.image_truth_units.proofs.Lists.{across, all_from, map_at, next_from, there}
 use Rattle.image_truth_units.proofs.ProgramPlaces.{in_order}
-use Rattle.image_truth_units.proofs.Words.{HasWord, IsPlaced, has_word, word_placed}
+use Rattle.image_truth_units.proofs.Words.{HasWord, has_word, word_placed}
 
 -- what an index of numbers that are not 0 gives stands there
 index_there : (xs : List ℕ) (i n : ℕ) → slice_index xs i ≡ n → n ≢ 0 → slice_get xs i ≡ Some n

@@ -7,9 +7,9 @@ use Rattle.std.proofs.lemmas.Option.{none-some, same_Some}
 use Rattle.debug_records.specs.declared.source.Spot.{Spot}
 use Rattle.c_tree.specs.TypedExpressions.{RvalueTree}
 use Rattle.c_tree.specs.TypedStatements.{DeclaredTree, TypedStartTree, Nothing, Value, Declares, StepTree, TypedStatementTree, Block, Declaration, Empty, Run, If, IfElse, While, DoWhile, For, Switch, Break, Continue, Return, TypedStatementTrees, none, first, case, default}
-use Rattle.c_tree.specs.Programs.{TypedFunctionTree, ProgramTree}
+use Rattle.c_tree.specs.Programs.{TypedFunctionTree}
 use Rattle.c_places.specs.Flow.{reaches_end}
-use Rattle.c_places.specs.Places.{Place, stop, brought, brought_by_start, brought_by_body, parameters_of, entry_of, close_of, count_before, number_at, places_of_declarators, places_of_start, places_of_head, places_of_step, places_of, places_of_all, places_of_function, places_of_functions, places_of_program}
+use Rattle.c_places.specs.Places.{Place, stop, brought, brought_by_start, brought_by_body, parameters_of, entry_of, close_of, count_before, number_at, places_of_declarators, places_of_start, places_of_head, places_of_step, places_of, places_of_all, places_of_function, places_of_functions}
 use Rattle.c_type_laws.specs.Orders.{ascends, ascends_behind}
 use Rattle.image_truth_units.proofs.Accepted.{both, is_less}
 use Rattle.image_truth_units.proofs.Lists.{all_at}

@@ -17,7 +17,7 @@ use Rattle.c_flow.specs.Assigns.{assigns_object, assigned, assigned_by_values, a
 use Rattle.c_flow.specs.Flow.{edge, start, start_of_all, start_of_declarators, flow_of_declarators, flow_of_start, round_of, flow_of_step, flow_out, flow_to_labels, flow_past, within_loop, within_switch, before as with_rest, flow_of, flow_of_all}
 use Rattle.graph_core.specs.declared.block.Comparison.TheVariants as branch
 use Rattle.graph_core.specs.Graphs as unit
-use Rattle.graph_core.specs.Graphs.{Operand, Instruction, Automatic, Store, CopyWords, Jump, Branch}
+use Rattle.graph_core.specs.Graphs.{Operand, Automatic, Store, CopyWords}
 use Rattle.graph_core.specs.Paths.{Among, front, behind}
 use Rattle.graph_build_names.specs.Conversions.{word_of}
 use Rattle.graph_build_layout.specs.declared.laid.Use.TheVariants.{Anywhere, Tested}
@@ -30,7 +30,7 @@ use Rattle.graph_build_steps.specs.Drafts.{Made, Goal, To, Unused, Either, use_o
 use Rattle.graph_build_steps.specs.Steps.{or_zero}
 use Rattle.graph_build_code.specs.Code.{code}
 use Rattle.graph_build_statements.specs.Coding.{Coding, Part, place_of, block_of, begun, going, label_for, with_end, placed_at, coded}
-use Rattle.graph_build_statements.specs.Reached.{bare, reached, initial_reached, start_reached, condition_reached, statement_reached, statements_reached}
+use Rattle.graph_build_statements.specs.Reached.{bare, reached, initial_reached, start_reached, condition_reached, statement_reached}
 use Rattle.graph_build_statements.specs.Declaring.{object_type_of, words_of, cleared, store_elements, copied_words, declare_single, declare_array, declare_kept, declare_scalar, declare_as, declare, add_declared}
 use Rattle.graph_build_statements.specs.Forms.{default_start, tests, add_run, add_going, add_branching, add_start, add_step, add_head, add_result, add_switch, add, add_all}
 use Rattle.graph_build_laws.proofs.Temporaries.{behind as laid_behind}

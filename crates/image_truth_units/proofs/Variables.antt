@@ -1,11 +1,11 @@
 -- The variables of tables keep their rules.
-use Rattle.std.proofs.Common.{◌≡◌, ◌≢◌, ℕ, zero, suc, ◌+◌, ◌-◌, ◌*◌, ◌/◌, ◌%◌, ◌≤◌, ◌<◌, ◌⊎◌, inl, inr, ⊎_elim, Bool, true, false, ◌&&◌, Option, Some, None, List, [], ◌∷◌, ◌++◌, length, map, replicate, slice_get, slice_index, refl, sym, ap, ◌∙◌, subst, arith}
-use Rattle.std.specs.Prelude.{IsSomeAnd, ◌==◌, if◌then◌else◌}
+use Rattle.std.proofs.Common.{◌≡◌, ℕ, zero, suc, ◌+◌, ◌-◌, ◌*◌, ◌%◌, ◌≤◌, ◌<◌, inl, inr, ⊎_elim, Option, Some, None, List, [], ◌∷◌, ◌++◌, length, map, replicate, slice_get, slice_index, refl, sym, ap, ◌∙◌, subst, arith}
+use Rattle.std.specs.Prelude.{IsSomeAnd}
 use Rattle.std.specs.List.{AllByRecursion}
 use Rattle.std.specs.Option.{option_map_or}
 use Rattle.std.proofs.lemmas.Bool.{cases_lt}
 use Rattle.std.proofs.lemmas.Bool.Decides.{nat_tests}
-use Rattle.std.proofs.lemmas.List.{length-append, length-map}
+use Rattle.std.proofs.lemmas.List.{length-map}
 use Rattle.std.proofs.lemmas.Option.{none-some, same_Some, slice_get_within}
 use Rattle.places.specs.declared.table.PlaceRow.{PlaceRow}
 use Rattle.c_tree.specs.declared.object_type.ObjectType.{ObjectType}
@@ -19,7 +19,7 @@ use Rattle.graph_core.specs.declared.graph.MemoryObject.{MemoryObject}
 use Rattle.graph_core.specs.Graphs.{Graph, Scalar}
 use Rattle.graph_core.specs.Validity.{IsGraph, taken_by_object, total}
 use Rattle.graph_homes.specs.Frames.{object_offsets, objects_start}
-use Rattle.graph_homes.specs.Homed.{AreHomesOf, HomedForm, IsHomeAmong, home_of, homes_in}
+use Rattle.graph_homes.specs.Homed.{AreHomesOf, HomedForm, IsHomeAmong, home_of}
 use Rattle.rv_emit_storage.specs.StaticAddresses.{static_at, statics_start}
 use Rattle.memory_map.specs.declared.map.Map.{Map}
 use Rattle.memory_map.specs.Maps.{bytes_size, bytes_start}
@@ -27,28 +27,25 @@ use Rattle.memory_map.proofs.Facts.{map_facts}
 use Rattle.rv_emit_storage.specs.UnitMaps.{map_of_unit}
 use Rattle.rv_emit_storage.proofs.UnitMaps.{statics_begin}
 use Rattle.rv_emit_tables.specs.Emitted.{EmittedForm, FunctionCode}
-use Rattle.rv_emit_runs.specs.Laid.{code_of, graph_at}
+use Rattle.rv_emit_runs.specs.Laid.{code_of}
 use Rattle.rv_emit_runs.proofs.Frames.{AreHomed, graph_is, laid_out}
 use Rattle.image_form.specs.Form.{Form}
 use Rattle.image_form.specs.RulesOfVariables.{IsCount, IsDeclaredBefore, IsFrameOffset, IsKept, IsKeptInFunction, IsKeptStatically, IsNamed, IsVariable, VariableRules, group, group_of, static_size, static_start}
 use Rattle.image_form.specs.declared.tables.Function.{Function}
-use Rattle.image_form.specs.declared.variables.Storage.{Storage}
 use Rattle.image_form.specs.declared.variables.Storage.TheVariants as storage
 use Rattle.image_form.specs.declared.variables.Variable.{Variable}
-use Rattle.image_build_tables.specs.Spans.{code_span, span}
 use Rattle.image_build_tables.specs.Storages.{keepings_of, storage_of, storages_of}
 use Rattle.image_build_tables.specs.Variables.{Shape, automatic_shape, count_of, counted, entry, literal_shape, owned_from, owner, owners_of, shape, shapes_of, static_shape}
 use Rattle.image_build_tables.specs.Variables as declarations
 use Rattle.image_truth_units.specs.Units.{HasVariablesIn, IsVariableOf}
-use Rattle.image_truth_units.specs.Variables.{automatic_number, static_count}
+use Rattle.image_truth_units.specs.Variables.{automatic_number}
 use Rattle.image_truth_units.proofs.Storages.{IsKeptBy, IsObjectAt, IsScalarAt, kept_by, nowhere, object, scalar, static}
 use Rattle.image_truth_units.specs.Tables.{entry_number, entry_place, variables_in}
 use Rattle.image_truth_units.specs.ImageRulesUnits.{HasAllVariables, HasObjectOf, HasScalarOf, IsSingle}
 use Rattle.image_truth_units.proofs.Accepted.{ascend_at, both, facts_of}
-use Rattle.image_truth_units.proofs.Fits.{variables_many}
-use Rattle.image_truth_units.proofs.Functions.{IsMade, made_of, some_length}
+use Rattle.image_truth_units.proofs.Functions.{made_of, some_length}
 use Rattle.image_truth_units.proofs.Given.{Given, memory_is}
-use Rattle.image_truth_units.proofs.Keepings.{IsPutAt, IsSome, kept_some, put_object, put_scalar, put_static, static_within}
+use Rattle.image_truth_units.proofs.Keepings.{IsPutAt, kept_some, put_object, put_scalar, put_static, static_within}
 use Rattle.image_truth_units.proofs.Lists.{across, all_at, all_from, from_map, map_at, next_from, there}
 use Rattle.image_truth_units.proofs.ProgramPlaces.{behind_is, front_is}
 

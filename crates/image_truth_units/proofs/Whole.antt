@@ -1,5 +1,5 @@
 -- The machine that stands where the unit of a program is at a stop holds the memory of the program's run.
-use Rattle.std.proofs.Common.{◌≡◌, ℕ, zero, suc, ◌+◌, ◌*◌, ◌<◌, ◌≤◌, ◌⊎◌, inl, inr, true, false, Some, ◌∷◌, length, slice_get, refl, sym, ap, ◌∙◌, subst, arith}
+use Rattle.std.proofs.Common.{◌≡◌, ℕ, zero, suc, ◌+◌, ◌*◌, ◌<◌, ◌≤◌, inl, inr, true, false, Some, ◌∷◌, length, slice_get, refl, sym, ap, ◌∙◌, subst, arith}
 use Rattle.std.specs.Prelude.{◌==◌, slice_index}
 use Rattle.std.specs.Option.{option_map_or}
 use Rattle.std.proofs.lemmas.Bool.{eq-eqb}
@@ -11,7 +11,7 @@ use Rattle.c_meaning_values.specs.Types.{scalar_size}
 use Rattle.c_meaning_values.specs.Memory as source-memory
 use Rattle.image_build_tables.specs.Variables.{element_by_stars}
 use Rattle.memory_map.specs.declared.map.Map.{Map}
-use Rattle.memory_map.specs.Maps.{bytes_end, bytes_start, most_words, stack_end, stack_start}
+use Rattle.memory_map.specs.Maps.{most_words}
 use Rattle.memory_map.proofs.Facts.{map_facts}
 use Rattle.rv_emit_storage.specs.UnitMaps.{map_of_unit}
 use Rattle.image_form.specs.Form.{Form}

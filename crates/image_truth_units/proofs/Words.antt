@@ -10,7 +10,7 @@ use Rattle.c_places.specs.Places.{Place, entry_of, number_at, places_of_program}
 use Rattle.c_flow.specs.Rows.{Row, row_of, row_view}
 use Rattle.graph_core.specs.Graphs.{Graph}
 use Rattle.graph_core.specs.Paths.{Among, front, behind}
-use Rattle.graph_core.specs.Validity.{AreAllDifferent, markers_of_blocks}
+use Rattle.graph_core.specs.Validity.{AreAllDifferent}
 use Rattle.graph_homes.specs.Homed.{HomedForm}
 use Rattle.rv_emit_tables.specs.declared.emitted.PlacedStop.{PlacedStop}
 use Rattle.rv_emit_tables.specs.Emitted.{EmittedForm, FunctionCode, address_of_word}
@@ -21,15 +21,15 @@ use Rattle.image_form.specs.Form.{Form}
 use Rattle.image_form.specs.declared.tables.Place.{Place as ImagePlace}
 use Rattle.image_build_tables.specs.Spans.{code_span, span}
 use Rattle.image_build_tables.specs.Variables.{entry}
-use Rattle.image_build_tables.specs.Places.{address, addresses_from, addresses_of, put_stops, stop_addresses}
-use Rattle.image_build_tables.specs.Tables.{Spot, spot, spot_of_row}
+use Rattle.image_build_tables.specs.Places.{address, addresses_from, put_stops, stop_addresses}
+use Rattle.image_build_tables.specs.Tables.{spot, spot_of_row}
 use Rattle.image_truth_units.specs.Lying.{IsWordOf}
 use Rattle.image_truth_units.specs.Tables.{entry_number, entry_place}
 use Rattle.image_truth_units.specs.ImageRulesUnits.{HasOwnPlaces, IsPlaceIn}
 use Rattle.image_truth_units.proofs.Accepted.{facts_of}
 use Rattle.image_truth_units.proofs.Functions.{has_entry}
 use Rattle.image_truth_units.proofs.Given.{Given}
-use Rattle.image_truth_units.proofs.Lists.{across, all_at, map_at, there}
+use Rattle.image_truth_units.proofs.Lists.{across, map_at, there}
 use Rattle.image_truth_units.proofs.ProgramPlaces.{IsEntryOf, entry_only, in_range, numbered_at}
 use Rattle.base_laws.proofs.Numbers.{no_entry}
 

@@ -4,7 +4,7 @@ use Rattle.places.specs.declared.table.PlaceRow.{PlaceRow}
 use Rattle.c_tree.specs.Programs.{ProgramTree, TypedFunctionTree}
 use Rattle.c_places.specs.Places.{number_at, places_of_program}
 use Rattle.c_flow.specs.Rows.{Row, row_view, rows_of_program}
-use Rattle.graph_core.specs.Graphs.{Graph, UnitForm}
+use Rattle.graph_core.specs.Graphs.{Graph}
 use Rattle.graph_homes.specs.Homed.{HomedForm}
 use Rattle.rv_emit_tables.specs.Emitted.{EmittedForm}
 use Rattle.image_form.specs.Form.{Form}
@@ -12,7 +12,7 @@ use Rattle.image_build_tables.specs.Spans.{code_span, saved, span}
 use Rattle.image_build_tables.specs.Storages.{storages_of}
 use Rattle.image_build_tables.specs.Variables.{declared_names, entry, length_of_name, name_length, owner, owners_of, pass_names, shape, shapes_of, storage}
 use Rattle.image_build_tables.specs.Places.{address, addresses_of}
-use Rattle.image_build_tables.specs.Tables.{assigned_pair, change_record, flow_pair, plain_version, Sight, spot, spot_of_row}
+use Rattle.image_build_tables.specs.Tables.{assigned_pair, change_record, flow_pair, version_of_map, Sight, spot, spot_of_row}
 
 -- the place at which a function begins: the one at its name
 abbrev pub entry_number : ProgramTree → TypedFunctionTree → ℕ
@@ -33,7 +33,7 @@ visible_from place (r ∷ rows) = map (λ x. record { place = place; variable = 
 
 -- TABLES ARE MADE OF A PROGRAM, a unit with homes, its code and the table of the program's places: section by section they say what these say.
 pub record AreTablesOf (p : ProgramTree) (h : HomedForm) (e : EmittedForm) (rows : List PlaceRow) (m : Form) : Type 0 where
-  pub version : m.version ≡ plain_version e.map
+  pub version : m.version ≡ version_of_map e.map
   pub code : m.code ≡ e.code
   pub initial : m.initial ≡ e.initial
   pub owners : m.owners ≡ e.owners

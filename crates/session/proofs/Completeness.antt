@@ -1,8 +1,10 @@
 -- Where nothing stands in the way, the job is done, or memory was wanting.
 use Rattle.std.proofs.Common.{◌≡◌, ℕ, ◌<◌, ◌≤◌, ◌⊎◌, inl, inr, ⊎_elim, refl, arith, List, length}
-use Rattle.std.specs.Prelude.{Option, Some, None, true, string_bytes}
+use Rattle.std.specs.Prelude.{Option, Some, None, Err, Ok, Result, true, string_bytes}
 use Rattle.outside.specs.Counts.{RoseOrStands}
 use Rattle.debug_records.specs.declared.code.Code.{Code}
+use Rattle.image_form.specs.Form.{Form}
+use Rattle.image_form.specs.Reading.{read_of}
 use Rattle.line_form.specs.declared.status.Status.{Status}
 use Rattle.line_form.specs.declared.status.Status.TheVariants.{Done, Usage, SourceRefused, ScriptRefused, ReadFault, WriteFault, NoMemory, ImageRefused, TooLong, AuditFailed}
 use Rattle.script_form.specs.Refusal.{IsRefused}
@@ -19,6 +21,10 @@ use Rattle.work_gen.specs.Generated.{text as generated}
 use Rattle.work_gen_laws.proofs.Swept.{swept_has_program}
 use Rattle.session.specs.Ending.{IsCaused, World}
 use Rattle.session.specs.Causes.{AreNoImage, ImageIsRefused, IsImageText, IsScriptText, IsUnderstood, SourceIsRefused, TextIsRefused, AreAccepted}
+
+-- what bytes are read as, and why none can be read, are not both there
+never_both : (read : Result Form (Code × ℕ)) (f : Form) (e : Code × ℕ) → read ≡ Ok f → read ≡ Err e → ⊥
+never_both read f e is refused = cc
 
 -- a text is not of two kinds that exclude one another
 contrary : (P Q : List ℕ → Type 0) → ((t : List ℕ) → P t → Q t → ⊥) → (held : Option (List ℕ)) → Holds held P → Holds held Q → ⊥
@@ -59,7 +65,7 @@ image_understood held (debug given) code offset u r = r
 image_understood held (compile given) code offset u r = r
 image_understood held (passes given) code offset u r = r
 image_understood held (sweep given) code offset u r = r
-image_understood held (attach given) code offset u r = contrary IsImageText (AreNoImage code offset) (λ t p n. n.none p) (held given.image) u r
+image_understood held (attach given) code offset u r = contrary IsImageText (AreNoImage code offset) (λ t read refused. never_both (read_of t) read.0 (code, offset) read.1 refused) (held given.image) u r
 
 script_read : (held : Held) (script : Option (List ℕ)) (code : Code) (line : ℕ) → IfGiven script (λ name. Holds (held name) IsScriptText) → With script (λ name. Holds (held name) (λ text. IsRefused text code line)) → ⊥
 script_read held None code line s r = r

@@ -1,9 +1,7 @@
 -- What a refusal says of the texts, and what comes after it.
-use Rattle.std.specs.Prelude.{◌≡◌, ℕ, List, Option, Some, None, Err}
+use Rattle.std.specs.Prelude.{◌≡◌, ℕ, List, Option, Some, None, Err, Ok}
 use Rattle.debug_records.specs.declared.code.Code.{Code}
 use Rattle.image_form.specs.Form.{Form}
-use Rattle.image_form.specs.Rules.{IsImage}
-use Rattle.image_form.specs.Spelling.{spelling}
 use Rattle.image_form.specs.Reading.{read_of}
 use Rattle.line_form.specs.declared.status.Status.{Status}
 use Rattle.line_form.specs.declared.status.Status.TheVariants.{Done, Usage, SourceRefused, ScriptRefused, ReadFault, WriteFault, NoMemory, ImageRefused, TooLong, AuditFailed}
@@ -20,9 +18,9 @@ use Rattle.session.specs.Front.{IsRefusedSource}
 abbrev pub IsScriptText : List ℕ → Type 0
 IsScriptText text = (os : List Order) × IsScript text os
 
--- the bytes spell an image
+-- The bytes are an image: read in the order of the format they break no rule.
 abbrev pub IsImageText : List ℕ → Type 0
-IsImageText bytes = (f : Form) × IsImage f × (bytes ≡ spelling f)
+IsImageText bytes = (f : Form) × (read_of bytes ≡ Ok f)
 
 -- the text that a job compiles, where it is there: the source of its name, and for a `sweep` the generated one
 abbrev pub compiled_by : Held → JobGiven → Option (List ℕ)
@@ -44,10 +42,9 @@ SourceIsRefused held (attach given) code line = ⊥
 SourceIsRefused held (passes given) code line = TextIsRefused held (passes given) code line
 SourceIsRefused held (sweep given) code line = ⊥
 
--- Bytes are refused that spell no image: this is the first rule that they break, at this byte.
-pub record AreNoImage (code : Code) (offset : ℕ) (bytes : List ℕ) : Type 0 where
-  pub none : ¬ IsImageText bytes
-  pub first : read_of bytes ≡ Err (code, offset)
+-- Bytes are refused that are no image: this is the first rule that they break, at this byte.
+abbrev pub AreNoImage : Code → (offset : ℕ) → (bytes : List ℕ) → Type 0
+AreNoImage code offset bytes = read_of bytes ≡ Err (code, offset)
 
 -- the image of an `attach` is refused; no other job loads one
 abbrev pub ImageIsRefused : Held → JobGiven → Code → ℕ → Type 0

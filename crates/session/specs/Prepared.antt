@@ -15,10 +15,10 @@ module _ {P : Type 0} (named : P → PassName) (steps : P → UnitForm → UnitF
   -- The text is of a program, and this is an image that is truthful to it after the passes of these names.
   pub record IsImageFor (text : List ℕ) (names : List Text) (mode : Mode) (form : Form) : Type 0 where
     pub understood : HasProgram text
-    pub image : IsImage form
     pub truthful : IsTruthfulTo named steps handed_in text names mode form
 
   -- the image of the source, with its bytes
   pub record IsMade (text : List ℕ) (names : List Text) (mode : Mode) (made : Made) : Type 0 where
     pub image : IsImageFor text names mode (form made.image)
+    pub rules : IsImage (form made.image)
     pub bytes : made.bytes.items ≡ spelling (form made.image)

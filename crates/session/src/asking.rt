@@ -51,7 +51,8 @@ fn checked(alloc: Global, job: Job, passes: &[Box<dyn Pass>]) -> Result<Job, Sta
     }
 }
 
-/// The job that the words are. `Usage` where they are none, or one that needs a pass that is not handed in, and `NoMemory` where memory was wanting.
+/// The job that the words are. `Usage` where they are none, or one that needs a pass that is not handed in, and
+/// `NoMemory` where memory was wanting.
 pub fn asked(alloc: Global, words: &[String], passes: &[Box<dyn Pass>]) -> Result<Job, Status>
     ensures { AskEnds (λ p. named p) passes.now result (map string_bytes words.now) }
 {

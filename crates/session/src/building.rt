@@ -16,6 +16,7 @@ ghost use Rattle.image_build.specs.Behind.{ComesOf};
 ghost use Rattle.image_build.specs.Made.{HasHomesOf, IsMadeOf};
 ghost use Rattle.image_build.specs.Tables.{HasShapeOf};
 ghost use Rattle.image_form.specs.Form.{form};
+ghost use Rattle.image_form.specs.Rules.{IsImage};
 ghost use Rattle.pass_law.specs.Trails.{IsTrail, OfLast};
 ghost use Rattle.session.specs.Building.{IsBuildReason, IsListReason, IsSourceReason};
 ghost use Rattle.session.specs.Prepared.{IsImageFor};
@@ -114,13 +115,13 @@ fn trail_by(
     }
 }
 
-/// Compiles a source, with the passes of these names in order, of those that are handed in, and with scalars in slots or
-/// in registers. What is given is the program that the source is, the units before and after each pass, the last of them
-/// with its homes, and the image of its code, which is truthful to the source. Of two passes of one name the first is
-/// taken.
+/// Compiles a source, with the passes of these names in order, of those that are handed in, and with scalars in slots
+/// or in registers. What is given is the program that the source is, the units before and after each pass, the last of
+/// them with its homes, and the image of its code, which is truthful to the source. Of two passes of one name the first
+/// is taken.
 ///
-/// Errors: `Source` where the source breaks a rule of C, with the first that it breaks; `UnknownPass` where it breaks none
-/// and a name is no pass's, with the first such name; `NoMemory` where memory was refused.
+/// Errors: `Source` where the source breaks a rule of C, with the first that it breaks; `UnknownPass` where it breaks
+/// none and a name is no pass's, with the first such name; `NoMemory` where memory was refused.
 pub fn compile(
     alloc: Global,
     text: &[u8],
@@ -140,6 +141,7 @@ pub fn compile(
     ensures made { IfOk result (λ b. IsMadeOf (program_view b.program) (homed_view b.homed) (form b.image)) }
     ensures image { IfOk result (λ b. IsImageFor (λ p. named p) (λ p. (steps p).leads) passes.now text.now
         (map letters list.now) mode (form b.image)) }
+    ensures rules { IfOk result (λ b. IsImage (form b.image)) }
     ensures reason { IfErr result (λ e. IsBuildReason (λ p. named p) passes.now text.now list.now e) }
 {
     let program = program_of(alloc, text)?;

@@ -61,7 +61,8 @@ fn load_text<S: Shelf>(
     }
 }
 
-/// Loads a source, whose length has a rule of its own: of one that is longer than its limit there is one byte more than that.
+/// Loads a source, whose length has a rule of its own: of one that is longer than its limit there is one byte more than
+/// that.
 pub fn load_source<S: Shelf>(alloc: Global, shelf: &mut S, name: &str) -> Result<Vec<u8>, Status>
     ensures ends { LoadEnds result (S.load_count shelf.old) (S.load_count shelf.new) (λ _. ⊥) }
     ensures saves { S.save_count shelf.new ≡ S.save_count shelf.old }
@@ -106,7 +107,8 @@ fn load_whole<S: Shelf>(
     Ok(text)
 }
 
-/// Loads the source, the script and the input, in this order. The script and the input are refused directly where they are too long.
+/// Loads the source, the script and the input, in this order. The script and the input are refused directly where they
+/// are too long.
 pub fn load_texts<S: Shelf>(alloc: Global, shelf: &mut S, job: &Debug) -> Result<Texts, Status>
     ensures ends { LoadEnds result (S.load_count shelf.old) (S.load_count shelf.new) (λ said.
         S.tells shelf.old ≡ true → IsTooLong (S.held shelf.old) (debug (debug_given job.now)) said) }

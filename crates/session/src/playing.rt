@@ -82,8 +82,8 @@ fn carry_out<K: Sink>(
     Ok(())
 }
 
-/// Plays a script on an image: puts each line of its transcript, with this input, which is of bytes, and at most so many
-/// instructions.
+/// Plays a script on an image: puts each line of its transcript, with this input, which is of bytes, and at most so
+/// many instructions.
 pub fn play<K: Sink>(
     alloc: Global,
     image: &View<'_>,

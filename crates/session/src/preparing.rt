@@ -82,8 +82,8 @@ fn understood(alloc: Global, source: &[u8]) -> Result<Program, Status>
     }
 }
 
-/// The image of a source after the passes of these names, and its bytes. Refused for the first rule of C that the source breaks; and by E11 and line 1 where
-/// it breaks none and is not compiled so far.
+/// The image of a source after the passes of these names, and its bytes. Refused for the first rule of C that the
+/// source breaks; and by E11 and line 1 where it breaks none and is not compiled so far.
 pub fn make(
     alloc: Global,
     source: &[u8],
@@ -121,8 +121,8 @@ fn lines_for(
     Ok(lines)
 }
 
-/// The lines of the changes that the passes of these names make in a source, which else is refused for the first rule of
-/// C that it breaks.
+/// The lines of the changes that the passes of these names make in a source, which else is refused for the first rule
+/// of C that it breaks.
 pub fn list(
     alloc: Global,
     source: &[u8],

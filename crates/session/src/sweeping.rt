@@ -76,9 +76,9 @@ fn swept(alloc: Global, job: &Sweep, passes: &[Box<dyn Pass>]) -> Result<Summary
     }
 }
 
-/// Generates the program of a seed and a size, compiles it with the default passes and with homes in registers, steps its
-/// run on no input to its end, and counts what is seen. The passes are those that are handed in, `copy`, `motion` and
-/// `dead` among them. The only error is want of memory: what is generated breaks no rule of C.
+/// Generates the program of a seed and a size, compiles it with the default passes and with homes in registers, steps
+/// its run on no input to its end, and counts what is seen. The passes are those that are handed in, `copy`, `motion`
+/// and `dead` among them. The only error is want of memory: what is generated breaks no rule of C.
 pub fn sweep(
     alloc: Global,
     seed: u32,
@@ -97,7 +97,8 @@ pub fn sweep(
     }
 }
 
-/// Generates a program, compiles it, steps its run to the end, and puts out the summary. Nothing is loaded or saved, whatever a shelf holds.
+/// Generates a program, compiles it, steps its run to the end, and puts out the summary. Nothing is loaded or saved,
+/// whatever a shelf holds.
 pub fn put_summary<K: Sink>(
     alloc: Global,
     job: &Sweep,

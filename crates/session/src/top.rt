@@ -63,20 +63,21 @@ fn serve<S: Shelf, K: Sink>(
     }
 }
 
-/// One session: the words are the program's own name and then those of a job, which is
-/// `debug [--passes LIST] [--homes MODE] [--limit N] SRC SCRIPT INPUT IMAGE`, `compile [--passes LIST] [--homes MODE] SRC IMAGE`,
-/// `attach [--limit N] IMAGE SCRIPT INPUT`, `passes [--passes LIST] SRC` or `sweep SEED SIZE`, its options and names in any order. The passes of the list
-/// are those that are handed in; of two of one name the first is taken.
+/// One session: the words are the program's own name and then those of a job, which is `debug [--passes LIST] [--homes
+/// MODE] [--limit N] SRC SCRIPT INPUT IMAGE`, `compile [--passes LIST] [--homes MODE] SRC IMAGE`, `attach [--limit N]
+/// IMAGE SCRIPT INPUT`, `passes [--passes LIST] SRC` or `sweep SEED SIZE`, its options and names in any order. The
+/// passes of the list are those that are handed in; of two of one name the first is taken.
 ///
-/// `debug` loads the source, the script and the input from the shelf, in this order, compiles the source, saves the image, and puts
-/// the transcript of the script on the sink, each line in one piece. `compile` loads the source, compiles it and saves the image.
-/// `attach` loads the image, the script and the input, and puts the transcript. `passes` loads the source, and puts a line for each change that the passes make in it.
-/// `sweep` compiles a generated program, steps its run to the end, and puts a summary of five lines. The first fault ends it: `Usage` where the words are no job, or
-/// one that needs a pass that is not handed in, `ReadFault` where a load
-/// failed, `TooLong` where the image has more than 67,108,864 bytes, the script more than 1,048,576 or the input more than
-/// 16,777,216, `ImageRefused` where the bytes of the image spell none, `SourceRefused` where the source breaks a rule of C, or breaks
-/// none and is not compiled so far, `ScriptRefused` where the script is none, `WriteFault` where the save or a line failed, and
-/// `NoMemory` where memory was wanting.
+/// `debug` loads the source, the script and the input from the shelf, in this order, compiles the source, saves the
+/// image, and puts the transcript of the script on the sink, each line in one piece. `compile` loads the source,
+/// compiles it and saves the image. `attach` loads the image, the script and the input, and puts the transcript.
+/// `passes` loads the source, and puts a line for each change that the passes make in it. `sweep` compiles a generated
+/// program, steps its run to the end, and puts a summary of five lines. The first fault ends it: `Usage` where the
+/// words are no job, or one that needs a pass that is not handed in, `ReadFault` where a load failed, `TooLong` where
+/// the image has more than 67,108,864 bytes, the script more than 1,048,576 or the input more than 16,777,216,
+/// `ImageRefused` where the bytes of the image spell none, `SourceRefused` where the source breaks a rule of C,
+/// `ScriptRefused` where the script is none, `WriteFault` where the save or a line failed, and `NoMemory` where memory
+/// was wanting.
 pub fn session<S: Shelf, K: Sink>(
     alloc: Global,
     words: &[String],

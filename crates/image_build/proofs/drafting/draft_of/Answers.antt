@@ -15,6 +15,7 @@ use Rattle.image_build.proofs.Images.{is_image}
 use Rattle.image_build.proofs.MadeAgain.{kept_each}
 use Rattle.image_build.proofs.Owners.{all_owned}
 use Rattle.image_build.proofs.Premises.{kept_in_order, kept_table}
+use Rattle.image_build.proofs.QuietRows.{rows_quiet}
 use Rattle.image_build.proofs.Plain.{shown_at, shows_all, tables_are}
 use Rattle.image_build.proofs.Tables.{has_tables, rows_few}
 use Rattle.image_build.proofs.Units.{entries_seen}
@@ -60,29 +61,32 @@ returns-clause-made c =
     record {
       emitted = emitted;
       emits = c.in_ok-emitted.ensures.emits;
-      version = made.version;
-      mode = made.mode;
-      code = made.code;
-      owners = made.owners;
-      initial = made.initial;
-      spans = made.spans;
-      storages = kept_each h emitted _ image.variables.items made.storages;
-      places = rows;
-      places_are = c.in_ok-places.ensures;
-      addresses = made.addresses;
-      changes = made.changes;
-      flow = made.flow;
-      assigned = made.assigned;
-      names = made.names;
-      rows = record {
-        told = c.in_ok-verdicts.verdicts.items;
-        borne_out = borne_out;
-        rows = image.rows.items;
-        say = say;
-        needed = subst (AreNodesOf (telling_of h rows emitted) image.nodes.items) c.deref.ensures.value (made.nodes few);
-        same = refl;
+      parts = record {
+        version = made.version;
+        mode = made.mode;
+        code = made.code;
+        owners = made.owners;
+        initial = made.initial;
+        spans = made.spans;
+        storages = kept_each h emitted _ image.variables.items made.storages;
+        places = rows;
+        places_are = c.in_ok-places.ensures;
+        addresses = made.addresses;
+        changes = made.changes;
+        flow = made.flow;
+        assigned = made.assigned;
+        names = made.names;
+        rows = record {
+          told = c.in_ok-verdicts.verdicts.items;
+          borne_out = borne_out;
+          rows = image.rows.items;
+          say = say;
+          needed = subst (AreNodesOf (telling_of h rows emitted) image.nodes.items) c.deref.ensures.value (made.nodes few);
+          same = refl;
+        };
+        evident = rows_evident h c.requires.marked.valid emitted c.in_ok-emitted.ensures.emits c.in_ok-emitted.ensures.countable borne_out.flow image.nodes.items rows c.in_ok-verdicts.verdicts.items image.rows.items borne_out.named borne_out.evident say;
+        quiet = rows_quiet h c.requires.marked.valid emitted c.in_ok-emitted.ensures.emits borne_out.flow image.nodes.items rows c.in_ok-verdicts.verdicts.items image.rows.items borne_out.evident say;
       };
-      evident = rows_evident h c.requires.marked.valid emitted c.in_ok-emitted.ensures.emits c.in_ok-emitted.ensures.countable borne_out.flow image.nodes.items rows c.in_ok-verdicts.verdicts.items image.rows.items borne_out.named borne_out.evident say;
     }
 
 pub verdicts_on-requires-clause-few : goal.verdicts_on-requires-clause-few

@@ -1,10 +1,10 @@
-use Rattle.std.proofs.Common.{◌∙◌, ◌<◌, ◌^◌, length, subst, arith}
+use Rattle.std.proofs.Common.{[], ◌∷◌, ◌++◌, ◌≡◌, ◌∙◌, ◌<◌, ◌^◌, length, subst, arith}
 use Rattle.graph_core.specs.Paths.{Among, front}
 use Rattle.image_build_tables.proofs.Ahead.{whole}
 use Rattle.image_build_tables.specs.Rows.{telling_view}
 use Rattle.image_build_tables.proofs.Growing.{begin_fewer}
 use Rattle.image_build_tables.proofs.Needed.{among_behind, few_step, nodes_step}
-use Rattle.image_build_tables.proofs.Lining.{rows_end, rows_step, sights_step}
+use Rattle.image_build_tables.proofs.Lining.{row_of, row_put, rows_end, rows_step, sights_step}
 use Rattle.image_build_tables.proofs.rows.rows_of.Goals as goal
 
 pub loop-left-preserved : goal.loop-left-preserved
@@ -14,6 +14,7 @@ loop-left-preserved c =
     let v = c.in_ok-verdict.verdict in
     let whole_left = whole l.left.now w c.in-len1-up.len_at_least c.told-item.is in
     let pushed = c.push.new.self.items in
+    let put : pushed ≡ l.rows.items ++ (row_of w v ∷ []) = row_put w v c.quiet_of.result l.rows.items pushed c.quiet_of.ensures c.in_ok-push.ensures.items in
     let fewer : length c.verdict_of.new.nodes.nodes.items < 2 ^ 32 → length l.nodes.nodes.items < 2 ^ 32 =
     λ few. (let grown = begin_fewer l.nodes.nodes.items c.verdict_of.new.nodes.nodes.items c.in_ok-verdict.ensures.grown in omega (arith, few, grown)) in
     record {
@@ -24,8 +25,8 @@ loop-left-preserved c =
       earlier = λ few. c.in_ok-verdict.ensures.earlier few (l.invariant.earlier (fewer few));
       few = few_step l.nodes.nodes.items c.verdict_of.new.nodes.nodes.items l.left.now w c.args.verdicts.now whole_left c.in_ok-verdict.ensures.few l.invariant.few;
       bare = λ shown. c.in_ok-verdict.ensures.home (shown w (l.invariant.ahead w (subst (Among w) whole_left front))) ∙ l.invariant.bare shown;
-      sights = sights_step l.left.now w v l.rows.items pushed c.args.verdicts.now whole_left c.in_ok-push.ensures.items l.invariant.sights;
-      rows = rows_step (telling_view c.args.telling) l.nodes.nodes.items c.verdict_of.new.nodes.nodes.items l.left.now w v l.rows.items pushed c.args.verdicts.now whole_left c.in_ok-push.ensures.items
+      sights = sights_step l.left.now w v l.rows.items pushed c.args.verdicts.now whole_left put l.invariant.sights;
+      rows = rows_step (telling_view c.args.telling) l.nodes.nodes.items c.verdict_of.new.nodes.nodes.items l.left.now w v l.rows.items pushed c.args.verdicts.now whole_left put
           c.in_ok-verdict.ensures.grown c.in_ok-verdict.ensures.verdict l.invariant.rows;
     }
 

@@ -5,12 +5,27 @@ use Rattle.outside.specs.Taken.{TakesPart}
 use Rattle.script_form.specs.Script.{orders}
 use Rattle.stop_engine.specs.Transcript.{transcript_bytes}
 use Rattle.command_line.specs.Job.{attach_given}
-use Rattle.session.proofs.Sessions.{attached, played_same, written_late}
+use Rattle.session.proofs.Sessions.{attached, attached_accepted, attached_refused, played_same, written_late}
 use Rattle.session.proofs.attaching.attach.Goals as goal
 
 pub returns-in-Ok-play : goal.returns-in-Ok-play
 returns-in-Ok-play g c = record {
-  caused = search rules;
+  caused = record {
+    usage = search rules;
+    audit = search rules;
+    read = search rules;
+    read_only = search rules;
+    too_long = search rules;
+    within = search rules;
+    image = search rules;
+    source = search rules;
+    script = search rules;
+    accepted = λ e told.
+        attached_accepted c.in-Ok-view_image.image c.in-Ok-read_script.commands c.deref.result.now c.deref-2.result.now (g.S.Shelf.held c.args.shelf.now) (attach_given c.args.job.now)
+        c.in-Ok-view_image.ensures c.in-Ok-read_script.ensures (c.in-Ok.ensures.image told ∙ ap Some (sym c.deref.ensures.value)) (c.in-Ok.ensures.script told ∙ ap Some (sym c.deref-2.ensures.value));
+    write = search rules;
+    write_only = search rules;
+  };
   stays = search rules;
   image = search rules;
   transcript = record {
@@ -33,7 +48,22 @@ returns-in-Ok-play g c = record {
 
 pub returns-in-Err-read_script : goal.returns-in-Err-read_script
 returns-in-Err-read_script g c = record {
-  caused = search rules;
+  caused = record {
+    usage = search rules;
+    audit = search rules;
+    read = search rules;
+    read_only = search rules;
+    too_long = search rules;
+    within = search rules;
+    image = search rules;
+    source = search rules;
+    script = λ code at e told.
+        attached_refused c.in-Err-read_script.status code at c.in-Ok-view_image.image c.deref.result.now c.deref-2.result.now (g.S.Shelf.held c.args.shelf.now) (attach_given c.args.job.now)
+        e c.in-Ok-view_image.ensures c.in-Err-read_script.ensures (c.in-Ok.ensures.image told ∙ ap Some (sym c.deref.ensures.value)) (c.in-Ok.ensures.script told ∙ ap Some (sym c.deref-2.ensures.value));
+    accepted = search rules;
+    write = search rules;
+    write_only = search rules;
+  };
   stays = record {
     kept = λ early told n. c.in-Ok.ensures.same n told;
     nothing = λ early told. refl;
@@ -45,7 +75,22 @@ returns-in-Err-read_script g c = record {
 
 pub returns : goal.returns
 returns g c = record {
-  caused = search rules;
+  caused = record {
+    usage = search rules;
+    audit = search rules;
+    read = search rules;
+    read_only = search rules;
+    too_long = search rules;
+    within = search rules;
+    image = search rules;
+    source = search rules;
+    script = search rules;
+    accepted = λ e told.
+        attached_accepted c.in-Ok-view_image.image c.in-Ok-read_script.commands c.deref.result.now c.deref-2.result.now (g.S.Shelf.held c.args.shelf.now) (attach_given c.args.job.now)
+        c.in-Ok-view_image.ensures c.in-Ok-read_script.ensures (c.in-Ok.ensures.image told ∙ ap Some (sym c.deref.ensures.value)) (c.in-Ok.ensures.script told ∙ ap Some (sym c.deref-2.ensures.value));
+    write = search rules;
+    write_only = search rules;
+  };
   stays = record {
     kept = λ early told n. c.in-Ok.ensures.same n told;
     nothing = λ early told. absurd (written_late (Unit {0}) c.in-Err-play.status (g.K.Sink.fault_count c.args.sink.now) (g.K.Sink.fault_count c.play.new.sink) c.in-Err-play.ensures.ends early);

@@ -7,9 +7,12 @@ use Rattle.graph_build_laws.specs.Built.{IsBuilt}
 use Rattle.graph_core.specs.Graphs.{unit_view}
 use Rattle.graph_homes.specs.Homed.{homed_view}
 use Rattle.image_build.specs.Behind.{ComesHomed, ComesOf}
+use Rattle.image_build.specs.Kept.{IsKeptOf}
 use Rattle.image_build.specs.Made.{HasHomesOf, IsMadeOf}
 use Rattle.image_build.specs.Tables.{HasShapeOf}
+use Rattle.image_build.proofs.CarriedOut.{carried}
 use Rattle.image_build.proofs.Explained.{explains_all}
+use Rattle.image_build.proofs.KeptUnits.{kept_variables}
 use Rattle.image_build.proofs.ToldTrails.{trail_told}
 use Rattle.image_build.proofs.Truth.{runs_true}
 use Rattle.image_form.specs.Form.{form}
@@ -92,7 +95,10 @@ returns-clause-homed g c =
     (record { same = is.unit; changes = is.changes; homed = is.homed })
 
 pub returns-clause-made : goal.returns-clause-made
-returns-clause-made g c = subst (λ p. IsMadeOf p (homed_view c.in_ok-made.made.homed) (form c.in_ok-made.made.image)) (sym c.in_ok-made.ensures.program) c.in_ok-made.ensures.made
+returns-clause-made g c = subst (λ p. IsMadeOf p (homed_view c.in_ok-made.made.homed) (form c.in_ok-made.made.image)) (sym c.in_ok-made.ensures.program) (carried _ _ _ c.in_ok-made.ensures.made)
+
+pub returns-clause-rules : goal.returns-clause-rules
+returns-clause-rules g c = c.in_ok-made.ensures.image
 
 pub returns-clause-image : goal.returns-clause-image
 returns-clause-image g c =
@@ -103,12 +109,12 @@ returns-clause-image g c =
     let within : length c.args.list.now < length c.in_ok-trail.trail.units.items = let count = c.in_ok-trail.ensures.count in omega (arith, count) in
     let last = last_holds (λ v. ComesOf (λ p. (goal.Pass-dyn g (p.vtable, p.value)).named p.value) (λ p. ((goal.Pass-dyn g (p.vtable, p.value)).steps p.value).leads) c.args.passes.now (map letters c.args.list.now) p v) c.in_ok-trail.trail.units.items (length c.args.list.now) c.index.result.now within c.index.ensures c.in_ok-trail.ensures.comes in
     let homed : ComesHomed (λ p. (goal.Pass-dyn g (p.vtable, p.value)).named p.value) (λ p. ((goal.Pass-dyn g (p.vtable, p.value)).steps p.value).leads) c.args.passes.now (map letters c.args.list.now) p h = record { unit = unit_view c.index.result.now; comes = last; same = is.unit; changes = is.changes } in
-    let comes : ComesOfProgram (λ p. (goal.Pass-dyn g (p.vtable, p.value)).named p.value) (λ p. ((goal.Pass-dyn g (p.vtable, p.value)).steps p.value).leads) c.args.passes.now p (map letters c.args.list.now) c.args.mode m = record { homed = h; homes = is.homed; made = is.made; comes = homed; explains = explains_all p h m is.made is.image } in
+    let kept : IsKeptOf p h.unit = kept_behind (λ p. (goal.Pass-dyn g (p.vtable, p.value)).named p.value) (λ p. ((goal.Pass-dyn g (p.vtable, p.value)).steps p.value).leads) c.args.passes.now (map letters c.args.list.now) p h homed in
+    let comes : ComesOfProgram (λ p. (goal.Pass-dyn g (p.vtable, p.value)).named p.value) (λ p. ((goal.Pass-dyn g (p.vtable, p.value)).steps p.value).leads) c.args.passes.now p (map letters c.args.list.now) c.args.mode m = record { homed = h; homes = is.homed; made = carried p h m is.made; comes = homed; explains = explains_all p h m is.made is.image is.tables (kept_variables p h.unit kept c.in_ok-program.ensures.laws) } in
     record {
       understood = record { program = p; program_is = c.in_ok-program.ensures.program };
-      image = is.image;
       truthful = truthful_by c.args.text.now (map letters c.args.list.now) c.args.mode p m c.in_ok-program.ensures.program
-          (runs_true c.args.mode p h m c.in_ok-program.ensures.laws is.homed is.made is.tables is.image (kept_behind (λ p. (goal.Pass-dyn g (p.vtable, p.value)).named p.value) (λ p. ((goal.Pass-dyn g (p.vtable, p.value)).steps p.value).leads) c.args.passes.now (map letters c.args.list.now) p h homed) c.in_ok-program.ensures.names)
+          (runs_true c.args.mode p h m c.in_ok-program.ensures.laws is.homed is.made is.tables is.image kept c.in_ok-program.ensures.names)
           (λ none slots. is.shows (none_named c.args.list.now none) slots) is.tables comes;
     }
 

@@ -116,7 +116,7 @@ returns-in-Err-save_image g c = record {
 }
 
 pub of_spelling-image-requires : goal.of_spelling-image-requires
-of_spelling-image-requires g c = record { spelled = (form c.in-Ok-make.made.image, c.in-Ok-make.ensures.image.image, c.deref-4.ensures.value ∙ c.in-Ok-make.ensures.bytes) }
+of_spelling-image-requires g c = record { spelled = (form c.in-Ok-make.made.image, c.in-Ok-make.ensures.rules, c.deref-4.ensures.value ∙ c.in-Ok-make.ensures.bytes) }
 
 pub returns-in-Ok-play : goal.returns-in-Ok-play
 returns-in-Ok-play g c = record {

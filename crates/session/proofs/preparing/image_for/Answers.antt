@@ -4,7 +4,9 @@ use Rattle.debug_records.specs.Change.{letters}
 use Rattle.c_tree.specs.Programs.{program_view}
 use Rattle.graph_homes.specs.Homed.{homed_view}
 use Rattle.image_form.specs.Form.{form}
+use Rattle.image_build.proofs.CarriedOut.{carried}
 use Rattle.image_build.proofs.Explained.{explains_all}
+use Rattle.image_build.proofs.KeptUnits.{kept_variables}
 use Rattle.image_build.proofs.Truth.{runs_true}
 use Rattle.session.proofs.Behind.{kept_behind}
 use Rattle.session.proofs.Compiled.{none_named}
@@ -42,9 +44,9 @@ returns-clause-comes g c =
     record {
       homed = h;
       homes = is.homed;
-      made = is.made;
+      made = carried p h (form c.in_ok-build.build.image) is.made;
       comes = is.comes;
-      explains = explains_all p h (form c.in_ok-build.build.image) is.made is.image;
+      explains = explains_all p h (form c.in_ok-build.build.image) is.made is.image is.tables (kept_variables p h.unit (kept_behind (λ p. (goal.Pass-dyn g (p.vtable, p.value)).named p.value) (λ p. ((goal.Pass-dyn g (p.vtable, p.value)).steps p.value).leads) c.args.passes.now (map letters c.args.names.now) p h is.comes) c.requires.laws);
     }
 
 pub returns-clause-runs : goal.returns-clause-runs

@@ -14,7 +14,7 @@ pub make-requires : goal.make-requires
 make-requires g c = subst (CanRun (λ p. (goal.Pass-dyn g (p.vtable, p.value)).named p.value) c.args.passes.now) (sym (ap (map letters) c.deref-2.ensures.value ∙ c.in-Ok-default_names.ensures)) c.requires
 
 pub of_spelling-image-requires : goal.of_spelling-image-requires
-of_spelling-image-requires g c = record { spelled = (form c.in_ok-made.made.image, c.in_ok-made.ensures.image.image, c.deref-3.ensures.value ∙ c.in_ok-made.ensures.bytes) }
+of_spelling-image-requires g c = record { spelled = (form c.in_ok-made.made.image, c.in_ok-made.ensures.rules, c.deref-3.ensures.value ∙ c.in_ok-made.ensures.bytes) }
 
 pub returns-in-Ok-summarize : goal.returns-in-Ok-summarize
 returns-in-Ok-summarize g c =
