@@ -20,7 +20,8 @@ fn run_text(alloc: Global, text: &[u8]) -> Result<RunInShort, SourceErr> {
     Ok(run)
 }
 
-/// A source with how its run ends, how many stops it makes, how many bytes it puts out, and the places of the end and of the last stop.
+/// A source with how its run ends, how many stops it makes, how many bytes it puts out, and the places of the end and
+/// of the last stop.
 struct Row {
     text: &'static [u8],
     end: End,

@@ -19,7 +19,8 @@ fn program_of(alloc: Global, text: &[u8]) -> Result<Program, SourceErr> {
     Ok(program)
 }
 
-/// A place: where it stands, its line, the number of its function, whether it is an entry, and the numbers of the variables visible there.
+/// A place: where it stands, its line, the number of its function, whether it is an entry, and the numbers of the
+/// variables visible there.
 struct Row(u32, u32, u32, bool, &'static [u32]);
 
 /// A text with its places, and by their numbers the steps between them and what they assign.
@@ -59,7 +60,8 @@ fn visible(alloc: Global, table: &PlaceTable) -> Result<Vec<Vec<u32>>, AllocErro
     Ok(all)
 }
 
-/// Programs, with what an independent reference in Python gives of them, by ISO/IEC 9899:2011 and the sentences of docs/definitions.md on places.
+/// Programs, with what an independent reference in Python gives of them, by ISO/IEC 9899:2011 and the sentences of
+/// docs/definitions.md on places.
 static PROGRAMS: [Worked; 7] = [
     Worked {
         text: b"#include <stdio.h>\nint main(void){int x=2; x=x+3; putchar(65); return x;}",

@@ -1,5 +1,5 @@
-//! What sources are refused for, and which are accepted, from their texts on. The codes and lines follow from docs/refusals.md and, where it tells
-//! what a construct is, from ISO/IEC 9899:2011; they were worked out by hand.
+//! What sources are refused for, and which are accepted, from their texts on. The codes and lines follow from
+//! docs/refusals.md and, where it tells what a construct is, from ISO/IEC 9899:2011; they were worked out by hand.
 
 use crate::texts::{Piece, text_of};
 use c_parse::parse;
@@ -195,7 +195,8 @@ static RULES: [Row; 32] = [
     Row(b"int f(void){return 0;}", Code::NO_MAIN, 1),
 ];
 
-/// Texts that break several rules: the one of the construct that ends first is told; where two end together, that of the lesser code or of the smaller construct; and the rules of each step before those of the next.
+/// Texts that break several rules: the one of the construct that ends first is told; where two end together, that of
+/// the lesser code or of the smaller construct; and the rules of each step before those of the next.
 static ORDER: [Row; 16] = [
     Row(b"int main(void){\nreturn m\n+n;}", Code::UNDECLARED, 2),
     Row(

@@ -41,7 +41,8 @@ fn bytes(alloc: Global, run: &SourceRun) -> Result<Vec<u8>, AllocError> {
     Ok(found)
 }
 
-/// A source with the turns and the input that its run has, the places at which the run stops, the bytes that it puts out, and how it ends.
+/// A source with the turns and the input that its run has, the places at which the run stops, the bytes that it puts
+/// out, and how it ends.
 struct Row {
     text: &'static [u8],
     turns: u64,

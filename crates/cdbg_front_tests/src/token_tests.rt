@@ -1,4 +1,5 @@
-//! What the tokens of a text say, by ISO/IEC 9899:2011, 6.4: its lexical grammar, the types of constants (6.4.4.1) and the longest token (6.4p4).
+//! What the tokens of a text say, by ISO/IEC 9899:2011, 6.4: its lexical grammar, the types of constants (6.4.4.1) and
+//! the longest token (6.4p4).
 
 use c_token::{Constant, Header, Keyword, Kind, Punctuator, Token, tokens};
 use std::alloc::Global;

@@ -1,4 +1,5 @@
-//! Tests of the middle: graphs, facts at their blocks, lists of passes and the paths of places. It has no code of its own.
+//! Tests of the middle: graphs, facts at their blocks, lists of passes and the paths of places. It has no code of its
+//! own.
 #![tactic(auto)]
 
 #[cfg(test)]

@@ -1,4 +1,5 @@
-//! Values worked by hand: the meet over all paths of a graph with cycles, the live names of a loop, facts inside a block, and rows of bits.
+//! Values worked by hand: the meet over all paths of a graph with cycles, the live names of a loop, facts inside a
+//! block, and rows of bits.
 
 ghost use Rattle.std.specs.Prelude.{◌≡◌, ◌<◌, ◌≤◌, ◌^◌, IfOk, length};
 ghost use Rattle.graph_core.specs.Graphs.{graph_view};
@@ -125,7 +126,8 @@ fn graph(alloc: Global, blocks: Vec<Block>) -> Graph {
     }
 }
 
-/// A cycle of the blocks 1 and 3, by which the way 0, 2, 4 does not go; the blocks 5 and 6 are a cycle that nothing reaches.
+/// A cycle of the blocks 1 and 3, by which the way 0, 2, 4 does not go; the blocks 5 and 6 are a cycle that nothing
+/// reaches.
 fn two_cycles(alloc: Global) -> Result<Graph, AllocError> {
     let zero = Operand::Constant(0);
     let blocks = vec![in alloc;
@@ -319,7 +321,8 @@ fn facts_inside_a_block(rt: HostRuntime) -> Result<(), Fail> {
     Ok(())
 }
 
-/// The names 0 and 1 that are live before each instruction of the block, from the last to the first, where name 1 is live at the block's end.
+/// The names 0 and 1 that are live before each instruction of the block, from the last to the first, where name 1 is
+/// live at the block's end.
 static LIVE_BEFORE: [[bool; 2]; 3] = [[true, true], [true, true], [false, true]];
 
 #[test]
@@ -376,8 +379,8 @@ fn assert_bits(rt: &impl Abort, rows: &Rows, row: u32, wanted: &[u32], shows: &s
     }
 }
 
-/// Bits that are set in two rows, bits that are then cleared in the second, and what is left in it; then whether the first meets it by union, what
-/// is left, and whether that changed it.
+/// Bits that are set in two rows, bits that are then cleared in the second, and what is left in it; then whether the
+/// first meets it by union, what is left, and whether that changed it.
 struct MeetTable {
     first: &'static [u32],
     second: &'static [u32],

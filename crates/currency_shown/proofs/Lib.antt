@@ -7,4 +7,5 @@ mod LeastPlaces
 mod Chaining
 mod Linking
 mod Scalars
+mod Targets
 mod Reaching

@@ -62,20 +62,6 @@ struck_put names i = record {
 pub edges_struck : (old new : List (Option ℕ)) (positions : List ℕ) (n : ℕ) (e : End) → IsStruck old new → AreEdgesNext old positions n e → AreEdgesNext new positions n e
 edges_struck old new positions n e struck each l among m q = each l among m (struck.kept l m q)
 
--- the edges of an end, where it leads to no block, to one, or to two
-pub edges_none : (names : List (Option ℕ)) (positions : List ℕ) (n : ℕ) (e : End) → ((l : ℕ) → Among l (targets_of e) → ⊥) → AreEdgesNext names positions n e
-edges_none names positions n e none l among m q = absurd (none l among)
-
-pub edges_one : (names : List (Option ℕ)) (positions : List ℕ) (n : ℕ) (e : End) (to : ℕ) → ((l : ℕ) → Among l (targets_of e) → l ≡ to) → ((m : ℕ) → name_at names to ≡ Some m → (m ≡ n) × IsNext positions n e to) → AreEdgesNext names positions n e
-edges_one names positions n e to one edge l among m q = (let same = one l among in subst (λ k. (m ≡ n) × IsNext positions n e k) (sym same) (edge m (subst (λ k. name_at names k ≡ Some m) same q)))
-
-pub edges_two : (mid new : List (Option ℕ)) (positions : List ℕ) (n : ℕ) (e : End) (a b : ℕ) → ((l : ℕ) → Among l (targets_of e) → (l ≡ a) ⊎ (l ≡ b)) → ((m : ℕ) → name_at mid a ≡ Some m → (m ≡ n) × IsNext positions n e a) → IsStruck mid new
-    → ((m : ℕ) → name_at new b ≡ Some m → (m ≡ n) × IsNext positions n e b) → AreEdgesNext new positions n e
-edges_two mid new positions n e a b two first struck second l among m q = elim (two l among) [
-  | inl same ↦ subst (λ k. (m ≡ n) × IsNext positions n e k) (sym same) (first m (struck.kept a m (subst (λ k. name_at new k ≡ Some m) same q)))
-  | inr same ↦ subst (λ k. (m ≡ n) × IsNext positions n e k) (sym same) (second m (subst (λ k. name_at new k ≡ Some m) same q))
-]
-
 -- nothing stands before a block before which nothing did
 pub still_none : (old new : List (Option ℕ)) (l : ℕ) → IsStruck old new → name_at old l ≡ None → name_at new l ≡ None
 still_none old new l struck none = at_found (name_at new l) refl

@@ -27,6 +27,8 @@ use Rattle.std.proofs.Math.Nat.{min-eq_left, min-eq_right}
 use Rattle.std.proofs.lemmas.Option.{none-some, same_Some, slice_get_within}
 use Rattle.currency_notes.specs.declared.function.Function as declared-function
 use Rattle.base_laws.proofs.Booleans.{by_bool, neither}
+use Rattle.graph_core.specs.declared.name.Label.{Label}
+use Rattle.currency_shown.proofs.Targets.{each_label, label_numbers}
 
 take_all_of : {A : Type 0} (xs ys : List A) → take (length xs) (xs ++ ys) ≡ xs
 take_all_of [] [] = refl
@@ -36,10 +38,6 @@ take_all_of (x ∷ xs) ys = ap (λ zs. x ∷ zs) (take_all_of xs ys)
 -- so many of two lists, one behind the other, as the first one has
 pub take_back : {A : Type 0} (xs ys : List A) (n : ℕ) → n ≡ length xs → take n (xs ++ ys) ≡ xs
 take_back xs ys n e = subst (λ k. take k (xs ++ ys) ≡ xs) (sym e) (take_all_of xs ys)
-
-pub among_two : {l a b : ℕ} → Among l (a ∷ b ∷ []) → (l ≡ a) ⊎ (l ≡ b)
-among_two front = inl refl
-among_two (behind there) = inr (among_one there)
 
 module _ (v : declared-survey.Survey) (f : declared-found.Found) where
   -- one instruction before what is left
@@ -261,7 +259,7 @@ walked_of v old mid new found entered survey full one two within sound met = sub
   met = met;
 })
 
--- a state that came to two blocks
+-- a state that came to some blocks, and to another one
 module _ (f : declared-function.Function) (old mid new : declared-states.States) (a b : Bool) (one : a ≡ false → mid ≡ old) (two : b ≡ false → new ≡ mid) where
   pub quiet_two : (a || b) ≡ false → new ≡ old
   quiet_two e = (let h = neither a b e in two h.1 ∙ one h.0)
@@ -271,15 +269,12 @@ module _ (f : declared-function.Function) (old mid new : declared-states.States)
       (λ p. by_bool b (λ q. (let x = less p in let y = lesser q in omega (arith, x, y))) (λ q. (let x = less p in let same : ranks f new ≡ ranks f mid = ap (ranks f) (two q) in omega (arith, x, same))))
       (λ p. by_bool b (λ q. (let y = lesser q in let same : ranks f mid ≡ ranks f old = ap (ranks f) (one p) in omega (arith, y, same))) (λ q. absurd (true≢false (sym e ∙ ap (λ z. z || b) p ∙ q))))
 
-  pub within_two : (n m : ℕ) (s : declared-state.State) → (a ≡ false → n < length old.arrived.items → IsWithinSome (comes_to old n) s) → (b ≡ false → m < length mid.arrived.items → IsWithinSome (comes_to mid m) s)
-      → (a || b) ≡ false → (l : ℕ) → Among l (n ∷ m ∷ []) → l < length old.arrived.items → IsWithinSome (comes_to old l) s
-  within_two n m s first second e l among lt =
+  pub within_more : (labels : List Label) (i : ℕ) (d : Label) (s : declared-state.State) → i < length labels → (a ≡ false → (l : ℕ) → Among l (take i (label_numbers labels)) → l < length old.arrived.items → IsWithinSome (comes_to old l) s)
+      → (b ≡ false → (get_or labels i d).0 < length mid.arrived.items → IsWithinSome (comes_to mid (get_or labels i d).0) s) → (a || b) ≡ false → (l : ℕ) → Among l (take (i + 1) (label_numbers labels)) → l < length old.arrived.items → IsWithinSome (comes_to old l) s
+  within_more labels i d s lt before here e =
       let h = neither a b e in
-      elim (among_two among) [
-        | inl q ↦ subst (λ k. IsWithinSome (comes_to old k) s) (sym q) (first h.0 (subst (λ k. k < length old.arrived.items) q lt))
-        | inr q ↦ subst (λ k. IsWithinSome (comes_to old k) s) (sym q)
-            (subst (λ (z : declared-states.States). IsWithinSome (comes_to z m) s) (one h.0) (second h.1 (subst (λ (z : declared-states.States). m < length z.arrived.items) (sym (one h.0)) (subst (λ k. k < length old.arrived.items) q lt))))
-      ]
+      each_label (λ l. l < length old.arrived.items → IsWithinSome (comes_to old l) s) labels i d lt (before h.0)
+      (subst (λ (z : declared-states.States). (get_or labels i d).0 < length z.arrived.items → IsWithinSome (comes_to z (get_or labels i d).0) s) (one h.0) (here h.1))
 
 -- nothing was met yet
 pub nothing_met : (v : declared-survey.Survey) (found : declared-found.Found) (places scalars : ℕ) → ((x : ℕ) → entries_of found.unshown.items x ≡ []) → length found.met.items ≡ min (places + 1) 18446744073709551615 → length found.unshown.items ≡ scalars

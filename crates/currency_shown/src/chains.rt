@@ -166,17 +166,9 @@ fn strike_edges(before: &mut Vec<Option<u32>>, positions: &[u32], number: usize,
     ensures struck { IsStruck before.old.items before.new.items }
     ensures edges { AreEdgesNext before.new.items positions.now number (end_view end.now) }
 {
-    match end {
-        End::Jump(label) => strike_edge(before, positions, number, end, label.0),
-        End::Branch {
-            then,
-            otherwise,
-            ..
-        } => {
-            strike_edge(before, positions, number, end, then.0);
-            strike_edge(before, positions, number, end, otherwise.0);
-        }
-        End::Return(_) => {}
+    let targets = end.targets();
+    for target in targets.as_slice() {
+        strike_edge(before, positions, number, end, target.0);
     }
 }
 
@@ -308,22 +300,11 @@ impl Chains {
         ensures starts { OnOk result ((l : ℕ) → Among l (targets_of (end_view end.now))
             → StartsIf blocks.now links.now self.new l) }
     {
-        match end {
-            End::Jump(label) => {
-                self.add(alloc, blocks, links, label.0)?;
-                Ok(())
-            }
-            End::Branch {
-                then,
-                otherwise,
-                ..
-            } => {
-                self.add(alloc, blocks, links, then.0)?;
-                self.add(alloc, blocks, links, otherwise.0)?;
-                Ok(())
-            }
-            End::Return(_) => Ok(()),
+        let targets = end.targets();
+        for target in targets.as_slice() {
+            self.add(alloc, blocks, links, target.0)?;
         }
+        Ok(())
     }
 
     /// Appends the chains that begin with blocks to which another one leads.
@@ -343,9 +324,8 @@ impl Chains {
 }
 
 /// The blocks of a function in chains: those of a chain are come to by way of its first one alone, and only the last
-/// may lead elsewhere, where other chains begin. As far
-/// as some path from the first block reaches them, each chain stands before those to which it leads but where a way
-/// leads back.
+/// may lead elsewhere, where other chains begin. As far as some path from the first block reaches them, each chain
+/// stands before those to which it leads but where a way leads back.
 pub fn chains_of(alloc: Global, blocks: &[Block]) -> Result<Vec<Vec<u32>>, AllocError>
     ensures { IfOk result (λ chains. AreChains blocks.now chains.items) }
 {

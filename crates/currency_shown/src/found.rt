@@ -13,8 +13,7 @@ use places::PlaceTable;
 use std::alloc::AllocError;
 
 /// What is last noted of a scalar on all paths to a place, where no home that it reads was written since on any, and
-/// each was last written for the name
-/// that is read.
+/// each was last written for the name that is read.
 #[derive(Clone, Copy)]
 pub struct LastNote<'a> {
     pub recipe: &'a Recipe,

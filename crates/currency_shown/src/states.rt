@@ -146,22 +146,13 @@ impl<'a> States<'a> {
             → AreFullNext function.now (end_view end.now) state.now
             → ranks function.now self.new < ranks function.now self.old) }
     {
-        match end {
-            End::Jump(label) => {
-                let is_new = self.arrive(alloc, function, label.0, state)?;
-                Ok(is_new)
-            }
-            End::Branch {
-                then,
-                otherwise,
-                ..
-            } => {
-                let is_new = self.arrive(alloc, function, then.0, state)?;
-                let is_newer = self.arrive(alloc, function, otherwise.0, state)?;
-                Ok(is_new || is_newer)
-            }
-            End::Return(_) => Ok(false),
+        let targets = end.targets();
+        let mut is_new = false;
+        for target in targets.as_slice() {
+            let is_newer = self.arrive(alloc, function, target.0, state)?;
+            is_new |= is_newer;
         }
+        Ok(is_new)
     }
 
     /// Leaves a chain with what is so where it begins.
@@ -250,8 +241,7 @@ impl<'a> States<'a> {
     }
 
     /// What is so where the chains of a function begin, as far as so many rounds come. In each but the last some chain
-    /// has less of a scalar or a home, or a
-    /// lesser change.
+    /// has less of a scalar or a home, or a lesser change.
     pub fn new(
         alloc: Global,
         function: &Function<'a>,

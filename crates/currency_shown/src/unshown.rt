@@ -65,15 +65,13 @@ fn found_of<'a>(
 }
 
 /// For each scalar of a function the places that some path reaches, where it is visible, and its home does not show its
-/// value: where not on all paths the last note
-/// of it says that its value is its own, its home is not written behind the note on any, and was last written for it. A
-/// home that was never written holds no
-/// name's value; parameters are written as the function is called. With each what is last noted of it, if that shows
-/// its value; where numbers tell homes apart, none where no recipe does.
+/// value: where not on all paths the last note of it says that its value is its own, its home is not written behind the
+/// note on any, and was last written for it. A home that was never written holds no name's value; parameters are
+/// written as the function is called. With each what is last noted of it, if that shows its value; where numbers tell
+/// homes apart, none where no recipe does.
 ///
 /// The homes are those of the function's names, the changes those of its unit, with those that removed assignments, and
-/// the places those of its program, in which the function has this
-/// number. The only error is want of memory.
+/// the places those of its program, in which the function has this number. The only error is want of memory.
 pub fn not_shown<'a>(
     alloc: Global,
     number: u32,

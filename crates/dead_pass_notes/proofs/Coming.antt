@@ -1,13 +1,14 @@
 -- A search comes to a block, and goes on to those to which an end leads.
-use Rattle.std.proofs.Common.{◌≡◌, ℕ, ◌+◌, ◌-◌, ◌*◌, ◌<◌, ◌≤◌, inl, inr, Bool, true, false, Result, Ok, Err, OnOk, List, [], ◌∷◌, ◌++◌, length, take, drop, get_or, map, refl, sym, ap, ◌∙◌, subst, arith}
+use Rattle.std.proofs.Common.{◌≡◌, ◌⊎◌, ℕ, zero, suc, ◌+◌, ◌-◌, ◌*◌, ◌<◌, ◌≤◌, inl, inr, Bool, true, false, List, [], ◌∷◌, ◌++◌, length, take, drop, get_or, map, refl, sym, ap, ◌∙◌, subst, arith}
 use Rattle.std.specs.Prelude.{if◌then◌else◌, slice_get, slice_set, slice_index_or, Some}
 use Rattle.std.specs.Int.{from_bool}
 use Rattle.std.proofs.lemmas.Bool.{cases_eq}
-use Rattle.std.proofs.lemmas.List.{drop-map, get_or-set_other, length-drop, length-map, length-set, take_all}
+use Rattle.std.proofs.lemmas.List.{drop-map, get_or-set_other, length-drop, length-map, length-set, map_more, take_all}
 use Rattle.std.proofs.lemmas.Option.{slice_get_read}
 use Rattle.graph_core.specs.declared.block.Block as declared-block
 use Rattle.graph_core.specs.declared.instruction.Instr as declared-instr
-use Rattle.graph_core.specs.Graphs.{End, Block, Graph, block_view, instruction_view}
+use Rattle.graph_core.specs.declared.name.Label.{Label}
+use Rattle.graph_core.specs.Graphs.{End, Graph, block_view, instruction_view}
 use Rattle.graph_core.specs.Paths.{Among, front, behind}
 use Rattle.graph_core.specs.Uses.{targets_of}
 use Rattle.dead_pass_notes.specs.declared.scans.Scanned.{Scanned}
@@ -17,7 +18,6 @@ use Rattle.dead_pass_notes.specs.Scans.{HasCome, GoesOn, number_of}
 use Rattle.dead_pass_notes.specs.Spots.{left_at, left_in}
 use Rattle.dead_pass_notes.proofs.Searching.{among_left, among_right, among_parts, among_one}
 pub use Rattle.base_laws.proofs.Lists.{there}
-pub use Rattle.graph_core.proofs.Among.{leads_jump}
 
 pub there_self : {A : Type 0} (read xs : List A) (i : ℕ) (x : A) → read ≡ xs → i < length read → x ≡ get_or read i x → slice_get xs i ≡ Some x
 there_self read xs i x same inside is = ap (λ l. slice_get l i) (sym same) ∙ slice_get_read read (length read) i x refl inside is
@@ -76,30 +76,30 @@ come_seen seen search old new block w number is grown all b v inside e = elim (c
 pub come_here : (old new : List Way) (block : ℕ) (w : Bool) → new ≡ old ++ record { block = block; is_written = w } ∷ [] → HasCome new block w
 come_here old new block w grown = (let P : List Way → Type 0 = λ ways. HasCome ways block w in subst P (sym grown) (among_right old front))
 
-pub leads_then : (e : End) (l m : ℕ) → targets_of e ≡ l ∷ m ∷ [] → Among l (targets_of e)
-leads_then e l m is = subst (λ all. Among l all) (sym is) front
-
-pub leads_otherwise : (e : End) (l m : ℕ) → targets_of e ≡ l ∷ m ∷ [] → Among m (targets_of e)
-leads_otherwise e l m is = subst (λ all. Among m all) (sym is) (behind front)
-
 -- the number of a state of a block is within
 pub state_within : (l count size : ℕ) (w : Bool) → size ≡ count * 2 → l < count → number_of l w < size
 state_within l count size w is lt = (let bit = one_bit w in omega (arith, is, lt, bit))
 
-pub come_jump : (e : End) (l : ℕ) (w : Bool) (size : ℕ) (new : List Way) → targets_of e ≡ l ∷ [] → (number_of l w < size → HasCome new l w) → (count : ℕ) → size ≡ count * 2 → (m : ℕ) → Among m (targets_of e) → m < count → HasCome new m w
-come_jump e l w size new is come count long m among lt =
-    let one : m ≡ l = among_one (subst (λ all. Among m all) is among) in
-    subst (λ k. HasCome new k w) (sym one) (come (state_within l count size w long (omega (arith, one, lt))))
+-- The next of some labels is among their numbers,
+pub next_among : (labels : List Label) (i : ℕ) (d : Label) → i < length labels → Among (get_or labels i d).0 (map (λ (label : Label). label.0) labels)
+next_among [] i d lt = absurd (omega (arith, lt))
+next_among (x ∷ labels) zero d lt = front
+next_among (x ∷ labels) (suc i) d lt = behind (next_among labels i d (omega (arith, lt)))
 
-pub come_branch : (e : End) (l o : ℕ) (w : Bool) (size : ℕ) (new : List Way) → targets_of e ≡ l ∷ o ∷ [] → (number_of l w < size → HasCome new l w) → (number_of o w < size → HasCome new o w) → (count : ℕ) → size ≡ count * 2
-    → (m : ℕ) → Among m (targets_of e) → m < count → HasCome new m w
-come_branch e l o w size new is one two count long m among lt = elim (among_parts (l ∷ []) (o ∷ []) (subst (λ all. Among m all) is among)) [
-  | inl here ↦ at l (among_one here) one
-  | inr here ↦ at o (among_one here) two
+-- and what is among the numbers as far as that one is its number, or among those before.
+among_more : (labels : List Label) (i : ℕ) (d : Label) → i < length labels → (l : ℕ) → Among l (map (λ (label : Label). label.0) (take (i + 1) labels)) → Among l (map (λ (label : Label). label.0) (take i labels)) ⊎ (l ≡ (get_or labels i d).0)
+among_more labels i d lt l there = elim (among_parts (map (λ (label : Label). label.0) (take i labels)) ((get_or labels i d).0 ∷ []) (subst (λ all. Among l all) (map_more (λ (label : Label). label.0) labels i d lt) there)) [
+  | inl before ↦ inl before
+  | inr here ↦ inr (among_one here)
 ]
-  where
-    at : (k : ℕ) → m ≡ k → (number_of k w < size → HasCome new k w) → HasCome new m w
-    at k q come = subst (λ j. HasCome new j w) (sym q) (come (state_within k count size w long (omega (arith, q, lt))))
+
+-- A search that came to the blocks of the labels before one, and comes to that, has come to those as far as that.
+pub come_more : (labels : List Label) (i : ℕ) (d : Label) (w : Bool) (size : ℕ) (old new : List Way) → i < length labels → ((l : ℕ) → HasCome old l w → HasCome new l w) → (number_of (get_or labels i d).0 w < size → HasCome new (get_or labels i d).0 w) → (count : ℕ) → size ≡ count * 2
+    → ((l : ℕ) → Among l (map (λ (label : Label). label.0) (take i labels)) → l < count → HasCome old l w) → (l : ℕ) → Among l (map (λ (label : Label). label.0) (take (i + 1) labels)) → l < count → HasCome new l w
+come_more labels i d w size old new lt keeps here count long before l among small = elim (among_more labels i d lt l among) [
+  | inl there ↦ keeps l (before l there small)
+  | inr same ↦ subst (λ k. HasCome new k w) (sym same) (here (state_within (get_or labels i d).0 count size w long (omega (arith, same, small))))
+]
 
 stops_leaves : {a b : Bool} → Leaves a ≡ Stops b → ⊥
 stops_leaves e = cc
@@ -113,8 +113,3 @@ leaves_on count new e scanned w is come = record {
   unwritten = λ q. stops_leaves (sym is ∙ q);
   leaves = λ was l q among lt. (let same : w ≡ was = same_leaves (sym is ∙ q) in subst (λ v. HasCome new l v) same (come l among lt));
 }
-
--- of two things that hold where all went well
-pub on_ok_both : {A E : Type 0} (r : Result A E) (P Q R : Type 0) → (P → Q → R) → OnOk r P → OnOk r Q → OnOk r R
-on_ok_both (Ok x) P Q R f p q = f p q
-on_ok_both (Err e) P Q R f p q = tt

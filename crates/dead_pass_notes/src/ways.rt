@@ -94,18 +94,11 @@ impl Ways {
             ((count : ℕ) → length self.old.seen.items ≡ count * 2 → AreSeen self.old → (l : ℕ)
             → Among l (targets_of (end_view end.now)) → l < count → HasCome self.new.ahead.items l is_written) }
     {
-        match end {
-            End::Return(_) => Ok(()),
-            End::Jump(to) => self.come_to(to.0, is_written),
-            End::Branch {
-                then,
-                otherwise,
-                ..
-            } => {
-                self.come_to(then.0, is_written)?;
-                self.come_to(otherwise.0, is_written)
-            }
+        let targets = end.targets();
+        for target in targets.as_slice() {
+            self.come_to(target.0, is_written)?;
         }
+        Ok(())
     }
 
     /// The search goes along instructions of a block with this end, and on from there. Tells whether it comes to the

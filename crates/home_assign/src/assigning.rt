@@ -64,7 +64,9 @@ fn homes_of_all(
 ) -> Result<Vec<FunctionHomes>, AllocError>
     requires { AllByRecursion IsHomeable (map graph_view graphs.now) }
     ensures homes { IfOk result (λ v. AreHomesOfEach mode (map graph_view graphs.now) (homes_listed v.items)) }
-    ensures changes { IfOk result (λ v. AreLoggedOfEach (map logged (changes log.old)) homes_pass (map graph_view graphs.now) (homes_listed v.items) (map logged (changes log.old)) (map logged (changes log.new))) }
+    ensures changes { IfOk result (λ v.
+        AreLoggedOfEach (map logged (changes log.old)) homes_pass (map graph_view graphs.now) (homes_listed v.items)
+        (map logged (changes log.old)) (map logged (changes log.new))) }
 {
     let moved = moved_by(alloc, log.changes())?;
     let mut homes = Vec::new(alloc);
@@ -86,7 +88,8 @@ pub fn assign(alloc: Global, unit: &Unit, mode: Mode) -> Result<HomedUnit, Alloc
     ensures rule { IfOk result (λ h. mode ≡ Mode.Registers → HaveRegisters (homed_view h)) }
     ensures apart { IfOk result (λ h. HaveHomesApart (homed_view h)) }
     ensures changes { IfOk result (λ h. HaveChanges (unit_view unit.now) (homed_view h)) }
-    ensures unit { IfOk result (λ h. (homed_view h).unit ≡ record (unit_view unit.now) { log = (homed_view h).unit.log }) }
+    ensures unit { IfOk result
+        (λ h. (homed_view h).unit ≡ record (unit_view unit.now) { log = (homed_view h).unit.log }) }
     ensures valid { IfOk result (λ h. IsValid (homed_view h).unit) }
     ensures mode { IfOk result (λ h. h.mode ≡ mode) }
 {

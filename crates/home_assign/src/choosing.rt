@@ -65,7 +65,8 @@ impl Choice {
     fn joined(&self, interference: &mut Interference, name: u32, joined: Option<u32>) -> Option<u32>
         requires { name < interference.old.names }
         ensures some { IfSome result (λ k. IsWished self.now.homes.items joined k × IsFreeFor interference.old k name) }
-        ensures none { result ≡ None → (k : ℕ) → IsWished self.now.homes.items joined k → IsFreeFor interference.old k name → ⊥ }
+        ensures none { result ≡ None → (k : ℕ) → IsWished self.now.homes.items joined k
+            → IsFreeFor interference.old k name → ⊥ }
         ensures clashes { HaveSameClashes interference.old interference.new }
         ensures registers { HaveSameRegisters interference.old interference.new }
     {
@@ -128,7 +129,8 @@ impl Choice {
 /// The first register that is free for a name.
 fn first_free(interference: &mut Interference, name: u32) -> Option<u32>
     requires { name < interference.old.names }
-    ensures some { IfSome result (λ k. (k < 15) × IsFreeFor interference.old k name × ((j : ℕ) → j < k → IsFreeFor interference.old j name → ⊥)) }
+    ensures some { IfSome result (λ k.
+        (k < 15) × IsFreeFor interference.old k name × ((j : ℕ) → j < k → IsFreeFor interference.old j name → ⊥)) }
     ensures none { result ≡ None → (j : ℕ) → j < 15 → IsFreeFor interference.old j name → ⊥ }
     ensures clashes { HaveSameClashes interference.old interference.new }
     ensures registers { HaveSameRegisters interference.old interference.new }
@@ -153,8 +155,8 @@ fn put_home(homes: &mut Vec<Home>, home: Home) -> Result<(), AllocError>
     Ok(())
 }
 
-/// The homes of a graph's names, in order: the register of the earliest earlier name that it is joined to, where that is free; else the first
-/// register that is free; else a slot of its own.
+/// The homes of a graph's names, in order: the register of the earliest earlier name that it is joined to, where that
+/// is free; else the first register that is free; else a slot of its own.
 pub(crate) fn registers(alloc: Global, graph: &Graph) -> Result<Vec<Home>, AllocError>
     requires { MayHaveHomes (graph_view graph.now) }
     ensures homes { IfOk result (λ v. AreHomesFor graph.now.name_count v.items) }

@@ -26,7 +26,8 @@ pub(crate) struct Copies {
 
 /// The place in force behind an instruction.
 fn place_behind(instruction: &Instr, place: Option<Place>) -> Option<Place>
-    ensures { option_map (λ (p : declared-place.Place). p.0) result ≡ validity.place_behind (instruction_view instruction.now ∷ []) (option_map (λ (p : declared-place.Place). p.0) place) }
+    ensures { option_map (λ (p : declared-place.Place). p.0) result ≡ validity.place_behind
+        (instruction_view instruction.now ∷ []) (option_map (λ (p : declared-place.Place). p.0) place) }
 {
     match instruction.marker() {
         Some(begun) => Some(begun),
@@ -44,7 +45,11 @@ impl Copies {
         to: u32,
         from: u32,
     ) -> Result<(), AllocError>
-        ensures { OnOk result ((rest whole : ℕ → ℕ → Option ℕ) → AreSoFar (is_moved_at (map scalar_view scalars.now) moves.now) (length scalars.now) (λ p x. or_else (copy_at place to from p x) (rest p x)) whole self.old → AreSoFar (is_moved_at (map scalar_view scalars.now) moves.now) (length scalars.now) rest whole self.new) }
+        ensures { OnOk result
+            ((rest whole : ℕ → ℕ → Option ℕ) → AreSoFar (is_moved_at (map scalar_view scalars.now) moves.now)
+            (length scalars.now) (λ p x. or_else (copy_at place to from p x) (rest p x)) whole self.old →
+            AreSoFar (is_moved_at (map scalar_view scalars.now) moves.now) (length scalars.now) rest whole
+            self.new) }
     {
         let is_first = self.seen.add(place, to)?;
         if is_first && scalars.len() <= from as usize && moves.has(scalars, to, place) {
@@ -61,7 +66,12 @@ impl Copies {
         place: Option<Place>,
         instruction: &Instr,
     ) -> Result<(), AllocError>
-        ensures { OnOk result ((rest whole : ℕ → ℕ → Option ℕ) → AreSoFar (is_moved_at (map scalar_view scalars.now) moves.now) (length scalars.now) (λ p x. or_else (first_among p x (option_map (λ (q : declared-place.Place). q.0) place) (instruction_view instruction.now ∷ [])) (rest p x)) whole self.old → AreSoFar (is_moved_at (map scalar_view scalars.now) moves.now) (length scalars.now) rest whole self.new) }
+        ensures { OnOk result
+            ((rest whole : ℕ → ℕ → Option ℕ) → AreSoFar (is_moved_at (map scalar_view
+            scalars.now) moves.now) (length scalars.now) (λ p x. or_else (first_among p x
+            (option_map (λ (q : declared-place.Place). q.0) place)
+            (instruction_view instruction.now ∷ [])) (rest p x)) whole self.old → AreSoFar (is_moved_at (map
+            scalar_view scalars.now) moves.now) (length scalars.now) rest whole self.new) }
     {
         if let Some(place) = place {
             if let Instr::Move {
@@ -82,7 +92,12 @@ impl Copies {
         moves: &Moves,
         block: &Block,
     ) -> Result<(), AllocError>
-        ensures { OnOk result ((rest whole : ℕ → ℕ → Option ℕ) → AreSoFar (is_moved_at (map scalar_view scalars.now) moves.now) (length scalars.now) (λ p x. or_else (first_among p x (block_view block.now).place (block_view block.now).instructions) (rest p x)) whole self.old → AreSoFar (is_moved_at (map scalar_view scalars.now) moves.now) (length scalars.now) rest whole self.new) }
+        ensures { OnOk result
+            ((rest whole : ℕ → ℕ → Option ℕ) → AreSoFar (is_moved_at (map scalar_view scalars.now)
+            moves.now) (length scalars.now) (λ p x. or_else
+            (first_among p x (block_view block.now).place (block_view block.now).instructions)
+            (rest p x)) whole self.old → AreSoFar (is_moved_at (map scalar_view scalars.now) moves.now) (length
+            scalars.now) rest whole self.new) }
     {
         let mut place = block.place;
         let mut left = block.instructions.as_slice();
@@ -101,7 +116,10 @@ pub(crate) fn temporaries_of(
     graph: &Graph,
     moves: &Moves,
 ) -> Result<Pairs, AllocError>
-    ensures { IfOk result (λ own. let g = graph_view graph.now in (x y : ℕ) → (has own x y ≡ true) ↔ IsOwn (is_moved_at g.scalars moves.now) (length g.scalars) (λ p z. first_copy p z g.blocks) x y) }
+    ensures { IfOk result (λ own.
+        let g = graph_view graph.now in (x y : ℕ)
+        → (has own x y ≡ true) ↔ IsOwn (is_moved_at g.scalars moves.now) (length g.scalars)
+        (λ p z. first_copy p z g.blocks) x y) }
 {
     let mut copies = Copies {
         seen: Pairs::new(alloc),

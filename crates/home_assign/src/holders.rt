@@ -21,7 +21,9 @@ fn no_holders(alloc: Global) -> Result<Vec<Vec<u32>>, AllocError>
 /// A further name has a home.
 fn add_holder(holders: &mut [Vec<u32>], home: Home, name: u32) -> Result<(), AllocError>
     requires { (r : ℕ) → home ≡ Register r → r < length holders.old }
-    ensures { OnOk result ((homes : List Home) → name ≡ length homes → AreHolders homes (length holders.old) holders.old → AreHolders (homes ++ home ∷ []) (length holders.old) holders.new) }
+    ensures { OnOk result
+        ((homes : List Home) → name ≡ length homes → AreHolders homes (length holders.old) holders.old
+        → AreHolders (homes ++ home ∷ []) (length holders.old) holders.new) }
 {
     if let Home::Register(register) = home {
         holders[register as usize].push(name)?;

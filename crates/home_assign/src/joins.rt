@@ -52,7 +52,8 @@ fn join_copies(first: &mut [Option<u32>], instructions: &[Instr])
 /// For each name of a graph the earliest earlier name that it is a copy of, or that is a copy of it.
 pub fn first_joined(alloc: Global, graph: &Graph) -> Result<Vec<Option<u32>>, AllocError>
     ensures each { IfOk result (λ v. length v.items ≡ graph.now.name_count) }
-    ensures first { IfOk result (λ v. (x : ℕ) → x < graph.now.name_count → IsFirst (graph_view graph.now) x (slice_index_or v.items x None)) }
+    ensures first { IfOk result (λ v.
+        (x : ℕ) → x < graph.now.name_count → IsFirst (graph_view graph.now) x (slice_index_or v.items x None)) }
 {
     let mut first = vec![in alloc; None; graph.name_count as usize]?;
     let mut left = graph.blocks.as_slice();

@@ -7,11 +7,14 @@ ghost use Rattle.home_assign.specs.Table.{AreWide};
 use crate::rows::meet;
 use bit_rows::Rows;
 
-/// Which names of a graph interfere: one is written where the other is live behind it. And which of them have which registers.
+/// Which names of a graph interfere: one is written where the other is live behind it. And which of them have which
+/// registers.
 #[derive(Drop)]
 pub struct Interference {
-    /// For each name those that are live behind a place where it is written. Behind these rows stand further ones, by number: 0 is not used; 1 to 15 have for each register the names that
-    /// have it; 16 to 30 for each register those that are live behind a place where one of these is written; 31 and 32 are to work with; and 33 is without any name.
+    /// For each name those that are live behind a place where it is written. Behind these rows stand further ones, by
+    /// number: 0 is not used; 1 to 15 have for each register the names that have it; 16 to 30 for each register those
+    /// that are live behind a place where one of these is written; 31 and 32 are to work with; and 33 is without any
+    /// name.
     pub(crate) rows: Rows,
     /// How many names there are.
     pub(crate) names: u32,
@@ -20,8 +23,10 @@ pub struct Interference {
     ghost wide: { AreWide names rows },
     ghost spare: { (y : ℕ) → is_set rows (names + 32) y ≡ false },
     ghost none: { (y : ℕ) → is_set rows (names + 33) y ≡ false },
-    ghost gathered: { (r x y : ℕ) → r < 15 → x < names → is_set rows (names + (1 + r)) x ≡ true → is_set rows x y ≡ true → is_set rows (names + (16 + r)) y ≡ true },
-    ghost only: { (r y : ℕ) → r < 15 → ((x : ℕ) → is_set rows (names + (1 + r)) x ≡ true → is_set rows x y ≡ false) → is_set rows (names + (16 + r)) y ≡ false },
+    ghost gathered: { (r x y : ℕ) → r < 15 → x < names → is_set rows (names + (1 + r)) x ≡ true → is_set rows x y ≡ true
+        → is_set rows (names + (16 + r)) y ≡ true },
+    ghost only: { (r y : ℕ) → r < 15 → ((x : ℕ) → is_set rows (names + (1 + r)) x ≡ true → is_set rows x y ≡ false)
+        → is_set rows (names + (16 + r)) y ≡ false },
 }
 
 impl Interference {
@@ -32,7 +37,8 @@ impl Interference {
         requires a { a < self.old.names + 31 }
         requires b { b < self.old.names + 31 }
         ensures names { self.new.names ≡ self.old.names }
-        ensures common { (result ≡ false) ↔ ((y : ℕ) → is_set self.old.rows a y ≡ true → is_set self.old.rows b y ≡ false) }
+        ensures common { (result ≡ false) ↔
+            ((y : ℕ) → is_set self.old.rows a y ≡ true → is_set self.old.rows b y ≡ false) }
         ensures others { (r : ℕ) → r < self.old.names + 31 → row_at self.new.rows r ≡ row_at self.old.rows r }
     {
         let spare = self.names + 31;

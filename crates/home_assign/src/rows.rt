@@ -12,7 +12,8 @@ pub(crate) fn meet(rows: &mut Rows, from: u32, to: u32, unite: bool) -> bool
     requires to { to < length rows.old }
     requires width { length (row_at rows.old from) ≡ length (row_at rows.old to) }
     ensures elsewhere { AreSameElsewhere to rows.old rows.new }
-    ensures here { (bit : ℕ) → is_set rows.new to bit ≡ met_bit unite (is_set rows.old from bit) (is_set rows.old to bit) }
+    ensures here { (bit : ℕ) → is_set rows.new to bit
+        ≡ met_bit unite (is_set rows.old from bit) (is_set rows.old to bit) }
     ensures changed { (result ≡ false) ↔ ((bit : ℕ) → is_set rows.new to bit ≡ is_set rows.old to bit) }
 {
     rows.meet_into(from, to, unite)

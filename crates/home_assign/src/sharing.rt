@@ -53,7 +53,8 @@ fn is_shared(homes: &[Home], holders: &[Vec<u32>], scalar: u32, own: &Pairs) -> 
 
 /// Logs that a scalar's register has other names too. The log has room for as many changes as a number can count.
 fn log_one(pass: PassName, of: &Scalar, log: &mut ChangeLog) -> Result<(), AllocError>
-    ensures { OnOk result (map logged (changes log.new) ≡ map logged (changes log.old) ++ change_of pass (scalar_view of.now) ∷ []) }
+    ensures { OnOk result
+        (map logged (changes log.new) ≡ map logged (changes log.old) ++ change_of pass (scalar_view of.now) ∷ []) }
 {
     if log.changes().len() >= 4294967295 {
         return Err(AllocError);
@@ -75,7 +76,9 @@ pub fn log_shared(
     requires each { length homes.now ≡ graph.now.name_count }
     requires scalars { length graph.now.scalars.items ≤ graph.now.name_count }
     requires registers { (x r : ℕ) → slice_get homes.now x ≡ Some (Register r) → r < 32 }
-    ensures { OnOk result ((made : List Logged) → AreMoves made moves.now → AreLogged made (home_in homes.now) (graph_view graph.now) pass (graph_view graph.now).scalars (map logged (changes log.old)) (map logged (changes log.new))) }
+    ensures { OnOk result
+        ((made : List Logged) → AreMoves made moves.now → AreLogged made (home_in homes.now) (graph_view graph.now)
+        pass (graph_view graph.now).scalars (map logged (changes log.old)) (map logged (changes log.new))) }
 {
     let own = temporaries_of(alloc, graph, moves)?;
     let holders = holders_of(alloc, homes)?;

@@ -23,8 +23,8 @@ use std::alloc::{AllocError, Global};
 /// What a walk has found so far.
 #[derive(Drop)]
 pub(crate) struct Walk {
-    /// For each name those that are live behind a place where it is written. Behind these rows stands one of the names that are live at the
-    /// point to which the walk has come, and 33 that stay clear, for the registers.
+    /// For each name those that are live behind a place where it is written. Behind these rows stands one of the names
+    /// that are live at the point to which the walk has come, and 33 that stay clear, for the registers.
     pub rows: Rows,
     /// How many names there are.
     pub names: u32,
@@ -69,7 +69,9 @@ impl Walk {
     /// A name is live, or is not.
     fn set_live(&mut self, name: u32, is_live: bool)
         ensures names { self.new.names ≡ self.old.names }
-        ensures live { (y : ℕ) → y < self.old.names → is_set self.new.rows self.old.names y ≡ (if name == y then is_live else is_set self.old.rows self.old.names y) }
+        ensures live { (y : ℕ) → y < self.old.names
+            → is_set self.new.rows self.old.names y ≡
+            (if name == y then is_live else is_set self.old.rows self.old.names y) }
         ensures others { AreSameBut self.old.names self.old.rows self.new.rows }
     {
         if name < self.names {
@@ -106,7 +108,9 @@ impl Walk {
     /// A name is written where the live names are live behind it.
     fn write(&mut self, name: Name)
         ensures names { self.new.names ≡ self.old.names }
-        ensures written { (x y : ℕ) → x < self.old.names → is_set self.new.rows x y ≡ (is_set self.old.rows x y || ((name.0 == x) && is_set self.old.rows self.old.names y)) }
+        ensures written { (x y : ℕ) → x < self.old.names
+            → is_set self.new.rows x y ≡
+            (is_set self.old.rows x y || ((name.0 == x) && is_set self.old.rows self.old.names y)) }
         ensures others { AreSameBehind self.old.names self.old.rows self.new.rows }
     {
         if name.0 < self.names {
@@ -117,8 +121,12 @@ impl Walk {
     /// A name is written that becomes another one's value: so it may share that one's home.
     fn write_copy(&mut self, name: Name, of: Name)
         ensures names { self.new.names ≡ self.old.names }
-        ensures written { (x y : ℕ) → x < self.old.names → y < self.old.names → is_set self.new.rows x y ≡ (is_set self.old.rows x y || (((name.0 == x) && not (of.0 == y)) && is_set self.old.rows self.old.names y)) }
-        ensures live { (y : ℕ) → y < self.old.names → is_set self.new.rows self.old.names y ≡ is_set self.old.rows self.old.names y }
+        ensures written { (x y : ℕ) → x < self.old.names → y < self.old.names
+            → is_set self.new.rows x y ≡
+            (is_set self.old.rows x y ||
+            (((name.0 == x) && not (of.0 == y)) && is_set self.old.rows self.old.names y)) }
+        ensures live { (y : ℕ) → y < self.old.names → is_set self.new.rows self.old.names y
+            ≡ is_set self.old.rows self.old.names y }
         ensures others { AreSameBehind (self.old.names + 1) self.old.rows self.new.rows }
     {
         let is_live = self.is_live(of.0);
@@ -130,8 +138,12 @@ impl Walk {
     /// An instruction writes a name.
     fn write_by(&mut self, instruction: &Instr, name: Name)
         ensures names { self.new.names ≡ self.old.names }
-        ensures written { (x y : ℕ) → x < self.old.names → y < self.old.names → is_set self.new.rows x y ≡ (is_set self.old.rows x y || (((name.0 == x) && not (copies y (instruction_view instruction.now))) && is_set self.old.rows self.old.names y)) }
-        ensures live { (y : ℕ) → y < self.old.names → is_set self.new.rows self.old.names y ≡ is_set self.old.rows self.old.names y }
+        ensures written { (x y : ℕ) → x < self.old.names → y < self.old.names
+            → is_set self.new.rows x y ≡
+            (is_set self.old.rows x y || (((name.0 == x) && not (copies y (instruction_view instruction.now))) &&
+            is_set self.old.rows self.old.names y)) }
+        ensures live { (y : ℕ) → y < self.old.names → is_set self.new.rows self.old.names y
+            ≡ is_set self.old.rows self.old.names y }
         ensures others { AreSameBehind (self.old.names + 1) self.old.rows self.new.rows }
     {
         match copied(instruction) {
@@ -143,8 +155,13 @@ impl Walk {
     /// From the names that are live behind an instruction to those that are live before it writes.
     fn step_over_write(&mut self, instruction: &Instr)
         ensures names { self.new.names ≡ self.old.names }
-        ensures written { (x y : ℕ) → x < self.old.names → y < self.old.names → is_set self.new.rows x y ≡ (is_set self.old.rows x y || ((writes x (instruction_view instruction.now) && not (copies y (instruction_view instruction.now))) && is_set self.old.rows self.old.names y)) }
-        ensures live { (y : ℕ) → y < self.old.names → is_set self.new.rows self.old.names y ≡ (not (writes y (instruction_view instruction.now)) && is_set self.old.rows self.old.names y) }
+        ensures written { (x y : ℕ) → x < self.old.names → y < self.old.names
+            → is_set self.new.rows x y ≡
+            (is_set self.old.rows x y || ((writes x (instruction_view instruction.now) && not
+            (copies y (instruction_view instruction.now))) && is_set self.old.rows self.old.names y)) }
+        ensures live { (y : ℕ) → y < self.old.names
+            → is_set self.new.rows self.old.names y ≡
+            (not (writes y (instruction_view instruction.now)) && is_set self.old.rows self.old.names y) }
         ensures others { AreSameBehind (self.old.names + 1) self.old.rows self.new.rows }
     {
         if let Some(target) = instruction.target() {
@@ -156,7 +173,9 @@ impl Walk {
     /// Names that are read are live before that.
     fn read(&mut self, names: &[Name])
         ensures names { self.new.names ≡ self.old.names }
-        ensures live { (y : ℕ) → y < self.old.names → is_set self.new.rows self.old.names y ≡ (list_any (λ z. z == y) (numbers names.now) || is_set self.old.rows self.old.names y) }
+        ensures live { (y : ℕ) → y < self.old.names
+            → is_set self.new.rows self.old.names y ≡
+            (list_any (λ z. z == y) (numbers names.now) || is_set self.old.rows self.old.names y) }
         ensures others { AreSameBut self.old.names self.old.rows self.new.rows }
     {
         let mut left = names;
@@ -169,8 +188,12 @@ impl Walk {
     /// From the names that are live behind an instruction to those before it.
     fn step_back(&mut self, alloc: Global, instruction: &Instr) -> Result<(), AllocError>
         ensures names { OnOk result (self.new.names ≡ self.old.names) }
-        ensures written { OnOk result ((x y : ℕ) → x < self.old.names → y < self.old.names → is_set self.new.rows x y ≡ (is_set self.old.rows x y || ((writes x (instruction_view instruction.now) && not (copies y (instruction_view instruction.now))) && is_set self.old.rows self.old.names y))) }
-        ensures live { OnOk result ((y : ℕ) → y < self.old.names → is_set self.new.rows self.old.names y ≡ (paths.reads y (instruction_view instruction.now) || (not (writes y (instruction_view instruction.now)) && is_set self.old.rows self.old.names y))) }
+        ensures written { OnOk result
+            ((x y : ℕ) → x < self.old.names → y < self.old.names → is_set self.new.rows x y ≡ (is_set self.old.rows x y || ((writes x (instruction_view instruction.now) && not (copies y (instruction_view instruction.now))) && is_set self.old.rows self.old.names y))) }
+        ensures live { OnOk result
+            ((y : ℕ) → y < self.old.names → is_set self.new.rows self.old.names y ≡ (paths.reads y
+            (instruction_view instruction.now) ||
+            (not (writes y (instruction_view instruction.now)) && is_set self.old.rows self.old.names y))) }
         ensures others { OnOk result (AreSameBehind (self.old.names + 1) self.old.rows self.new.rows) }
     {
         self.step_over_write(instruction);
@@ -192,7 +215,9 @@ impl Walk {
         requires few { self.old.names ≡ graph.now.name_count }
         requires live { AreLive (graph_view graph.now) (starts_of live.now) (ends_of live.now) }
         ensures names { OnOk result (self.new.names ≡ self.old.names) }
-        ensures written { OnOk result ((x y : ℕ) → x < self.old.names → y < self.old.names → (is_set self.new.rows x y ≡ true) ↔ ((is_set self.old.rows x y ≡ true) ⊎ ClashesIn (graph_view graph.now) x y number)) }
+        ensures written { OnOk result
+            ((x y : ℕ) → x < self.old.names → y < self.old.names → (is_set self.new.rows x y ≡ true) ↔
+            ((is_set self.old.rows x y ≡ true) ⊎ ClashesIn (graph_view graph.now) x y number)) }
         ensures others { OnOk result (AreSameBehind (self.old.names + 1) self.old.rows self.new.rows) }
     {
         let block = &graph.blocks[number as usize];
@@ -220,7 +245,9 @@ impl Walk {
         requires live { AreLive (graph_view graph.now) (starts_of live.now) (ends_of live.now) }
         requires clear { (x y : ℕ) → is_set self.old.rows x y ≡ false }
         ensures names { OnOk result (self.new.names ≡ self.old.names) }
-        ensures written { OnOk result ((x y : ℕ) → x < self.old.names → y < self.old.names → (is_set self.new.rows x y ≡ true) ↔ ((n : ℕ) × ClashesIn (graph_view graph.now) x y n)) }
+        ensures written { OnOk result
+            ((x y : ℕ) → x < self.old.names → y < self.old.names
+            → (is_set self.new.rows x y ≡ true) ↔ ((n : ℕ) × ClashesIn (graph_view graph.now) x y n)) }
         ensures others { OnOk result (AreSameBehind (self.old.names + 1) self.old.rows self.new.rows) }
     {
         for number in 0..graph.blocks.len() as u32 {
@@ -232,7 +259,10 @@ impl Walk {
     /// A call writes the scalars that are parameters, all at once, where the live names are live.
     fn bind(&mut self, parameters: &[Binding])
         ensures names { self.new.names ≡ self.old.names }
-        ensures written { (x y : ℕ) → x < self.old.names → is_set self.new.rows x y ≡ (is_set self.old.rows x y || (is_bound x (map binding_view parameters.now) && is_set self.old.rows self.old.names y)) }
+        ensures written { (x y : ℕ) → x < self.old.names
+            → is_set self.new.rows x y ≡
+            (is_set self.old.rows x y ||
+            (is_bound x (map binding_view parameters.now) && is_set self.old.rows self.old.names y)) }
         ensures others { AreSameBehind self.old.names self.old.rows self.new.rows }
     {
         let mut left = parameters;
@@ -250,9 +280,11 @@ impl Walk {
         requires width { live.now.width ≡ self.old.names }
         requires few { self.old.names ≡ graph.now.name_count }
         requires live { AreLive (graph_view graph.now) (starts_of live.now) (ends_of live.now) }
-        requires written { (x y : ℕ) → x < self.old.names → y < self.old.names → (is_set self.old.rows x y ≡ true) ↔ ((n : ℕ) × ClashesIn (graph_view graph.now) x y n) }
+        requires written { (x y : ℕ) → x < self.old.names → y < self.old.names
+            → (is_set self.old.rows x y ≡ true) ↔ ((n : ℕ) × ClashesIn (graph_view graph.now) x y n) }
         ensures names { self.new.names ≡ self.old.names }
-        ensures written { (x y : ℕ) → x < self.old.names → y < self.old.names → (is_set self.new.rows x y ≡ true) ↔ Clashes (graph_view graph.now) x y }
+        ensures written { (x y : ℕ) → x < self.old.names → y < self.old.names
+            → (is_set self.new.rows x y ≡ true) ↔ Clashes (graph_view graph.now) x y }
         ensures others { AreSameBehind (self.old.names + 1) self.old.rows self.new.rows }
     {
         if !graph.blocks.is_empty() {
@@ -269,7 +301,9 @@ pub(crate) fn walk_over(alloc: Global, graph: &Graph, live: &LiveRows) -> Result
     requires width { live.now.width ≡ graph.now.name_count }
     requires live { AreLive (graph_view graph.now) (starts_of live.now) (ends_of live.now) }
     ensures names { IfOk result (λ walk. walk.names ≡ graph.now.name_count) }
-    ensures written { IfOk result (λ walk. (x y : ℕ) → x < graph.now.name_count → y < graph.now.name_count → (is_set walk.rows x y ≡ true) ↔ Clashes (graph_view graph.now) x y) }
+    ensures written { IfOk result (λ walk.
+        (x y : ℕ) → x < graph.now.name_count → y < graph.now.name_count
+        → (is_set walk.rows x y ≡ true) ↔ Clashes (graph_view graph.now) x y) }
     ensures clear { IfOk result (λ walk. (r y : ℕ) → graph.now.name_count < r → is_set walk.rows r y ≡ false) }
 {
     let mut walk = Walk::new(alloc, graph.name_count)?;

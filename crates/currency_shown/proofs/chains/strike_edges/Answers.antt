@@ -1,26 +1,41 @@
-use Rattle.std.proofs.Common.{subst}
+use Rattle.std.proofs.Common.{◌≡◌, ◌∙◌, Some, ap, arith, subst, sym, ℕ}
+use Rattle.std.proofs.lemmas.List.{length-map}
 use Rattle.graph_core.specs.Graphs.{end_view}
 use Rattle.graph_core.specs.Paths.{Among}
 use Rattle.graph_core.specs.Uses.{targets_of}
-use Rattle.graph_core.proofs.Among.{among_one}
-use Rattle.currency_shown.proofs.Linking.{edges_none, edges_one, edges_two, struck_on, struck_same}
-use Rattle.currency_shown.proofs.Walking.{among_two}
+use Rattle.graph_core.specs.declared.name.Label.{Label}
+use Rattle.currency_notes.proofs.Lists.{each_all}
+use Rattle.currency_shown.specs.Chains.{IsNext, name_at}
+use Rattle.currency_shown.proofs.Linking.{struck_on, struck_same}
+use Rattle.currency_shown.proofs.Targets.{each_label, label_numbers}
 use Rattle.currency_shown.proofs.chains.strike_edges.Goals as goal
 
-pub returns-in-Jump-clause-edges : goal.returns-in-Jump-clause-edges
-returns-in-Jump-clause-edges c =
-    edges_one c.strike_edge.new.before.items c.args.positions.now c.args.number (end_view c.args.end.now) c.in-Jump.label.0 (λ l among. among_one (subst (λ d. Among l (targets_of (end_view d))) c.in-Jump.is among)) c.strike_edge.ensures.edge
+pub loop-target-init : goal.loop-target-init
+loop-target-init c = record {
+  struck = struck_same c.args.before.now.items;
+  edges = λ k none. elim none [ ];
+}
 
-pub returns-in-Branch-clause-struck : goal.returns-in-Branch-clause-struck
-returns-in-Branch-clause-struck c = struck_on c.args.before.now.items c.strike_edge-in-Branch.new.before.items c.strike_edge-in-Branch-2.new.before.items c.strike_edge-in-Branch.ensures.struck c.strike_edge-in-Branch-2.ensures.struck
+pub loop-target-preserved : goal.loop-target-preserved
+loop-target-preserved c =
+    let n = c.args.number in
+    let old = c.loop-target.before.items in
+    let new = c.strike_edge.new.before.items in
+    let said = c.strike_edge.ensures in
+    let now = c.loop-target.invariant in
+    let none : Label = record { 0 = 0 } in
+    record {
+      struck = struck_on c.args.before.now.items old new now.struck said.struck;
+      edges = each_label (λ k. (m : ℕ) → name_at new k ≡ Some m → (m ≡ n) × IsNext c.args.positions.now n (end_view c.args.end.now) k) c.as_slice-target-items.result.now c.loop-target.target-index none c.loop-target-test.true
+          (λ k among m found. now.edges k among m (said.struck.kept k m found)) said.edge;
+    }
 
-pub returns-in-Branch-clause-edges : goal.returns-in-Branch-clause-edges
-returns-in-Branch-clause-edges c =
-    edges_two c.strike_edge-in-Branch.new.before.items c.strike_edge-in-Branch-2.new.before.items c.args.positions.now c.args.number (end_view c.args.end.now) c.in-Branch.then.0 c.in-Branch.otherwise.0
-    (λ l among. among_two (subst (λ d. Among l (targets_of (end_view d))) c.in-Branch.is among)) c.strike_edge-in-Branch.ensures.edge c.strike_edge-in-Branch-2.ensures.struck c.strike_edge-in-Branch-2.ensures.edge
-
-pub returns-in-Return-clause-struck : goal.returns-in-Return-clause-struck
-returns-in-Return-clause-struck c = struck_same c.args.before.now.items
-
-pub returns-in-Return-clause-edges : goal.returns-in-Return-clause-edges
-returns-in-Return-clause-edges c = edges_none c.args.before.now.items c.args.positions.now c.args.number (end_view c.args.end.now) (λ l among. elim (subst (λ d. Among l (targets_of (end_view d))) c.in-Return.is among) [ ])
+pub returns-clause-edges : goal.returns-clause-edges
+returns-clause-edges c = λ l among.
+    (let n = c.args.number in
+    let labels = c.as_slice-target-items.result.now in
+    let targets : label_numbers labels ≡ targets_of (end_view c.args.end.now) = ap label_numbers c.as_slice-target-items.ensures ∙ c.targets-targets.ensures in
+    let long = length-map labels (λ (label : Label). label.0) in
+    let end = c.loop-target-test.false in
+    each_all (λ k. (m : ℕ) → name_at c.loop-target.before.items k ≡ Some m → (m ≡ n) × IsNext c.args.positions.now n (end_view c.args.end.now) k) (label_numbers labels) c.loop-target.target-index (omega (arith, long, end)) c.loop-target.invariant.edges l
+    (subst (λ all. Among l all) (sym targets) among))

@@ -1,22 +1,29 @@
-use Rattle.std.proofs.Common.{inl, inr, subst, sym}
+use Rattle.std.proofs.Common.{◌≡◌, ◌∙◌, ap, arith, subst, sym}
+use Rattle.std.proofs.lemmas.List.{length-map}
 use Rattle.graph_core.specs.Graphs.{end_view}
 use Rattle.graph_core.specs.Paths.{Among}
 use Rattle.graph_core.specs.Uses.{targets_of}
-use Rattle.graph_core.proofs.Among.{among_one}
+use Rattle.graph_core.specs.declared.name.Label.{Label}
+use Rattle.currency_notes.proofs.Lists.{each_all}
 use Rattle.currency_shown.specs.Chains.{StartsIf}
-use Rattle.currency_shown.proofs.Walking.{among_two}
+use Rattle.currency_shown.proofs.Targets.{each_label, label_numbers}
 use Rattle.currency_shown.proofs.chains.Chains.add_targets.Goals as goal
 
-pub returns-in_ok-add-in-Jump-clause-starts : goal.returns-in_ok-add-in-Jump-clause-starts
-returns-in_ok-add-in-Jump-clause-starts c = λ l among.
-    subst (λ k. StartsIf c.args.blocks.now c.args.links.now c.add.new.self k) (sym (among_one (subst (λ d. Among l (targets_of (end_view d))) c.in-Jump.is among))) c.in_ok-add-in-Jump.ensures.starts
+pub loop-target-preserved : goal.loop-target-preserved
+loop-target-preserved c =
+    let said = c.in_ok-add.ensures in
+    let now = c.loop-target.invariant in
+    let none : Label = record { 0 = 0 } in
+    record {
+      begun = said.begun;
+      kept = λ l s. said.kept l (now.kept l s);
+      starts = each_label (StartsIf c.args.blocks.now c.args.links.now c.add.new.self) c.as_slice-target-items.result.now c.loop-target.target-index none c.loop-target-test.true (λ l among small first. said.kept l (now.starts l among small first)) said.starts;
+    }
 
-pub returns-in_ok-add-in-Branch-2-clause-kept : goal.returns-in_ok-add-in-Branch-2-clause-kept
-returns-in_ok-add-in-Branch-2-clause-kept c = λ l s. c.in_ok-add-in-Branch-2.ensures.kept l (c.in_ok-add-in-Branch.ensures.kept l s)
-
-pub returns-in_ok-add-in-Branch-2-clause-starts : goal.returns-in_ok-add-in-Branch-2-clause-starts
-returns-in_ok-add-in-Branch-2-clause-starts c = λ l among.
-    elim (among_two (subst (λ d. Among l (targets_of (end_view d))) c.in-Branch.is among)) [
-      | inl q ↦ (λ lt none. c.in_ok-add-in-Branch-2.ensures.kept l (subst (λ k. StartsIf c.args.blocks.now c.args.links.now c.add-in-Branch.new.self k) (sym q) c.in_ok-add-in-Branch.ensures.starts lt none))
-      | inr q ↦ subst (λ k. StartsIf c.args.blocks.now c.args.links.now c.add-in-Branch-2.new.self k) (sym q) c.in_ok-add-in-Branch-2.ensures.starts
-    ]
+pub returns-clause-starts : goal.returns-clause-starts
+returns-clause-starts c = λ l among.
+    (let labels = c.as_slice-target-items.result.now in
+    let targets : label_numbers labels ≡ targets_of (end_view c.args.end.now) = ap label_numbers c.as_slice-target-items.ensures ∙ c.targets-targets.ensures in
+    let long = length-map labels (λ (label : Label). label.0) in
+    let end = c.loop-target-test.false in
+    each_all (StartsIf c.args.blocks.now c.args.links.now c.loop-target.self) (label_numbers labels) c.loop-target.target-index (omega (arith, long, end)) c.loop-target.invariant.starts l (subst (λ all. Among l all) (sym targets) among))

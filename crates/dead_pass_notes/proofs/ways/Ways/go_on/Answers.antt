@@ -1,45 +1,36 @@
-use Rattle.std.proofs.Common.{ap, arith, length}
-use Rattle.std.proofs.lemmas.Result.{on_ok_weaker}
+use Rattle.std.proofs.Common.{◌≡◌, ◌∙◌, ap, arith, get_or, length, map, subst, sym, take}
+use Rattle.std.proofs.lemmas.List.{take_all}
 use Rattle.graph_core.specs.Graphs.{end_view}
+use Rattle.graph_core.specs.Paths.{Among}
 use Rattle.graph_core.specs.Uses.{targets_of}
-use Rattle.dead_pass_notes.proofs.Coming.{come_branch, come_jump, leads_jump, leads_otherwise, leads_then, on_ok_both}
+use Rattle.graph_core.specs.declared.name.Label.{Label}
+use Rattle.dead_pass_notes.proofs.Coming.{come_more, next_among}
 use Rattle.dead_pass_notes.proofs.Searching.{grown_keeps, grown_more, grown_one}
 use Rattle.dead_pass_notes.proofs.ways.Ways.go_on.Goals as goal
 
-pub returns-in-Jump-clause-grown : goal.returns-in-Jump-clause-grown
-returns-in-Jump-clause-grown c =
-    on_ok_weaker c.come_to.result
-    (grown_one (end_view c.args.end.now) c.args.is_written c.in-Jump.to.0 c.args.self.now.ahead.items c.come_to.new.self.ahead.items (leads_jump (end_view c.args.end.now) c.in-Jump.to.0 (ap end_view c.in-Jump.is)))
-    c.come_to.ensures.ahead
-
-pub returns-in-Jump-clause-come : goal.returns-in-Jump-clause-come
-returns-in-Jump-clause-come c =
-    on_ok_weaker c.come_to.result
-    (λ come count long all. come_jump (end_view c.args.end.now) c.in-Jump.to.0 c.args.is_written _ c.come_to.new.self.ahead.items (ap (λ e. targets_of (end_view e)) c.in-Jump.is) (come all) count long)
-    c.come_to.ensures.come
-
-pub returns-in_ok-come_to-in-Branch-clause-grown :
-    goal.returns-in_ok-come_to-in-Branch-clause-grown
-returns-in_ok-come_to-in-Branch-clause-grown c =
+pub loop-target-preserved : goal.loop-target-preserved
+loop-target-preserved c =
     let e = end_view c.args.end.now in
-    let l = c.in-Branch.then.0 in
-    let m = c.in-Branch.otherwise.0 in
-    let is = ap (λ f. targets_of (end_view f)) c.in-Branch.is in
-    on_ok_weaker c.come_to-in-Branch-2.result
-    (λ added. grown_more (grown_one e c.args.is_written l c.args.self.now.ahead.items c.come_to-in-Branch.new.self.ahead.items (leads_then e l m is) c.in_ok-come_to-in-Branch.ensures.ahead)
-    (grown_one e c.args.is_written m c.come_to-in-Branch.new.self.ahead.items c.come_to-in-Branch-2.new.self.ahead.items (leads_otherwise e l m is) added))
-    c.come_to-in-Branch-2.ensures.ahead
+    let w = c.args.is_written in
+    let labels = c.as_slice-target-items.result.now in
+    let i = c.loop-target.target-index in
+    let none : Label = record { 0 = 0 } in
+    let targets : map (λ (label : Label). label.0) labels ≡ targets_of e = ap (map (λ (label : Label). label.0)) c.as_slice-target-items.ensures ∙ c.targets-targets.ensures in
+    let now = c.loop-target.invariant in
+    let same = now.count in
+    let said = c.in_ok-come_to.ensures in
+    let one = grown_one e w (get_or labels i none).0 c.loop-target.self.ahead.items c.come_to.new.self.ahead.items (subst (λ all. Among (get_or labels i none).0 all) targets (next_among labels i none c.loop-target-test.true)) said.ahead in
+    record {
+      count = said.count ∙ same;
+      seen = λ all. said.seen (now.seen all);
+      grown = grown_more now.grown one;
+      come = λ count long all. come_more labels i none w (length c.args.self.now.seen.items) c.loop-target.self.ahead.items c.come_to.new.self.ahead.items c.loop-target-test.true (λ l. grown_keeps one l w) (λ inside. said.come (now.seen all) (omega (arith, inside, same))) count long
+          (now.come count long all);
+    }
 
-pub returns-in_ok-come_to-in-Branch-clause-come : goal.returns-in_ok-come_to-in-Branch-clause-come
-returns-in_ok-come_to-in-Branch-clause-come c =
-    let e = end_view c.args.end.now in
-    let l = c.in-Branch.then.0 in
-    let m = c.in-Branch.otherwise.0 in
-    let is = ap (λ f. targets_of (end_view f)) c.in-Branch.is in
-    on_ok_both c.come_to-in-Branch-2.result _ _ _
-    (λ added come count long all.
-    (let mid = c.in_ok-come_to-in-Branch.ensures in
-    let same = mid.count in
-    let grown = grown_one e c.args.is_written m c.come_to-in-Branch.new.self.ahead.items c.come_to-in-Branch-2.new.self.ahead.items (leads_otherwise e l m is) added in
-    come_branch e l m c.args.is_written (length c.args.self.now.seen.items) c.come_to-in-Branch-2.new.self.ahead.items is (λ inside. grown_keeps grown l c.args.is_written (mid.come all inside)) (λ inside. come (mid.seen all) (omega (arith, inside, same))) count long))
-    c.come_to-in-Branch-2.ensures.ahead c.come_to-in-Branch-2.ensures.come
+pub returns-clause-come : goal.returns-clause-come
+returns-clause-come c = λ count long all l among.
+    (let i = c.loop-target.target-index in
+    let labels = c.as_slice-target-items.result.now in
+    let whole : map (λ (label : Label). label.0) (take i labels) ≡ targets_of (end_view c.args.end.now) = ap (map (λ (label : Label). label.0)) (take_all i labels c.loop-target-test.false ∙ c.as_slice-target-items.ensures) ∙ c.targets-targets.ensures in
+    c.loop-target.invariant.come count long all l (subst (λ xs. Among l xs) (sym whole) among))
