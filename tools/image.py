@@ -12,12 +12,14 @@ CODE_START = 0x00010000         # where the code stands in the machine
 NO_FUNCTION = 0xFFFFFFFF        # the function of a static variable and of a string literal
 TYPES = ('unsigned char', 'signed char', 'unsigned short', 'short', 'unsigned', 'int', 'pointer')
 STORAGES = ('static', 'frame', 'register', 'slot')
-KINDS = ('removed', 'moved', 'reused', 'replaced')
+KINDS = ('removed', 'moved', 'reused', 'replaced', 'sunk')
 VERDICTS = ('home', 'recovered', 'noncurrent', 'nonresident')
 OPERATIONS = ('constant variable home + - * / /u % %u << >>u >> & | ^ < <u'.split()
               + ['low 8 bits', 'low 16 bits signed', 'low 16 bits', 'low 8 bits signed'])
 REGISTERS = ('zero ra sp gp tp t0 t1 t2 s0 s1 a0 a1 a2 a3 a4 a5 a6 a7 s2 s3 s4 s5 s6 s7 s8 s9 s10 s11 t3 t4 t5 '
              't6').split()
+
+ROWS = {1: 6, 3: 7}             # how many numbers a visible row has, in the versions that are read
 
 # `first` and `end` are addresses, `frame` is a size in bytes, `entry` the number of a place.
 Function = namedtuple('Function', 'name first end frame entry')
@@ -26,14 +28,20 @@ Place = namedtuple('Place', 'position line function address')
 Variable = namedtuple('Variable', 'name function position type storage value count')
 # `name` is that of the pass, `kind` an index of KINDS.
 Change = namedtuple('Change', 'name kind place variable')
-# `verdict` is an index of VERDICTS; what `a` and `b` are depends on it.
-Row = namedtuple('Row', 'place variable verdict change a b')
 # `op` is an index of OPERATIONS.
 Node = namedtuple('Node', 'op a b')
 
 
 class NotAnImage(ValueError):
-    """The bytes are no image of this version, or not as many as their header says."""
+    """The bytes are no image of these versions, or not as many as their header says."""
+
+
+class Row(namedtuple('Row', 'place variable verdict change a b c', defaults=(0,))):
+    """`verdict` is an index of VERDICTS; what `a` and `b` are depends on it. At `c` the current path starts, if one does."""
+
+    def word(self):
+        """How the variable is shown: one of VERDICTS, or `suspect`, which a variable is that has a current path."""
+        return 'suspect' if self.c else VERDICTS[self.verdict]
 
 
 class Image(namedtuple('Image', 'mode words initial functions places owners variables changes flow assigned rows '
@@ -73,8 +81,9 @@ def read(data):
     def named(kind, record):
         return kind(take(record[0]).decode('latin-1'), *record[1:1 + len(kind._fields) - 1])
 
-    if take(4) != b'CDBG' or numbers(1) != [1]:
-        raise NotAnImage('no image of version 1')
+    version = numbers(1)[0] if take(4) == b'CDBG' else 0
+    if version not in ROWS:
+        raise NotAnImage('no image of version 1 or 3')
     (length, mode, words, initial, functions, places, variables, changes, flow, assigned, rows, nodes, names,
      _) = numbers(14)
     words = numbers(words)
@@ -86,7 +95,7 @@ def read(data):
     changes = records(changes, 5)
     flow = records(flow, 2)
     assigned = records(assigned, 2)
-    rows = [Row(*record) for record in records(rows, 6)]
+    rows = [Row(*record) for record in records(rows, ROWS[version])]
     nodes = [Node(*record) for record in records(nodes, 3)]
     if not length == len(data) == offset + names:
         raise NotAnImage('the image is not as long as its header says')

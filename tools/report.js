@@ -1,11 +1,11 @@
 'use strict';
-// Opens the marks of the page: shows a change, and draws its path over the lines of the source. Without it each mark leads to
-// the list of changes.
+// Opens the marks of the page: shows a change, and draws its path, and its current path if it has one, over the lines of the
+// source. Without it each mark leads to the list of changes.
 (() => {
     const lines = document.getElementById('lines');
     const ways = document.getElementById('ways');
     const opened = document.getElementById('opened');
-    let path = [];
+    let paths = [];     // that are open: none, one, or one and the current one
 
     // An element, with the text that it holds.
     function make(name, text, style) {
@@ -37,22 +37,23 @@
         return `M${a.x - 10} ${a.y}C${side} ${a.y} ${side} ${b.y} ${b.x - 12} ${b.y}`;
     }
 
-    // Draws the path that is open.
+    // Draws the paths that are open.
     function draw() {
-        document.querySelectorAll('.place.path').forEach(found => found.classList.remove('path'));
-        path.forEach(place => chip(place).classList.add('path'));
+        document.querySelectorAll('.place').forEach(found => found.classList.remove('path', 'current'));
         ways.replaceChildren();
-        path.slice(1).forEach((place, index) => {
+        paths.forEach((path, number) => path.forEach((place, index) => {
+            chip(place).classList.add(number ? 'current' : 'path');
+            if (index === 0) return;
             const line = document.createElementNS(ways.namespaceURI, 'path');
-            line.setAttribute('class', 'way');
-            line.setAttribute('d', way(path[index], place));
+            line.setAttribute('class', number ? 'way current' : 'way');
+            line.setAttribute('d', way(path[index - 1], place));
             line.setAttribute('marker-end', 'url(#way-head)');
             ways.append(line);
-        });
+        }));
     }
 
-    // A place of the path, with its source.
-    function step(place, index) {
+    // A place of a path, with its source.
+    function step(place, index, path) {
         const line = make('li', '');
         const link = make('a', place, 'place');
         link.href = '#p' + place;
@@ -64,7 +65,8 @@
 
     // Shows a mark of the list of changes, or none.
     function open(mark) {
-        path = mark ? mark.dataset.path.split(' ').map(Number) : [];
+        const told = mark ? [mark.dataset.path, mark.dataset.current].filter(Boolean) : [];
+        paths = told.map(path => path.split(' ').map(Number));
         opened.hidden = !mark;
         if (mark) {
             const close = make('button', '×');
@@ -72,10 +74,14 @@
             close.addEventListener('click', () => open(null));
             const said = make('div', '');
             said.append(...[...mark.cloneNode(true).childNodes]);
-            const list = make('ol', '');
-            list.append(...path.map(step));
-            opened.replaceChildren(close, mark.closest('.change').querySelector('h3').cloneNode(true), said, list);
-            chip(path[path.length - 1]).scrollIntoView({block: 'nearest'});
+            const lists = paths.map((path, number) => {
+                const list = make('ol', '', number ? 'current' : '');
+                list.append(...path.map(step));
+                return list;
+            });
+            const head = mark.closest('.change').querySelector('h3').cloneNode(true);
+            opened.replaceChildren(close, head, said, ...lists);
+            chip(paths[0][paths[0].length - 1]).scrollIntoView({block: 'nearest'});
         }
         draw();
     }

@@ -1,4 +1,4 @@
-"""Spells the words of code of an image as instructions of RV32IM, as an assembler takes them."""
+"""Spells the words of code of an image as instructions of RV32IM, as an assembler takes them; tells what they write."""
 
 from image import REGISTERS
 
@@ -10,6 +10,9 @@ SHIFTS = {(1, 0): 'slli', (5, 0): 'srli', (5, 32): 'srai'}
 COMPUTES = {0: 'add sll slt sltu xor srl or and'.split(),
             1: 'mul mulh mulhsu mulhu div divu rem remu'.split(),
             32: ['sub', None, None, None, None, 'sra', None, None]}
+RESULTS = (0x03, 0x13, 0x17, 0x33, 0x37, 0x67, 0x6F)    # the lowest bits of instructions that have a result
+LUI_T0 = 0x2B7          # the lowest 12 bits of `lui t0`
+ADD_SP = 0x002282B3     # `add t0, t0, sp`
 
 
 def _signed(value, bits):
@@ -75,6 +78,28 @@ def _known(word, address, names):
         0x33: lambda: _compute(word, rd, rs, other, kind),
         0x73: lambda: {0x73: 'ecall', 0x100073: 'ebreak'}.get(word),
     }.get(word & 127, lambda: None)()
+
+
+def result(word):
+    """The number of the register in which an instruction has its result, or None."""
+    return word >> 7 & 31 if word & 127 in RESULTS and _known(word, 0, {}) else None
+
+
+def _stored(word, base):
+    """The offset behind a register at which an instruction stores a word, or None."""
+    if word & 127 == 0x23 and word >> 12 & 7 == 2 and word >> 15 & 31 == base:
+        return _signed((word >> 25) << 5 | (word >> 7 & 31), 12)
+    return None
+
+
+def slot(words, index):
+    """How far behind sp the word of an index stores a word, if it does: at once, or behind t0, set by the two before."""
+    near, far = (_stored(words[index], base) for base in (2, 5))
+    if near is not None:
+        return near % 2 ** 32
+    if far is None or index < 2 or words[index - 1] != ADD_SP or words[index - 2] & 0xFFF != LUI_T0:
+        return None
+    return ((words[index - 2] & 0xFFFFF000) + far) % 2 ** 32
 
 
 def spell(word, address, names=None):

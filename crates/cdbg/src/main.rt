@@ -22,7 +22,8 @@ fn words_of(rt: &HostRuntime) -> io::Result<Vec<String>> {
     Ok(words)
 }
 
-/// The status of a session to which the passes `copy`, `motion` and `dead` are handed in. The only error is want of memory for these.
+/// The status of a session to which the passes `copy`, `motion` and `dead` are handed in. The only error is want of
+/// memory for these.
 fn session_of<S: Shelf, K: Sink>(
     alloc: Global,
     words: &[String],
@@ -57,8 +58,8 @@ fn status_of(rt: &HostRuntime) -> Status {
     }
 }
 
-/// Says on standard error why the session was not done, and gives the status that is said: want of memory where its text
-/// is refused memory.
+/// Says on standard error why the session was not done, and gives the status that is said: want of memory where its
+/// text is refused memory.
 fn tell(rt: &HostRuntime, status: Status) -> Status {
     if status == Status::Done {
         return status;

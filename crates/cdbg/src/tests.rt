@@ -138,7 +138,7 @@ fn number_at(rt: &impl Abort, bytes: &[u8], offset: usize) -> u32
 fn the_image_has_the_size_of_its_parts(rt: HostRuntime) -> Result<(), Fail> {
     let image = cut_off(rt.alloc(), [].as_slice())?.image;
     let words_of_code = number_at(&rt, &image, 16) as usize;
-    assert!(rt; image.len() == words_of_code.wrapping_mul(8).wrapping_add(321));
+    assert!(rt; image.len() == words_of_code.wrapping_mul(8).wrapping_add(333));
     assert!(rt; number_at(&rt, &image, 24) == 1, "functions");
     assert!(rt; number_at(&rt, &image, 28) == 5, "places");
     assert!(rt; number_at(&rt, &image, 32) == 1, "variables");

@@ -62,7 +62,7 @@ fn alterations() -> [Alteration; 12] {
         refused_at(196, 8, 0, Code::PAIRS_AND_ROWS),
         refused_at(252, 8, 4, Code::PAIRS_AND_ROWS),
         // The last byte of the names.
-        refused_at(320, 8, b' ', Code::NODES_AND_NAMES),
+        refused_at(332, 8, b' ', Code::NODES_AND_NAMES),
     ]
 }
 

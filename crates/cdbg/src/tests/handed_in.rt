@@ -39,7 +39,8 @@ impl Pass for Same {
 const COPIED: &[u8] =
     b"#include <stdio.h>\nint main(void){\nint y=getchar();\nint x=0;\nx=y;\nputchar(x+1);\nreturn x;\n}\n";
 
-/// A session to which copy propagation is handed in, and before it a pass of this name that changes nothing. What its contract says is
+/// A session to which copy propagation is handed in, and before it a pass of this name that changes nothing. What its
+/// contract says is
 /// left out here.
 fn run_with(
     alloc: Global,

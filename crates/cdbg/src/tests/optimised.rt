@@ -1,6 +1,6 @@
 //! Sessions of sources that passes have optimised, and the jobs that speak of passes.
 
-use super::programs::DIVISION;
+use super::programs::{DIVISION, ON_ONE_WAY};
 use super::sessions::{
     Session, assert_each, assert_refused, assert_said, assert_session, ended, image_prints, prints,
     shelf,
@@ -11,10 +11,6 @@ use std::test::Fail;
 /// Copies, and assignments that nothing reads.
 const COPIED: &[u8] =
     b"#include <stdio.h>\nint main(void){\nint y=getchar();\nint x=0;\nint z=0;\nx=y;\nz=x+1;\nputchar(z);\ny=7;\nputchar(y);\nreturn 0;\n}\n";
-
-/// An assignment that is dead on one of two ways.
-const ON_ONE_WAY: &[u8] =
-    b"#include <stdio.h>\nint f(void){return getchar();}\nint main(void){\nint x=1;\nif(getchar()==65)\nx=5;\nelse{\nx=f();\nputchar(x);\n}\nputchar(66);\nreturn 0;\n}\n";
 
 /// A sum that is done on one of two ways, and again where they meet.
 const SUM_ON_ONE_WAY: &[u8] =
@@ -52,7 +48,7 @@ static BEHIND_PASSES: [(&str, Session); 8] = [
             source: b"#include <stdio.h>\nint main(void){\nint x=getchar();\nputchar(x);\nint i=0;\nwhile(i<2){\nx=getchar();\ni=i+1;\n}\nreturn i;\n}\n",
             script: b"break 7\ncontinue\nprint x\ncontinue\nprint x\n",
             input: b"ABC",
-            printed: b"break at 6\nout \"A\"\nat 6 line 7 main depth 1\nx noncurrent: 1 dead removed 6, path 6 7 5 6\nat 6 line 7 main depth 1\nx noncurrent: 1 dead removed 6, path 6 7 5 6\n",
+            printed: b"break at 6\nout \"A\"\nat 6 line 7 main depth 1\nx suspect: 1 dead removed 6, path 6 7 5 6, current path 2 3 4 5 6\nat 6 line 7 main depth 1\nx suspect: 1 dead removed 6, path 6 7 5 6, current path 2 3 4 5 6\n",
         },
     ),
     (
@@ -62,7 +58,7 @@ static BEHIND_PASSES: [(&str, Session); 8] = [
             source: ON_ONE_WAY,
             script: b"break 5\ncontinue\nprint x\nbreak 11\ncontinue\nprint x\n",
             input: b"A",
-            printed: b"break at 5\nat 5 line 5 main depth 1\nx = 1 (recovered: 1 dead removed 4)\nbreak at 9\nat 9 line 11 main depth 1\nx noncurrent: 2 dead removed 6, path 6 9\n",
+            printed: b"break at 5\nat 5 line 5 main depth 1\nx = 1 (recovered: 1 dead removed 4)\nbreak at 9\nat 9 line 11 main depth 1\nx suspect: 2 dead removed 6, path 6 9, current path 7 8 9\n",
         },
     ),
     (
@@ -72,7 +68,7 @@ static BEHIND_PASSES: [(&str, Session); 8] = [
             source: ON_ONE_WAY,
             script: b"break f\ncontinue\nwhere\nbreak 9\ncontinue\nprint x\nstep\nprint x\n",
             input: b"BZ",
-            printed: b"break at 2\nat 2 line 2 f depth 2\n#0 f line 2 place 2\n#1 main line 8 place 7\nbreak at 8\nat 8 line 9 main depth 1\nx = 90\nout \"Z\"\nat 9 line 11 main depth 1\nx noncurrent: 2 dead removed 6, path 6 9\n",
+            printed: b"break at 2\nat 2 line 2 f depth 2\n#0 f line 2 place 2\n#1 main line 8 place 7\nbreak at 8\nat 8 line 9 main depth 1\nx = 90\nout \"Z\"\nat 9 line 11 main depth 1\nx suspect: 2 dead removed 6, path 6 9, current path 7 8 9\n",
         },
     ),
     (
@@ -82,7 +78,7 @@ static BEHIND_PASSES: [(&str, Session); 8] = [
             source: b"#include <stdio.h>\nint main(void){\nint a=getchar();\nint b=getchar();\nint x=1;\nputchar(x);\nint i=0;\ndo{\nx=a*b;\nputchar(x);\ni=i+1;\n}while(i<2);\nreturn x;\n}\n",
             script: b"break 9\ncontinue\nprint x\nstep\nprint x\ncontinue\nprint x\n",
             input: b"\x02\x03",
-            printed: b"break at 7\nout \"\\x01\"\nat 7 line 9 main depth 1\nx noncurrent: 1 motion moved 7, path 4 5 6 7\nat 8 line 10 main depth 1\nx = 6\nout \"\\x06\"\nat 7 line 9 main depth 1\nx noncurrent: 1 motion moved 7, path 4 5 6 7\n",
+            printed: b"break at 7\nout \"\\x01\"\nat 7 line 9 main depth 1\nx suspect: 1 motion moved 7, path 4 5 6 7, current path 7 8 9 10 7\nat 8 line 10 main depth 1\nx = 6\nout \"\\x06\"\nat 7 line 9 main depth 1\nx suspect: 1 motion moved 7, path 4 5 6 7, current path 7 8 9 10 7\n",
         },
     ),
     (

@@ -157,7 +157,8 @@ fn limits_are_looked_at_in_their_order(rt: HostRuntime) -> Result<(), Fail> {
     Ok(())
 }
 
-/// A text before a `main` in which 900 variables are visible at 700 places, and a function with so many empty statements behind it.
+/// A text before a `main` in which 900 variables are visible at 700 places, and a function with so many empty
+/// statements behind it.
 fn with_many_pairs(alloc: Global, before: &[u8], count: u32) -> Result<Vec<u8>, AllocError> {
     let mut text = Vec::from_slice(alloc, before)?;
     text.extend_from_slice(b"int main(void){int n")?;

@@ -21,16 +21,24 @@ const COMPILED: &str = "cdbg compile --passes none program.c image";
 pub(super) const DIVISION: &[u8] =
     b"#include <stdio.h>\n#include <stdlib.h>\nvoid g(int b){if(b==0)exit(3);}\nint main(void){\nint a=8;\nint b=getchar()-48;\nint x=0;\nint i=0;\ndo{\ng(b);\nx=a/b;\nputchar(48+x);\ni=i+1;\n}while(i<2);\nreturn x;\n}\n";
 
+/// An assignment on one of two ways, and a call with output behind it on the other.
+pub(super) const ON_ONE_WAY: &[u8] =
+    b"#include <stdio.h>\nint f(void){return getchar();}\nint main(void){\nint x=1;\nif(getchar()==65)\nx=5;\nelse{\nx=f();\nputchar(x);\n}\nputchar(66);\nreturn 0;\n}\n";
+
 /// Two calls in one expression.
 const TWO_CALLS: &[u8] =
     b"#include <stdio.h>\nint g(int a){return a+1;}\nint h(int a){return a*2;}\nint main(void){\nint x=g(1)+h(2);\nputchar(64+x);\nreturn x;\n}\n";
+
+/// A function that calls itself so often that 1,024 activations live.
+const DEEPEST: &[u8] =
+    b"int f(int n){\nif(n==0)\nreturn 0;\nreturn f(n-1)+1;\n}\nint main(void){\nreturn f(1022);\n}\n";
 
 /// A function that calls itself.
 const RECURSION: &[u8] =
     b"int f(int n){\nif(n==0)\nreturn 0;\nint r=f(n-1);\nreturn r+n;\n}\nint main(void){\nreturn f(2);\n}\n";
 
 /// What sessions print with variables in slots and in registers, by passes and without, alike.
-static IN_EACH: [Session; 10] = [
+static IN_EACH: [Session; 13] = [
     Session {
         shows: "an empty main ends with zero",
         source: b"int main(){}\n",
@@ -95,6 +103,27 @@ static IN_EACH: [Session; 10] = [
         printed: b"break at 2\nat 2 line 2 f depth 2\nat 4 line 4 f depth 2\nat 2 line 2 f depth 3\nat 2 line 2 f depth 4\nat 5 line 5 f depth 3\nat 5 line 5 f depth 2\nexit 3\n",
     },
     Session {
+        shows: "finish comes out of a call, and next halts behind the output",
+        source: ON_ONE_WAY,
+        script: b"break f\ncontinue\nfinish\nnext\n",
+        input: b"BZ",
+        printed: b"break at 2\nat 2 line 2 f depth 2\nat 8 line 9 main depth 1\nout \"Z\"\nat 9 line 11 main depth 1\n",
+    },
+    Session {
+        shows: "finish comes out of the deepest activation",
+        source: DEEPEST,
+        script: b"break 3\ncontinue\nfinish\nfinish\n",
+        input: b"",
+        printed: b"break at 3\nat 3 line 3 f depth 1024\nexit 1022\nexit 1022\n",
+    },
+    Session {
+        shows: "next comes to the end of a run whose calls nest too deep",
+        source: b"int f(int n){if(n==0)return 0;return f(n-1)+1;}\nint main(void){return f(1023);}\n",
+        script: b"next\nnext\nnext\nfinish\n",
+        input: b"",
+        printed: b"at 6 line 2 main depth 1\ndepth\ndepth\ndepth\n",
+    },
+    Session {
         shows: "unsigned constants are compared as unsigned",
         source: b"int main(void){return 2147483648u>0u;}\n",
         script: b"continue\n",
@@ -111,7 +140,7 @@ fn in_each() -> &'static [Session] {
 static IN_BOTH: [Session; 10] = [
     Session {
         shows: "an outer activation and a call's value are shown",
-        source: b"#include <stdio.h>\nint f(void){return getchar();}\nint main(void){\nint x=1;\nif(getchar()==65)\nx=5;\nelse{\nx=f();\nputchar(x);\n}\nputchar(66);\nreturn 0;\n}\n",
+        source: ON_ONE_WAY,
         script: b"break f\ncontinue\nwhere\nbreak 9\ncontinue\nprint x\nstep\nprint x\n",
         input: b"BZ",
         printed: b"break at 2\nat 2 line 2 f depth 2\n#0 f line 2 place 2\n#1 main line 8 place 7\nbreak at 8\nat 8 line 9 main depth 1\nx = 90\nout \"Z\"\nat 9 line 11 main depth 1\nx = 90\n",

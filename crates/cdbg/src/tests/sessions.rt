@@ -53,7 +53,8 @@ pub(super) fn image_of(alloc: Global, shelf: &MemShelf) -> Result<Vec<u8>, Alloc
     }
 }
 
-/// The status of the job of these words over a shelf, with a sink whose calls of these numbers fail, and what was put out.
+/// The status of the job of these words over a shelf, with a sink whose calls of these numbers fail, and what was put
+/// out.
 pub(super) fn outcome<S: Shelf>(
     alloc: Global,
     words: &str,
