@@ -19,6 +19,7 @@ use Rattle.graph_core.specs.Graphs.{UnitForm}
 use Rattle.image_form.specs.Form.{Form, form}
 use Rattle.image_form.specs.Rules.{IsImage}
 use Rattle.image_form.specs.Spelling.{spelling}
+use Rattle.session.proofs.ReadBack.{read_back}
 
 -- passes of no names are none
 pub none_named : (names : List PassName) → map letters names ≡ [] → names ≡ []
@@ -44,7 +45,7 @@ module _ {P : Type 0} {named : P → PassName} {steps : P → UnitForm → UnitF
   pub made_of : (source : List ℕ) (names : List Text) (mode : Mode) (p : ProgramTree) (made : Made) → HasProgram source → program_of_source source ≡ Ok p → IsImage (form made.image) → made.bytes.items ≡ spelling (form made.image) → RunsTrue p (form made.image)
       → (names ≡ [] → mode ≡ Slots → ShowsAll (form made.image)) → HasTablesOf p (form made.image) → ComesOfProgram named steps handed_in p names mode (form made.image) → IsMade named steps handed_in source names mode made
   made_of source names mode p made understood program image bytes runs shows tables comes = record {
-    image = record { understood = understood; truthful = truthful_by source names mode p (form made.image) program runs shows tables comes };
+    image = record { understood = understood; image = read_back (form made.image) image; truthful = truthful_by source names mode p (form made.image) program runs shows tables comes };
     rules = image;
     bytes = bytes;
   }

@@ -1,5 +1,5 @@
 -- Where nothing stands in the way, the job is done, or memory was wanting.
-use Rattle.std.proofs.Common.{◌≡◌, ℕ, ◌<◌, ◌≤◌, ◌⊎◌, inl, inr, ⊎_elim, refl, arith, List, length}
+use Rattle.std.proofs.Common.{◌≡◌, ℕ, ◌<◌, ◌≤◌, ◌⊎◌, inl, inr, ⊎_elim, refl, ap, ◌∙◌, arith, List, length}
 use Rattle.std.specs.Prelude.{Option, Some, None, Err, Ok, Result, true, string_bytes}
 use Rattle.outside.specs.Counts.{RoseOrStands}
 use Rattle.debug_records.specs.declared.code.Code.{Code}
@@ -65,7 +65,7 @@ image_understood held (debug given) code offset u r = r
 image_understood held (compile given) code offset u r = r
 image_understood held (passes given) code offset u r = r
 image_understood held (sweep given) code offset u r = r
-image_understood held (attach given) code offset u r = contrary IsImageText (AreNoImage code offset) (λ t read refused. never_both (read_of t) read.0 (code, offset) read.1 refused) (held given.image) u r
+image_understood held (attach given) code offset u r = contrary IsImageText (AreNoImage code offset) (λ t is refused. never_both (read_of t) is.0 (code, offset) (ap read_of is.2 ∙ is.1.reads) refused) (held given.image) u r
 
 script_read : (held : Held) (script : Option (List ℕ)) (code : Code) (line : ℕ) → IfGiven script (λ name. Holds (held name) IsScriptText) → With script (λ name. Holds (held name) (λ text. IsRefused text code line)) → ⊥
 script_read held None code line s r = r

@@ -1,6 +1,7 @@
 pub mod Parts
 pub mod Orders
 pub mod Refusals
+pub mod ReadBack
 pub mod Sessions
 pub mod AskedLemmas
 pub mod Completeness

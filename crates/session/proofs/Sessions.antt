@@ -7,12 +7,10 @@ use Rattle.debug_records.specs.declared.change.PassName.{PassName}
 use Rattle.debug_records.specs.declared.code.Code.{Code}
 use Rattle.graph_core.specs.Graphs.{UnitForm}
 use Rattle.image_form.specs.Form.{Form, form}
-use Rattle.image_form.specs.Reading.{read_of}
 use Rattle.image_form.specs.Rules.{IsImage}
 use Rattle.image_form.specs.Spelling.{spelling}
 use Rattle.image_form.specs.Views.{viewed}
 use Rattle.image_form.specs.declared.lent.View.{View}
-use Rattle.image_form.proofs.Complete.{image_read}
 use Rattle.image_form.proofs.OneSpelling.{spells_one}
 use Rattle.std.specs.Global.{Global}
 use Rattle.outside.specs.Held.{IsKeptOrCut, Loads}
@@ -32,6 +30,7 @@ use Rattle.session.specs.Served.{Saving}
 use Rattle.session.specs.Limits.{Held, Holds}
 use Rattle.session.specs.Front.{IsRefusedSource}
 use Rattle.session.specs.Causes.{IsEarly, IsImageText, IsScriptText, ScriptIsRefused, AreAccepted}
+use Rattle.session.proofs.ReadBack.{read_back}
 use Rattle.session.proofs.Refusals.{source_held}
 use Rattle.session.specs.Stages.{ImageEnds, ScriptEnds, SourceFails, WriteEnds}
 use Rattle.session.specs.Prepared.{IsMade}
@@ -59,10 +58,9 @@ source_refused status code line source held e ends loads = source_held code line
 pub attached : (image : View) (commands : Vec Command Global) (bytes script input : List ℕ) (held : Held) (given : AttachGiven) → ImageEnds (Ok image) bytes → ScriptEnds (Ok commands) script
     → held given.image ≡ Some bytes → held given.script ≡ Some script → held given.input ≡ Some input → AllByRecursion (λ b. b < 256) input → IsAttached held given (transcript_bytes (viewed image) (orders commands.items) input given.limit)
 attached image commands bytes script input held given is asks is_image is_script is_input are_bytes = record {
-  spelled = bytes;
-  image_is = is_image;
   form = viewed image;
-  reads = is.2;
+  form_is = read_back (viewed image) is.0;
+  image_is = is_image ∙ ap Some is.1;
   text = script;
   orders = orders commands.items;
   script_is = is_script;
@@ -77,7 +75,7 @@ attached image commands bytes script input held given is asks is_image is_script
 pub attached_accepted : (image : View) (commands : Vec Command Global) (bytes script : List ℕ) (held : Held) (given : AttachGiven) → ImageEnds (Ok image) bytes → ScriptEnds (Ok commands) script
     → held given.image ≡ Some bytes → held given.script ≡ Some script → AreAccepted held (attach given)
 attached_accepted image commands bytes script held given is asks is_image is_script = record {
-  before = holds IsImageText (held given.image) bytes is_image (viewed image, is.2);
+  before = holds IsImageText (held given.image) bytes is_image (viewed image, read_back (viewed image) is.0, is.1);
   script = holds IsScriptText (held given.script) script is_script (orders commands.items, asks);
 }
 
@@ -85,7 +83,7 @@ attached_accepted image commands bytes script held given is asks is_image is_scr
 pub attached_refused : (status : Status) (code : Code) (line : ℕ) (image : View) (bytes script : List ℕ) (held : Held) (given : AttachGiven) → status ≡ ScriptRefused code line → ImageEnds (Ok image) bytes → ScriptEnds (Err status) script
     → held given.image ≡ Some bytes → held given.script ≡ Some script → ScriptIsRefused held (attach given) code line
 attached_refused status code line image bytes script held given e is ends is_image is_script = record {
-  before = holds IsImageText (held given.image) bytes is_image (viewed image, is.2);
+  before = holds IsImageText (held given.image) bytes is_image (viewed image, read_back (viewed image) is.0, is.1);
   cause = holds (λ t. IsRefused t code line) (held given.script) script is_script (subst (λ s. ScriptEnds (Err s) script) e ends);
 }
 
@@ -131,7 +129,8 @@ module _ {P : Type 0} {named : P → PassName} {steps : P → UnitForm → UnitF
     source_held = held_is 1048576 (held saving.source) source loads (program_is_short source is.image.understood);
     understood = is.image.understood;
     form = form made.image;
-    reads = ap read_of (same ∙ is.bytes) ∙ image_read (form made.image) is.rules;
+    form_is = is.image.image;
+    bytes_are = same ∙ is.bytes;
     truthful = is.image.truthful;
   }
 
@@ -166,10 +165,9 @@ module _ {P : Type 0} {named : P → PassName} {steps : P → UnitForm → UnitF
     source_held = held_is 1048576 (held given.source) source loads (program_is_short source is.image.understood);
     understood = is.image.understood;
     played = record {
-      spelled = made.bytes.items;
-      image_is = saved;
       form = form made.image;
-      reads = ap read_of is.bytes ∙ image_read (form made.image) is.rules;
+      form_is = is.image.image;
+      image_is = saved ∙ ap Some is.bytes;
       text = script;
       orders = orders commands.items;
       script_is = is_script;

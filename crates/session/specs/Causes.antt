@@ -1,7 +1,8 @@
 -- What a refusal says of the texts, and what comes after it.
-use Rattle.std.specs.Prelude.{◌≡◌, ℕ, List, Option, Some, None, Err, Ok}
+use Rattle.std.specs.Prelude.{◌≡◌, ℕ, List, Option, Some, None, Err}
 use Rattle.debug_records.specs.declared.code.Code.{Code}
 use Rattle.image_form.specs.Form.{Form}
+use Rattle.image_form.specs.Spelling.{spelling}
 use Rattle.image_form.specs.Reading.{read_of}
 use Rattle.line_form.specs.declared.status.Status.{Status}
 use Rattle.line_form.specs.declared.status.Status.TheVariants.{Done, Usage, SourceRefused, ScriptRefused, ReadFault, WriteFault, NoMemory, ImageRefused, TooLong, AuditFailed}
@@ -13,14 +14,15 @@ use Rattle.work_gen.specs.Generated.{text as generated}
 use Rattle.session.specs.Served.{IfGiven, With, script_of}
 use Rattle.session.specs.Limits.{Held, Holds}
 use Rattle.session.specs.Front.{IsRefusedSource}
+use Rattle.session.specs.Images.{IsReadBack}
 
 -- the text is a script
 abbrev pub IsScriptText : List ℕ → Type 0
 IsScriptText text = (os : List Order) × IsScript text os
 
--- The bytes are an image: read in the order of the format they break no rule.
+-- The bytes spell an image.
 abbrev pub IsImageText : List ℕ → Type 0
-IsImageText bytes = (f : Form) × (read_of bytes ≡ Ok f)
+IsImageText bytes = (f : Form) × IsReadBack f × (bytes ≡ spelling f)
 
 -- the text that a job compiles, where it is there: the source of its name, and for a `sweep` the generated one
 abbrev pub compiled_by : Held → JobGiven → Option (List ℕ)
@@ -42,7 +44,7 @@ SourceIsRefused held (attach given) code line = ⊥
 SourceIsRefused held (passes given) code line = TextIsRefused held (passes given) code line
 SourceIsRefused held (sweep given) code line = ⊥
 
--- Bytes are refused that are no image: this is the first rule that they break, at this byte.
+-- Bytes are refused that spell no image: this is the first rule that they break, at this byte.
 abbrev pub AreNoImage : Code → (offset : ℕ) → (bytes : List ℕ) → Type 0
 AreNoImage code offset bytes = read_of bytes ≡ Err (code, offset)
 

@@ -1,5 +1,6 @@
 pub mod Served
 pub mod Limits
+pub mod Images
 pub mod Front
 pub mod Causes
 pub mod Summing

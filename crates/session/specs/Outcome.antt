@@ -1,10 +1,10 @@
 -- What a session leaves.
-use Rattle.std.specs.Prelude.{◌≡◌, ◌<◌, ℕ, ◌⊎◌, List, [], ◌++◌, Ok, Option, Some}
+use Rattle.std.specs.Prelude.{◌≡◌, ◌<◌, ℕ, ◌⊎◌, List, [], ◌++◌, Option, Some}
 use Rattle.std.specs.List.{AllByRecursion, flat_map}
 use Rattle.outside.specs.Held.{IsKeptOrCut}
 use Rattle.outside.specs.Taken.{TakesPart}
 use Rattle.image_form.specs.Form.{Form}
-use Rattle.image_form.specs.Reading.{read_of}
+use Rattle.image_form.specs.Spelling.{spelling}
 use Rattle.script_form.specs.Script.{Order, IsScript}
 use Rattle.stop_engine.specs.Transcript.{transcript_bytes}
 use Rattle.c_source.specs.Sources.{HasProgram}
@@ -21,15 +21,15 @@ use Rattle.session.specs.Listed.{AreLinesFor}
 use Rattle.session.specs.Prepared.{IsImageFor}
 use Rattle.session.specs.Summing.{summary_lines, sweep_limit}
 use Rattle.session.specs.Limits.{Held}
+use Rattle.session.specs.Images.{IsReadBack}
 use Rattle.session.specs.Truth.{IsTruthfulTo}
 
 -- What is printed is the transcript of an image, a script and an input of bytes that stand under their names, with the
 -- job's limit on instructions: just what the debugger prints of these four, and nothing else enters it.
 pub record IsPlayed (image script input : Option (List ℕ)) (limit : ℕ) (printed : List ℕ) : Type 0 where
-  pub spelled : List ℕ
-  pub image_is : image ≡ Some spelled
   pub form : Form
-  pub reads : read_of spelled ≡ Ok form
+  pub form_is : IsReadBack form
+  pub image_is : image ≡ Some (spelling form)
   pub text : List ℕ
   pub orders : List Order
   pub script_is : script ≡ Some text
@@ -53,14 +53,14 @@ module _ {P : Type 0} (named : P → PassName) (steps : P → UnitForm → UnitF
     pub played : IsPlayed (held' given.image) (held given.script) (held given.input) given.limit printed
     pub truthful : IsTruthfulTo named steps handed_in source given.passes given.mode played.form
 
-  -- The bytes are an image of the source that the shelf held before: read, they break no rule and say one that is
-  -- truthful to the source.
+  -- The bytes are an image of the source that the shelf held before: they spell one that is truthful to the source.
   pub record IsImageOfSource (held : Held) (saving : Saving) (bytes : List ℕ) : Type 0 where
     pub source : List ℕ
     pub source_held : held saving.source ≡ Some source
     pub understood : HasProgram source
     pub form : Form
-    pub reads : read_of bytes ≡ Ok form
+    pub form_is : IsReadBack form
+    pub bytes_are : bytes ≡ spelling form
     pub truthful : IsTruthfulTo named steps handed_in source saving.passes saving.mode form
 
   -- under the name of the image stands one that is truthful to the source

@@ -8,6 +8,7 @@ use Rattle.image_form.specs.Form.{Form, form}
 use Rattle.image_form.specs.Rules.{IsImage}
 use Rattle.image_form.specs.Spelling.{spelling}
 use Rattle.c_source.specs.Sources.{HasProgram}
+use Rattle.session.specs.Images.{IsReadBack}
 use Rattle.session.specs.Truth.{IsTruthfulTo}
 use Rattle.session.specs.declared.preparing.Made.{Made}
 
@@ -15,6 +16,7 @@ module _ {P : Type 0} (named : P → PassName) (steps : P → UnitForm → UnitF
   -- The text is of a program, and this is an image that is truthful to it after the passes of these names.
   pub record IsImageFor (text : List ℕ) (names : List Text) (mode : Mode) (form : Form) : Type 0 where
     pub understood : HasProgram text
+    pub image : IsReadBack form
     pub truthful : IsTruthfulTo named steps handed_in text names mode form
 
   -- the image of the source, with its bytes

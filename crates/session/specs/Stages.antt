@@ -7,7 +7,6 @@ use Rattle.debug_records.specs.declared.mode.Mode.TheVariants.{Registers}
 use Rattle.session_lines.specs.Summary.{IsSummed}
 use Rattle.session_lines.specs.declared.summary.Summary.{Summary}
 use Rattle.work_gen.specs.Generated.{text as generated}
-use Rattle.image_form.specs.Reading.{read_of}
 use Rattle.image_form.specs.Rules.{IsImage}
 use Rattle.image_form.specs.Spelling.{spelling}
 use Rattle.image_form.specs.Views.{viewed}
@@ -90,7 +89,7 @@ ScriptEnds (Err _) script = ⊥
 
 -- the bytes spell the image, or are refused for the first rule that they break, or memory was wanting
 abbrev pub ImageEnds : Result View Status → (bytes : List ℕ) → Type 0
-ImageEnds (Ok image) bytes = IsImage (viewed image) × (bytes ≡ spelling (viewed image)) × (read_of bytes ≡ Ok (viewed image))
+ImageEnds (Ok image) bytes = IsImage (viewed image) × (bytes ≡ spelling (viewed image))
 ImageEnds (Err (ImageRefused code offset)) bytes = AreNoImage code offset bytes
 ImageEnds (Err NoMemory) bytes = Unit {0}
 ImageEnds (Err _) bytes = ⊥

@@ -17,6 +17,7 @@ use Rattle.image_build.proofs.ToldTrails.{trail_told}
 use Rattle.image_build.proofs.Truth.{runs_true}
 use Rattle.image_form.specs.Form.{form}
 use Rattle.session.specs.Behind.{ComesOfProgram}
+use Rattle.session.proofs.ReadBack.{read_back}
 use Rattle.session.proofs.Behind.{kept_behind}
 use Rattle.session.proofs.CompiledCall.{holds_last, last_holds, list_reason, source_reason}
 use Rattle.session.proofs.Compiled.{none_named, truthful_by}
@@ -113,6 +114,7 @@ returns-clause-image g c =
     let comes : ComesOfProgram (λ p. (goal.Pass-dyn g (p.vtable, p.value)).named p.value) (λ p. ((goal.Pass-dyn g (p.vtable, p.value)).steps p.value).leads) c.args.passes.now p (map letters c.args.list.now) c.args.mode m = record { homed = h; homes = is.homed; made = carried p h m is.made; comes = homed; explains = explains_all p h m is.made is.image is.tables (kept_variables p h.unit kept c.in_ok-program.ensures.laws) } in
     record {
       understood = record { program = p; program_is = c.in_ok-program.ensures.program };
+      image = read_back m is.image;
       truthful = truthful_by c.args.text.now (map letters c.args.list.now) c.args.mode p m c.in_ok-program.ensures.program
           (runs_true c.args.mode p h m c.in_ok-program.ensures.laws is.homed is.made is.tables is.image kept c.in_ok-program.ensures.names)
           (λ none slots. is.shows (none_named c.args.list.now none) slots) is.tables comes;
