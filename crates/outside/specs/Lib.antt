@@ -5,5 +5,6 @@ pub mod Files
 pub mod Held
 pub mod MemoryShelf
 pub mod MemorySink
+pub mod States
 pub mod Taken
 pub mod TornMemoryShelf

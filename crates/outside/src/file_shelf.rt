@@ -40,13 +40,12 @@ impl<R: Files + Drop> FileShelf<R> {
 }
 
 impl<R: Files + Drop> Shelf for FileShelf<R> {
-    ghost load_count = { λ s. s.loads };
-
-    ghost save_count = { λ s. s.saves };
-
-    ghost tells = { λ _. false };
-
-    ghost held = { λ _ _. None };
+    ghost state = { λ s. record {
+      load_count = s.loads;
+      save_count = s.saves;
+      tells = false;
+      held = λ _. None;
+    } };
 
     fn load_faults(&self) -> u64 {
         self.load_faults

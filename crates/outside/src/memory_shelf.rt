@@ -91,13 +91,12 @@ impl MemShelf {
 }
 
 impl Shelf for MemShelf {
-    ghost load_count = { λ s. s.load_count };
-
-    ghost save_count = { λ s. s.save_count };
-
-    ghost tells = { λ _. true };
-
-    ghost held = { λ s name. get s.files name };
+    ghost state = { λ s. record {
+      load_count = s.load_count;
+      save_count = s.save_count;
+      tells = true;
+      held = λ name. get s.files name;
+    } };
 
     fn load_faults(&self) -> u64 {
         self.load_faults

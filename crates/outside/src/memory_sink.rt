@@ -46,11 +46,11 @@ impl MemSink {
 }
 
 impl Sink for MemSink {
-    ghost fault_count = { λ s. s.fault_count };
-
-    ghost tells = { λ _. true };
-
-    ghost taken = { λ s. s.bytes };
+    ghost state = { λ s. record {
+      fault_count = s.fault_count;
+      tells = true;
+      taken = s.bytes;
+    } };
 
     fn faults(&self) -> u64 {
         self.faults

@@ -9,11 +9,11 @@ use std::alloc::Global;
 pub struct QuietSink;
 
 impl Sink for QuietSink {
-    ghost fault_count = { λ _. 0 };
-
-    ghost tells = { λ _. false };
-
-    ghost taken = { λ _. [] };
+    ghost state = { λ _. record {
+      fault_count = 0;
+      tells = false;
+      taken = [];
+    } };
 
     fn faults(&self) -> u64 {
         0

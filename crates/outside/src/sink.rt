@@ -1,6 +1,7 @@
 //! A sink of bytes, which counts its faults.
-ghost use Rattle.std.specs.Prelude.{◌≡◌, ℕ, Bool, true, List, ◌++◌, OnOk, OnErr};
+ghost use Rattle.std.specs.Prelude.{◌≡◌, true, ◌++◌, OnOk, OnErr};
 ghost use Rattle.outside.specs.Counts.{CountsPut};
+ghost use Rattle.outside.specs.States.{SinkState};
 ghost use Rattle.outside.specs.Taken.{TakesPart};
 
 use std::alloc::{AllocError, Global};
@@ -27,24 +28,20 @@ impl From<AllocError> for PutErr {
 
 /// What takes bytes one piece after another, and counts the pieces at which it failed.
 pub trait Sink {
-    /// How many pieces failed, up to the greatest `u64`.
-    ghost fault_count: { Self → ℕ };
-
-    /// Whether it tells what it took: a sink in memory does, standard output does not.
-    ghost tells: { Self → Bool };
-
-    /// The bytes that it has taken.
-    ghost taken: { Self → List ℕ };
+    /// What is known of it: how many pieces failed, whether it tells what it took, and what it took.
+    ghost state: { Self → SinkState };
 
     /// How many pieces have failed. It never falls, and stays once it is the greatest `u64`.
     fn faults(&self) -> u64
-        ensures { result ≡ fault_count self.now };
+        ensures { result ≡ (state self.now).fault_count };
 
     /// Takes the piece. Each `Failed` raises the count; after an error the first part of the piece was taken,
     /// perhaps none of it.
     fn put(&mut self, alloc: Global, piece: &[u8]) -> Result<(), PutErr>
-        ensures count { CountsPut result (fault_count self.old) (fault_count self.new) }
-        ensures telling { tells self.new ≡ tells self.old }
-        ensures ok { OnOk result (tells self.old ≡ true → taken self.new ≡ taken self.old ++ piece.now) }
-        ensures err { OnErr result (tells self.old ≡ true → TakesPart piece.now (taken self.old) (taken self.new)) };
+        ensures count { CountsPut result (state self.old).fault_count (state self.new).fault_count }
+        ensures telling { (state self.new).tells ≡ (state self.old).tells }
+        ensures ok { OnOk result ((state self.old).tells ≡ true
+            → (state self.new).taken ≡ (state self.old).taken ++ piece.now) }
+        ensures err { OnErr result ((state self.old).tells ≡ true
+            → TakesPart piece.now (state self.old).taken (state self.new).taken) };
 }

@@ -33,11 +33,11 @@ impl<R: Print + Drop> StdoutSink<R> {
 }
 
 impl<R: Print + Drop> Sink for StdoutSink<R> {
-    ghost fault_count = { λ s. s };
-
-    ghost tells = { λ _. false };
-
-    ghost taken = { λ _. [] };
+    ghost state = { λ s. record {
+      fault_count = s;
+      tells = false;
+      taken = [];
+    } };
 
     fn faults(&self) -> u64 {
         self.faults

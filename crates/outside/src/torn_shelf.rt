@@ -57,13 +57,12 @@ impl TornShelf {
 }
 
 impl Shelf for TornShelf {
-    ghost load_count = { λ s. s.shelf.load_count };
-
-    ghost save_count = { λ s. s.shelf.save_count };
-
-    ghost tells = { λ _. true };
-
-    ghost held = { λ s name. get s.shelf.files name };
+    ghost state = { λ s. record {
+      load_count = s.shelf.load_count;
+      save_count = s.shelf.save_count;
+      tells = true;
+      held = λ name. get s.shelf.files name;
+    } };
 
     fn load_faults(&self) -> u64 {
         self.shelf.load_faults()

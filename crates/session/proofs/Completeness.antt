@@ -80,15 +80,15 @@ source_refused words (passes given) held code line is r = r
 source_refused words (sweep given) held code line is r = unbroken (generated given.seed given.size) code line (swept_has_program words given is) r
 
 -- where the texts are within their limits and accepted, and no load, save or put failed
-pub complete : (words : List Text) (job : JobGiven) (old : World) (status : Status) (new : World) → IsJob words job → IsCaused job old status new → old.shelf_tells ≡ true
-    → AreWithin old.held job → AreAccepted old.held job → ¬ RoseOrStands old.loads new.loads → ¬ RoseOrStands old.saves new.saves → ¬ RoseOrStands old.puts new.puts → (status ≡ Done) ⊎ (status ≡ NoMemory)
+pub complete : (words : List Text) (job : JobGiven) (old : World) (status : Status) (new : World) → IsJob words job → IsCaused job old status new → old.shelf.tells ≡ true
+    → AreWithin old.shelf.held job → AreAccepted old.shelf.held job → ¬ RoseOrStands old.shelf.load_count new.shelf.load_count → ¬ RoseOrStands old.shelf.save_count new.shelf.save_count → ¬ RoseOrStands old.sink.fault_count new.sink.fault_count → (status ≡ Done) ⊎ (status ≡ NoMemory)
 complete words job old Done new is c told w a nl ns nk = inl refl
 complete words job old Usage new is c told w a nl ns nk = absurd (c.usage refl)
-complete words job old (SourceRefused code line) new is c told w a nl ns nk = absurd (source_understood old.held job code line a.before (source_refused words job old.held code line is (c.source code line refl told)))
-complete words job old (ScriptRefused code line) new is c told w a nl ns nk = absurd (script_read old.held (script_of job) code line a.script (c.script code line refl told).cause)
+complete words job old (SourceRefused code line) new is c told w a nl ns nk = absurd (source_understood old.shelf.held job code line a.before (source_refused words job old.shelf.held code line is (c.source code line refl told)))
+complete words job old (ScriptRefused code line) new is c told w a nl ns nk = absurd (script_read old.shelf.held (script_of job) code line a.script (c.script code line refl told).cause)
 complete words job old ReadFault new is c told w a nl ns nk = absurd (nl (c.read refl))
 complete words job old WriteFault new is c told w a nl ns nk = absurd (⊎_elim ns nk (c.write refl))
 complete words job old NoMemory new is c told w a nl ns nk = inr refl
-complete words job old (ImageRefused code offset) new is c told w a nl ns nk = absurd (image_understood old.held job code offset a.before (c.image code offset refl told))
-complete words job old (TooLong name) new is c told w a nl ns nk = absurd (none_too_long old.held job (string_bytes name) w (c.too_long name refl told))
+complete words job old (ImageRefused code offset) new is c told w a nl ns nk = absurd (image_understood old.shelf.held job code offset a.before (c.image code offset refl told))
+complete words job old (TooLong name) new is c told w a nl ns nk = absurd (none_too_long old.shelf.held job (string_bytes name) w (c.too_long name refl told))
 complete words job old (AuditFailed rule line) new is c told w a nl ns nk = absurd (c.audit rule line refl)

@@ -6,6 +6,7 @@ pub mod Sessions
 pub mod AskedLemmas
 pub mod Completeness
 pub mod Lines
+pub mod Merged
 pub mod Compiled
 pub mod Behind
 pub mod CompiledCall

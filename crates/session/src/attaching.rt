@@ -14,25 +14,9 @@ use std::alloc::Global;
 /// Loads an image, a script and an input, and puts out the transcript of the script. Nothing is saved.
 pub fn attach<S: Shelf, K: Sink>(alloc: Global, job: &Attach, shelf: &mut S, sink: &mut K) -> Status
     ensures { EndsWithoutPasses (given.attach (given.attach_given job.now))
-        (record {
-          loads = S.load_count shelf.old;
-          saves = S.save_count shelf.old;
-          puts = K.fault_count sink.old;
-          shelf_tells = S.tells shelf.old;
-          held = S.held shelf.old;
-          sink_tells = K.tells sink.old;
-          taken = K.taken sink.old;
-        })
+        (record { shelf = S.state shelf.old; sink = K.state sink.old })
         result
-        (record {
-          loads = S.load_count shelf.new;
-          saves = S.save_count shelf.new;
-          puts = K.fault_count sink.new;
-          shelf_tells = S.tells shelf.new;
-          held = S.held shelf.new;
-          sink_tells = K.tells sink.new;
-          taken = K.taken sink.new;
-        }) }
+        (record { shelf = S.state shelf.new; sink = K.state sink.new }) }
 {
     let texts = match load_attached(alloc, shelf, job) {
         Ok(texts) => texts,

@@ -1,6 +1,6 @@
 //! The compilation of a source.
 
-ghost use Rattle.std.specs.Prelude.{ℕ, Bool, List};
+ghost use Rattle.outside.specs.States.{SinkState};
 ghost use Rattle.command_line.specs.Job as given;
 ghost use Rattle.session.specs.Ending.{Ends};
 ghost use Rattle.session.specs.Served.{CanRun};
@@ -37,27 +37,11 @@ pub fn save_compiled<S: Shelf>(
     shelf: &mut S,
 ) -> Status
     requires { CanRun (λ p. named p) passes.now (given.compile_given job.now).passes }
-    ensures { (puts : ℕ) (sink_tells : Bool) (taken : List ℕ) →
+    ensures { (sink : SinkState) →
         Ends (λ p. named p) (λ p. (steps p).leads) passes.now (given.compile (given.compile_given job.now))
-        (record {
-          loads = S.load_count shelf.old;
-          saves = S.save_count shelf.old;
-          puts = puts;
-          shelf_tells = S.tells shelf.old;
-          held = S.held shelf.old;
-          sink_tells = sink_tells;
-          taken = taken;
-        })
+        (record { shelf = S.state shelf.old; sink = sink })
         result
-        (record {
-          loads = S.load_count shelf.new;
-          saves = S.save_count shelf.new;
-          puts = puts;
-          shelf_tells = S.tells shelf.new;
-          held = S.held shelf.new;
-          sink_tells = sink_tells;
-          taken = taken;
-        }) }
+        (record { shelf = S.state shelf.new; sink = sink }) }
 {
     let source = match load_source(alloc, shelf, job.source.as_str()) {
         Ok(source) => source,

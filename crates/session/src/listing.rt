@@ -23,25 +23,9 @@ pub fn list_changes<S: Shelf, K: Sink>(
 ) -> Status
     requires { CanRun (λ p. named p) passes.now (given.passes_given job.now).passes }
     ensures { Ends (λ p. named p) (λ p. (steps p).leads) passes.now (given.passes (given.passes_given job.now))
-        (record {
-          loads = S.load_count shelf.old;
-          saves = S.save_count shelf.old;
-          puts = K.fault_count sink.old;
-          shelf_tells = S.tells shelf.old;
-          held = S.held shelf.old;
-          sink_tells = K.tells sink.old;
-          taken = K.taken sink.old;
-        })
+        (record { shelf = S.state shelf.old; sink = K.state sink.old })
         result
-        (record {
-          loads = S.load_count shelf.new;
-          saves = S.save_count shelf.new;
-          puts = K.fault_count sink.new;
-          shelf_tells = S.tells shelf.new;
-          held = S.held shelf.new;
-          sink_tells = K.tells sink.new;
-          taken = K.taken sink.new;
-        }) }
+        (record { shelf = S.state shelf.new; sink = K.state sink.new }) }
 {
     let source = match load_source(alloc, shelf, job.source.as_str()) {
         Ok(source) => source,

@@ -47,12 +47,14 @@ fn load_text<S: Shelf>(
     limit: u32,
 ) -> Result<Vec<u8>, Status>
     requires { limit < 4294967295 }
-    ensures ends { LoadEnds result (S.load_count shelf.old) (S.load_count shelf.new) (λ _. ⊥) }
-    ensures saves { S.save_count shelf.new ≡ S.save_count shelf.old }
-    ensures telling { S.tells shelf.new ≡ S.tells shelf.old }
-    ensures same { (n : List ℕ) → S.tells shelf.old ≡ true → S.held shelf.new n ≡ S.held shelf.old n }
-    ensures value { IfOk result (λ v. S.tells shelf.old ≡ true → Loads (S.held shelf.old name.now) limit v.items) }
-    ensures there { IfOk result (λ v. S.tells shelf.old ≡ true → IsThere (S.held shelf.old name.now)) }
+    ensures ends { LoadEnds result (S.state shelf.old).load_count (S.state shelf.new).load_count (λ _. ⊥) }
+    ensures saves { (S.state shelf.new).save_count ≡ (S.state shelf.old).save_count }
+    ensures telling { (S.state shelf.new).tells ≡ (S.state shelf.old).tells }
+    ensures same { (n : List ℕ) → (S.state shelf.old).tells ≡ true
+        → (S.state shelf.new).held n ≡ (S.state shelf.old).held n }
+    ensures value { IfOk result (λ v. (S.state shelf.old).tells ≡ true
+        → Loads ((S.state shelf.old).held name.now) limit v.items) }
+    ensures there { IfOk result (λ v. (S.state shelf.old).tells ≡ true → IsThere ((S.state shelf.old).held name.now)) }
 {
     match shelf.load(alloc, name, limit) {
         Ok(text) => Ok(text),
@@ -64,12 +66,14 @@ fn load_text<S: Shelf>(
 /// Loads a source, whose length has a rule of its own: of one that is longer than its limit there is one byte more than
 /// that.
 pub fn load_source<S: Shelf>(alloc: Global, shelf: &mut S, name: &str) -> Result<Vec<u8>, Status>
-    ensures ends { LoadEnds result (S.load_count shelf.old) (S.load_count shelf.new) (λ _. ⊥) }
-    ensures saves { S.save_count shelf.new ≡ S.save_count shelf.old }
-    ensures telling { S.tells shelf.new ≡ S.tells shelf.old }
-    ensures same { (n : List ℕ) → S.tells shelf.old ≡ true → S.held shelf.new n ≡ S.held shelf.old n }
-    ensures value { IfOk result (λ v. S.tells shelf.old ≡ true → Loads (S.held shelf.old name.now) 1048576 v.items) }
-    ensures there { IfOk result (λ v. S.tells shelf.old ≡ true → IsThere (S.held shelf.old name.now)) }
+    ensures ends { LoadEnds result (S.state shelf.old).load_count (S.state shelf.new).load_count (λ _. ⊥) }
+    ensures saves { (S.state shelf.new).save_count ≡ (S.state shelf.old).save_count }
+    ensures telling { (S.state shelf.new).tells ≡ (S.state shelf.old).tells }
+    ensures same { (n : List ℕ) → (S.state shelf.old).tells ≡ true
+        → (S.state shelf.new).held n ≡ (S.state shelf.old).held n }
+    ensures value { IfOk result (λ v. (S.state shelf.old).tells ≡ true
+        → Loads ((S.state shelf.old).held name.now) 1048576 v.items) }
+    ensures there { IfOk result (λ v. (S.state shelf.old).tells ≡ true → IsThere ((S.state shelf.old).held name.now)) }
 {
     load_text(alloc, shelf, name, TEXT_LIMIT)
 }
@@ -92,12 +96,14 @@ fn load_whole<S: Shelf>(
     limit: u32,
 ) -> Result<Vec<u8>, Status>
     requires { limit < 4294967295 }
-    ensures ends { LoadEnds result (S.load_count shelf.old) (S.load_count shelf.new) (λ said.
-        (said ≡ name.now) × (S.tells shelf.old ≡ true → IsBeyond limit (S.held shelf.old name.now))) }
-    ensures saves { S.save_count shelf.new ≡ S.save_count shelf.old }
-    ensures telling { S.tells shelf.new ≡ S.tells shelf.old }
-    ensures same { (n : List ℕ) → S.tells shelf.old ≡ true → S.held shelf.new n ≡ S.held shelf.old n }
-    ensures whole { IfOk result (λ v. S.tells shelf.old ≡ true → S.held shelf.old name.now ≡ Some v.items) }
+    ensures ends { LoadEnds result (S.state shelf.old).load_count (S.state shelf.new).load_count (λ said.
+        (said ≡ name.now) × ((S.state shelf.old).tells ≡ true → IsBeyond limit ((S.state shelf.old).held name.now))) }
+    ensures saves { (S.state shelf.new).save_count ≡ (S.state shelf.old).save_count }
+    ensures telling { (S.state shelf.new).tells ≡ (S.state shelf.old).tells }
+    ensures same { (n : List ℕ) → (S.state shelf.old).tells ≡ true
+        → (S.state shelf.new).held n ≡ (S.state shelf.old).held n }
+    ensures whole { IfOk result (λ v. (S.state shelf.old).tells ≡ true
+        → (S.state shelf.old).held name.now ≡ Some v.items) }
     ensures within { IfOk result (λ v. length v.items ≤ limit) }
 {
     let text = load_text(alloc, shelf, name, limit)?;
@@ -110,19 +116,20 @@ fn load_whole<S: Shelf>(
 /// Loads the source, the script and the input, in this order. The script and the input are refused directly where they
 /// are too long.
 pub fn load_texts<S: Shelf>(alloc: Global, shelf: &mut S, job: &Debug) -> Result<Texts, Status>
-    ensures ends { LoadEnds result (S.load_count shelf.old) (S.load_count shelf.new) (λ said.
-        S.tells shelf.old ≡ true → IsTooLong (S.held shelf.old) (debug (debug_given job.now)) said) }
-    ensures saves { S.save_count shelf.new ≡ S.save_count shelf.old }
-    ensures telling { S.tells shelf.new ≡ S.tells shelf.old }
-    ensures same { (n : List ℕ) → S.tells shelf.old ≡ true → S.held shelf.new n ≡ S.held shelf.old n }
-    ensures source { IfOk result (λ t.
-        S.tells shelf.old ≡ true → Loads (S.held shelf.old (debug_given job.now).source) 1048576 t.source.items) }
-    ensures there { IfOk result (λ t. S.tells shelf.old ≡ true
-        → IsThere (S.held shelf.old (debug_given job.now).source)) }
-    ensures script { IfOk result (λ t.
-        S.tells shelf.old ≡ true → S.held shelf.old (debug_given job.now).script ≡ Some t.script.items) }
-    ensures input { IfOk result (λ t. S.tells shelf.old ≡ true
-        → S.held shelf.old (debug_given job.now).input ≡ Some t.input.items) }
+    ensures ends { LoadEnds result (S.state shelf.old).load_count (S.state shelf.new).load_count (λ said.
+        (S.state shelf.old).tells ≡ true → IsTooLong (S.state shelf.old).held (debug (debug_given job.now)) said) }
+    ensures saves { (S.state shelf.new).save_count ≡ (S.state shelf.old).save_count }
+    ensures telling { (S.state shelf.new).tells ≡ (S.state shelf.old).tells }
+    ensures same { (n : List ℕ) → (S.state shelf.old).tells ≡ true
+        → (S.state shelf.new).held n ≡ (S.state shelf.old).held n }
+    ensures source { IfOk result (λ t. (S.state shelf.old).tells ≡ true
+        → Loads ((S.state shelf.old).held (debug_given job.now).source) 1048576 t.source.items) }
+    ensures there { IfOk result (λ t. (S.state shelf.old).tells ≡ true
+        → IsThere ((S.state shelf.old).held (debug_given job.now).source)) }
+    ensures script { IfOk result (λ t. (S.state shelf.old).tells ≡ true
+        → (S.state shelf.old).held (debug_given job.now).script ≡ Some t.script.items) }
+    ensures input { IfOk result (λ t. (S.state shelf.old).tells ≡ true
+        → (S.state shelf.old).held (debug_given job.now).input ≡ Some t.input.items) }
     ensures script_within { IfOk result (λ t. length t.script.items ≤ 1048576) }
     ensures input_within { IfOk result (λ t. length t.input.items ≤ input_limit) }
 {
@@ -150,17 +157,18 @@ pub fn load_attached<S: Shelf>(
     shelf: &mut S,
     job: &Attach,
 ) -> Result<Attached, Status>
-    ensures ends { LoadEnds result (S.load_count shelf.old) (S.load_count shelf.new) (λ said.
-        S.tells shelf.old ≡ true → IsTooLong (S.held shelf.old) (attach (attach_given job.now)) said) }
-    ensures saves { S.save_count shelf.new ≡ S.save_count shelf.old }
-    ensures telling { S.tells shelf.new ≡ S.tells shelf.old }
-    ensures same { (n : List ℕ) → S.tells shelf.old ≡ true → S.held shelf.new n ≡ S.held shelf.old n }
-    ensures image { IfOk result (λ t. S.tells shelf.old ≡ true
-        → S.held shelf.old (attach_given job.now).image ≡ Some t.image.items) }
-    ensures script { IfOk result (λ t.
-        S.tells shelf.old ≡ true → S.held shelf.old (attach_given job.now).script ≡ Some t.script.items) }
-    ensures input { IfOk result (λ t. S.tells shelf.old ≡ true
-        → S.held shelf.old (attach_given job.now).input ≡ Some t.input.items) }
+    ensures ends { LoadEnds result (S.state shelf.old).load_count (S.state shelf.new).load_count (λ said.
+        (S.state shelf.old).tells ≡ true → IsTooLong (S.state shelf.old).held (attach (attach_given job.now)) said) }
+    ensures saves { (S.state shelf.new).save_count ≡ (S.state shelf.old).save_count }
+    ensures telling { (S.state shelf.new).tells ≡ (S.state shelf.old).tells }
+    ensures same { (n : List ℕ) → (S.state shelf.old).tells ≡ true
+        → (S.state shelf.new).held n ≡ (S.state shelf.old).held n }
+    ensures image { IfOk result (λ t. (S.state shelf.old).tells ≡ true
+        → (S.state shelf.old).held (attach_given job.now).image ≡ Some t.image.items) }
+    ensures script { IfOk result (λ t. (S.state shelf.old).tells ≡ true
+        → (S.state shelf.old).held (attach_given job.now).script ≡ Some t.script.items) }
+    ensures input { IfOk result (λ t. (S.state shelf.old).tells ≡ true
+        → (S.state shelf.old).held (attach_given job.now).input ≡ Some t.input.items) }
     ensures image_within { IfOk result (λ t. length t.image.items ≤ image_limit) }
     ensures script_within { IfOk result (λ t. length t.script.items ≤ 1048576) }
     ensures input_within { IfOk result (λ t. length t.input.items ≤ input_limit) }
@@ -182,13 +190,16 @@ pub fn save_image<S: Shelf>(
     name: &str,
     bytes: &[u8],
 ) -> Result<(), Status>
-    ensures ends { WriteEnds result (S.save_count shelf.old) (S.save_count shelf.new) }
-    ensures loads { S.load_count shelf.new ≡ S.load_count shelf.old }
-    ensures telling { S.tells shelf.new ≡ S.tells shelf.old }
-    ensures others { (n : List ℕ) → n ≢ name.now → S.tells shelf.old ≡ true → S.held shelf.new n ≡ S.held shelf.old n }
-    ensures saved { OnOk result (S.tells shelf.old ≡ true → S.held shelf.new name.now ≡ Some bytes.now) }
+    ensures ends { WriteEnds result (S.state shelf.old).save_count (S.state shelf.new).save_count }
+    ensures loads { (S.state shelf.new).load_count ≡ (S.state shelf.old).load_count }
+    ensures telling { (S.state shelf.new).tells ≡ (S.state shelf.old).tells }
+    ensures others { (n : List ℕ) → n ≢ name.now → (S.state shelf.old).tells ≡ true
+        → (S.state shelf.new).held n ≡ (S.state shelf.old).held n }
+    ensures saved { OnOk result ((S.state shelf.old).tells ≡ true
+        → (S.state shelf.new).held name.now ≡ Some bytes.now) }
     ensures part { OnErr result
-        (S.tells shelf.old ≡ true → IsKeptOrCut bytes.now (S.held shelf.old name.now) (S.held shelf.new name.now)) }
+        ((S.state shelf.old).tells ≡ true
+        → IsKeptOrCut bytes.now ((S.state shelf.old).held name.now) ((S.state shelf.new).held name.now)) }
 {
     match shelf.save(alloc, name, bytes) {
         Ok(()) => Ok(()),

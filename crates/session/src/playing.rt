@@ -20,12 +20,13 @@ use stop_engine::Engine;
 
 // Puts a text as a line, in one piece.
 fn put_line<K: Sink>(alloc: Global, text: &[u8], sink: &mut K) -> Result<(), Status>
-    ensures ends { WriteEnds result (K.fault_count sink.old) (K.fault_count sink.new) }
-    ensures telling { K.tells sink.new ≡ K.tells sink.old }
-    ensures whole { OnOk result (K.tells sink.old ≡ true
-        → K.taken sink.new ≡ K.taken sink.old ++ line text.now) }
+    ensures ends { WriteEnds result (K.state sink.old).fault_count (K.state sink.new).fault_count }
+    ensures telling { (K.state sink.new).tells ≡ (K.state sink.old).tells }
+    ensures whole { OnOk result ((K.state sink.old).tells ≡ true
+        → (K.state sink.new).taken ≡ (K.state sink.old).taken ++ line text.now) }
     ensures part { OnErr result
-        (K.tells sink.old ≡ true → TakesPart (line text.now) (K.taken sink.old) (K.taken sink.new)) }
+        ((K.state sink.old).tells ≡ true
+        → TakesPart (line text.now) (K.state sink.old).taken (K.state sink.new).taken) }
 {
     let Ok(mut piece) = text.to_vec(alloc) else {
         return Err(Status::NoMemory);
@@ -42,14 +43,14 @@ fn put_line<K: Sink>(alloc: Global, text: &[u8], sink: &mut K) -> Result<(), Sta
 
 /// Puts the lines one after the other.
 pub fn put_lines<K: Sink>(alloc: Global, lines: &[Vec<u8>], sink: &mut K) -> Result<(), Status>
-    ensures ends { WriteEnds result (K.fault_count sink.old) (K.fault_count sink.new) }
-    ensures telling { K.tells sink.new ≡ K.tells sink.old }
+    ensures ends { WriteEnds result (K.state sink.old).fault_count (K.state sink.new).fault_count }
+    ensures telling { (K.state sink.new).tells ≡ (K.state sink.old).tells }
     ensures whole { OnOk result
-        (K.tells sink.old ≡ true
-        → K.taken sink.new ≡ K.taken sink.old ++ flat_map line (map (λ l. l.items) lines.now)) }
+        ((K.state sink.old).tells ≡ true
+        → (K.state sink.new).taken ≡ (K.state sink.old).taken ++ flat_map line (map (λ l. l.items) lines.now)) }
     ensures part { OnErr result
-        (K.tells sink.old ≡ true
-        → TakesPart (flat_map line (map (λ l. l.items) lines.now)) (K.taken sink.old) (K.taken sink.new)) }
+        ((K.state sink.old).tells ≡ true
+        → TakesPart (flat_map line (map (λ l. l.items) lines.now)) (K.state sink.old).taken (K.state sink.new).taken) }
 {
     for text in lines {
         put_line(alloc, text, sink)?;
@@ -64,14 +65,16 @@ fn carry_out<K: Sink>(
     commands: &[Command],
     sink: &mut K,
 ) -> Result<(), Status>
-    ensures ends { WriteEnds result (K.fault_count sink.old) (K.fault_count sink.new) }
-    ensures telling { K.tells sink.new ≡ K.tells sink.old }
+    ensures ends { WriteEnds result (K.state sink.old).fault_count (K.state sink.new).fault_count }
+    ensures telling { (K.state sink.new).tells ≡ (K.state sink.old).tells }
     ensures whole { OnOk result
-        (K.tells sink.old ≡ true
-        → K.taken sink.new ≡ K.taken sink.old ++ flat_map line (lines_of engine.old (orders commands.now))) }
+        ((K.state sink.old).tells ≡ true
+        → (K.state sink.new).taken
+        ≡ (K.state sink.old).taken ++ flat_map line (lines_of engine.old (orders commands.now))) }
     ensures part { OnErr result
-        (K.tells sink.old ≡ true
-        → TakesPart (flat_map line (lines_of engine.old (orders commands.now))) (K.taken sink.old) (K.taken sink.new)) }
+        ((K.state sink.old).tells ≡ true
+        → TakesPart (flat_map line (lines_of engine.old (orders commands.now)))
+        (K.state sink.old).taken (K.state sink.new).taken) }
 {
     for command in commands {
         let Ok(lines) = engine.answer(alloc, command) else {
@@ -94,16 +97,16 @@ pub fn play<K: Sink>(
 ) -> Result<(), Status>
     requires { IsImage (viewed image.now) }
     ensures bytes { AllByRecursion (λ b. b < 256) input.now }
-    ensures ends { WriteEnds result (K.fault_count sink.old) (K.fault_count sink.new) }
-    ensures telling { K.tells sink.new ≡ K.tells sink.old }
+    ensures ends { WriteEnds result (K.state sink.old).fault_count (K.state sink.new).fault_count }
+    ensures telling { (K.state sink.new).tells ≡ (K.state sink.old).tells }
     ensures whole { OnOk result
-        (K.tells sink.old ≡ true
-        → K.taken sink.new ≡ K.taken sink.old
+        ((K.state sink.old).tells ≡ true
+        → (K.state sink.new).taken ≡ (K.state sink.old).taken
         ++ transcript_bytes (viewed image.now) (orders commands.now) input.now limit) }
     ensures part { OnErr result
-        (K.tells sink.old ≡ true
+        ((K.state sink.old).tells ≡ true
         → TakesPart (transcript_bytes (viewed image.now) (orders commands.now) input.now limit)
-        (K.taken sink.old) (K.taken sink.new)) }
+        (K.state sink.old).taken (K.state sink.new).taken) }
 {
     let Ok(mut engine) = Engine::new(alloc, image, input, limit) else {
         return Err(Status::NoMemory);

@@ -1,6 +1,7 @@
 //! The generated program, compiled and run to its end.
 
-ghost use Rattle.std.specs.Prelude.{◌≡◌, ◌≤◌, ℕ, Bool, List, Option, IfOk, map};
+ghost use Rattle.std.specs.Prelude.{◌≡◌, ◌≤◌, IfOk, map};
+ghost use Rattle.outside.specs.States.{ShelfState};
 ghost use Rattle.command_line.specs.Job as given;
 ghost use Rattle.session.specs.Ending.{Ends};
 ghost use Rattle.session.specs.Served.{CanRun, default_names};
@@ -106,27 +107,11 @@ pub fn put_summary<K: Sink>(
     sink: &mut K,
 ) -> Status
     requires { CanRun (λ p. named p) passes.now default_names }
-    ensures { (loads saves : ℕ) (shelf_tells : Bool) (held : List ℕ → Option (List ℕ)) →
+    ensures { (shelf : ShelfState) →
         Ends (λ p. named p) (λ p. (steps p).leads) passes.now (given.sweep (given.sweep_given job.now))
-        (record {
-          loads = loads;
-          saves = saves;
-          puts = K.fault_count sink.old;
-          shelf_tells = shelf_tells;
-          held = held;
-          sink_tells = K.tells sink.old;
-          taken = K.taken sink.old;
-        })
+        (record { shelf = shelf; sink = K.state sink.old })
         result
-        (record {
-          loads = loads;
-          saves = saves;
-          puts = K.fault_count sink.new;
-          shelf_tells = shelf_tells;
-          held = held;
-          sink_tells = K.tells sink.new;
-          taken = K.taken sink.new;
-        }) }
+        (record { shelf = shelf; sink = K.state sink.new }) }
 {
     let summary = match swept(alloc, job, passes) {
         Ok(summary) => summary,

@@ -34,25 +34,9 @@ fn serve<S: Shelf, K: Sink>(
 ) -> Status
     requires { CanRun (λ p. named p) passes.now (needed (job_given job.now)) }
     ensures { Ends (λ p. named p) (λ p. (steps p).leads) passes.now (job_given job.now)
-        (record {
-          loads = S.load_count shelf.old;
-          saves = S.save_count shelf.old;
-          puts = K.fault_count sink.old;
-          shelf_tells = S.tells shelf.old;
-          held = S.held shelf.old;
-          sink_tells = K.tells sink.old;
-          taken = K.taken sink.old;
-        })
+        (record { shelf = S.state shelf.old; sink = K.state sink.old })
         result
-        (record {
-          loads = S.load_count shelf.new;
-          saves = S.save_count shelf.new;
-          puts = K.fault_count sink.new;
-          shelf_tells = S.tells shelf.new;
-          held = S.held shelf.new;
-          sink_tells = K.tells sink.new;
-          taken = K.taken sink.new;
-        }) }
+        (record { shelf = S.state shelf.new; sink = K.state sink.new }) }
 {
     match job {
         Job::Debug(job) => debug(alloc, job, passes, shelf, sink),
@@ -92,72 +76,74 @@ pub fn session<S: Shelf, K: Sink>(
     ensures usage_only { AreNotServed (λ p. named p) passes.now (map string_bytes words.now)
         → (result ≡ Usage) ⊎ (result ≡ NoMemory) }
     ensures audit { (rule : Code) (line : ℕ) → result ≢ AuditFailed rule line }
-    ensures read { result ≡ ReadFault → RoseOrStands (S.load_count shelf.old) (S.load_count shelf.new) }
-    ensures read_only { result ≢ ReadFault → S.load_count shelf.new ≡ S.load_count shelf.old }
+    ensures read { result ≡ ReadFault → RoseOrStands (S.state shelf.old).load_count (S.state shelf.new).load_count }
+    ensures read_only { result ≢ ReadFault → (S.state shelf.new).load_count ≡ (S.state shelf.old).load_count }
     ensures too_long { (asked : JobGiven) (name : String Global)
         → AreServed (λ p. named p) passes.now (map string_bytes words.now) asked → result ≡ TooLong name
-        → S.tells shelf.old ≡ true → IsTooLong (S.held shelf.old) asked (string_bytes name) }
+        → (S.state shelf.old).tells ≡ true → IsTooLong (S.state shelf.old).held asked (string_bytes name) }
     ensures within { (asked : JobGiven) → AreServed (λ p. named p) passes.now (map string_bytes words.now) asked
-        → HasLoaded result → S.tells shelf.old ≡ true → AreWithin (S.held shelf.old) asked }
+        → HasLoaded result → (S.state shelf.old).tells ≡ true → AreWithin (S.state shelf.old).held asked }
     ensures image { (asked : JobGiven) (code : Code) (offset : ℕ)
         → AreServed (λ p. named p) passes.now (map string_bytes words.now) asked → result ≡ ImageRefused code offset
-        → S.tells shelf.old ≡ true → ImageIsRefused (S.held shelf.old) asked code offset }
+        → (S.state shelf.old).tells ≡ true → ImageIsRefused (S.state shelf.old).held asked code offset }
     ensures source { (asked : JobGiven) (code : Code) (line : ℕ)
         → AreServed (λ p. named p) passes.now (map string_bytes words.now) asked → result ≡ SourceRefused code line
-        → S.tells shelf.old ≡ true → SourceIsRefused (S.held shelf.old) asked code line }
+        → (S.state shelf.old).tells ≡ true → SourceIsRefused (S.state shelf.old).held asked code line }
     ensures script { (asked : JobGiven) (code : Code) (line : ℕ)
         → AreServed (λ p. named p) passes.now (map string_bytes words.now) asked → result ≡ ScriptRefused code line
-        → S.tells shelf.old ≡ true → ScriptIsRefused (S.held shelf.old) asked code line }
+        → (S.state shelf.old).tells ≡ true → ScriptIsRefused (S.state shelf.old).held asked code line }
     ensures accepted { (asked : JobGiven) → AreServed (λ p. named p) passes.now (map string_bytes words.now) asked
-        → (result ≡ Done) ⊎ (result ≡ WriteFault) → S.tells shelf.old ≡ true → AreAccepted (S.held shelf.old) asked }
+        → (result ≡ Done) ⊎ (result ≡ WriteFault) → (S.state shelf.old).tells ≡ true
+        → AreAccepted (S.state shelf.old).held asked }
     ensures write { result ≡ WriteFault
-        → RoseOrStands (S.save_count shelf.old) (S.save_count shelf.new)
-        ⊎ RoseOrStands (K.fault_count sink.old) (K.fault_count sink.new) }
+        → RoseOrStands (S.state shelf.old).save_count (S.state shelf.new).save_count
+        ⊎ RoseOrStands (K.state sink.old).fault_count (K.state sink.new).fault_count }
     ensures write_only { result ≢ WriteFault
-        → (S.save_count shelf.new ≡ S.save_count shelf.old) × (K.fault_count sink.new ≡ K.fault_count sink.old) }
+        → ((S.state shelf.new).save_count ≡ (S.state shelf.old).save_count)
+        × ((K.state sink.new).fault_count ≡ (K.state sink.old).fault_count) }
     ensures complete { (asked : JobGiven) → AreServed (λ p. named p) passes.now (map string_bytes words.now) asked
-        → S.tells shelf.old ≡ true → AreWithin (S.held shelf.old) asked → AreAccepted (S.held shelf.old) asked
-        → ¬ RoseOrStands (S.load_count shelf.old) (S.load_count shelf.new)
-        → ¬ RoseOrStands (S.save_count shelf.old) (S.save_count shelf.new)
-        → ¬ RoseOrStands (K.fault_count sink.old) (K.fault_count sink.new)
+        → (S.state shelf.old).tells ≡ true → AreWithin (S.state shelf.old).held asked
+        → AreAccepted (S.state shelf.old).held asked
+        → ¬ RoseOrStands (S.state shelf.old).load_count (S.state shelf.new).load_count
+        → ¬ RoseOrStands (S.state shelf.old).save_count (S.state shelf.new).save_count
+        → ¬ RoseOrStands (K.state sink.old).fault_count (K.state sink.new).fault_count
         → (result ≡ Done) ⊎ (result ≡ NoMemory) }
 
-    // What stays: before anything was saved or put out nothing changes, and only the image's name of a `debug` or a
-    // `compile` ever does.
-    ensures kept { IsEarly result → S.tells shelf.old ≡ true → (n : List ℕ) → S.held shelf.new n ≡ S.held shelf.old n }
-    ensures nothing { IsEarly result → K.tells sink.old ≡ true → K.taken sink.new ≡ K.taken sink.old }
+    // What stays: before anything was saved or put out nothing changes, nor where the words ask for no job, and only the
+    // image's name of a `debug` or a `compile` ever does.
+    ensures kept { IsEarly result ⊎ AreNotServed (λ p. named p) passes.now (map string_bytes words.now)
+        → (S.state shelf.old).tells ≡ true → (n : List ℕ) → (S.state shelf.new).held n ≡ (S.state shelf.old).held n }
+    ensures nothing { IsEarly result ⊎ AreNotServed (λ p. named p) passes.now (map string_bytes words.now)
+        → (K.state sink.old).tells ≡ true → (K.state sink.new).taken ≡ (K.state sink.old).taken }
     ensures others { (asked : JobGiven) → AreServed (λ p. named p) passes.now (map string_bytes words.now) asked
-        → S.tells shelf.old ≡ true → (n : List ℕ) → ¬ SavesTo asked n → S.held shelf.new n ≡ S.held shelf.old n }
-    ensures unasked { AreNotServed (λ p. named p) passes.now (map string_bytes words.now)
-        → S.tells shelf.old ≡ true → (n : List ℕ) → S.held shelf.new n ≡ S.held shelf.old n }
-    ensures silent { AreNotServed (λ p. named p) passes.now (map string_bytes words.now) → K.tells sink.old ≡ true
-        → K.taken sink.new ≡ K.taken sink.old }
+        → (S.state shelf.old).tells ≡ true → (n : List ℕ) → ¬ SavesTo asked n
+        → (S.state shelf.new).held n ≡ (S.state shelf.old).held n }
 
     // A `debug` or a `compile` that is done, or that failed at a line and not at the save, leaves under the name of the
     // image one that is truthful to the source: it comes of the source after just the passes that the words name, each in
     // its turn by one step. One that is cut off leaves what stood there, or the first part of such an image.
     ensures saved { (asked : JobGiven) → AreServed (λ p. named p) passes.now (map string_bytes words.now) asked
-        → result ≡ Done → S.tells shelf.old ≡ true
-        → HasSaved (λ p. named p) (λ p. (steps p).leads) passes.now (S.held shelf.old) (S.held shelf.new) asked }
-    ensures whole { (asked : JobGiven) → AreServed (λ p. named p) passes.now (map string_bytes words.now) asked
-        → result ≡ WriteFault → ¬ RoseOrStands (S.save_count shelf.old) (S.save_count shelf.new)
-        → S.tells shelf.old ≡ true
-        → HasSaved (λ p. named p) (λ p. (steps p).leads) passes.now (S.held shelf.old) (S.held shelf.new) asked }
+        → (result ≡ Done) ⊎ ((result ≡ WriteFault)
+        × ¬ RoseOrStands (S.state shelf.old).save_count (S.state shelf.new).save_count)
+        → (S.state shelf.old).tells ≡ true
+        → HasSaved (λ p. named p) (λ p. (steps p).leads) passes.now
+        (S.state shelf.old).held (S.state shelf.new).held asked }
     ensures left { (asked : JobGiven) → AreServed (λ p. named p) passes.now (map string_bytes words.now) asked
-        → IsCut result → S.tells shelf.old ≡ true
-        → HasLeft (λ p. named p) (λ p. (steps p).leads) passes.now (S.held shelf.old) (S.held shelf.new) asked }
+        → IsCut result → (S.state shelf.old).tells ≡ true
+        → HasLeft (λ p. named p) (λ p. (steps p).leads) passes.now
+        (S.state shelf.old).held (S.state shelf.new).held asked }
 
     // A session that is done has put out all that its job prints: the transcript of the image, which is the one that a
     // `debug` saved; the lines of all changes that the passes of a `passes` make, each in its turn by one step; the summary
     // of an image of the generated source after the default passes. One that is cut off has put out the first part of that.
     ensures part { (asked : JobGiven) → AreServed (λ p. named p) passes.now (map string_bytes words.now) asked
-        → IsCut result → S.tells shelf.old ≡ true → K.tells sink.old ≡ true
-        → TookPart (λ p. named p) (λ p. (steps p).leads) passes.now (S.held shelf.old) (S.held shelf.new) asked
-        (K.taken sink.old) (K.taken sink.new) }
+        → IsCut result → (S.state shelf.old).tells ≡ true → (K.state sink.old).tells ≡ true
+        → TookPart (λ p. named p) (λ p. (steps p).leads) passes.now (S.state shelf.old).held (S.state shelf.new).held
+        asked (K.state sink.old).taken (K.state sink.new).taken }
     ensures done { (asked : JobGiven) → AreServed (λ p. named p) passes.now (map string_bytes words.now) asked
-        → result ≡ Done → S.tells shelf.old ≡ true → K.tells sink.old ≡ true
-        → IsDone (λ p. named p) (λ p. (steps p).leads) passes.now (S.held shelf.old) (S.held shelf.new) asked
-        (K.taken sink.old) (K.taken sink.new) }
+        → result ≡ Done → (S.state shelf.old).tells ≡ true → (K.state sink.old).tells ≡ true
+        → IsDone (λ p. named p) (λ p. (steps p).leads) passes.now (S.state shelf.old).held (S.state shelf.new).held
+        asked (K.state sink.old).taken (K.state sink.new).taken }
 {
     match asked(alloc, words, passes) {
         Ok(job) => serve(alloc, &job, passes, shelf, sink),

@@ -21,7 +21,7 @@ returns-in-Ok-play g c = record {
     source = search rules;
     script = search rules;
     accepted = λ e told.
-        attached_accepted c.in-Ok-view_image.image c.in-Ok-read_script.commands c.deref.result.now c.deref-2.result.now (g.S.Shelf.held c.args.shelf.now) (attach_given c.args.job.now)
+        attached_accepted c.in-Ok-view_image.image c.in-Ok-read_script.commands c.deref.result.now c.deref-2.result.now (g.S.Shelf.state c.args.shelf.now).held (attach_given c.args.job.now)
         c.in-Ok-view_image.ensures c.in-Ok-read_script.ensures (c.in-Ok.ensures.image told ∙ ap Some (sym c.deref.ensures.value)) (c.in-Ok.ensures.script told ∙ ap Some (sym c.deref-2.ensures.value));
     write = search rules;
     write_only = search rules;
@@ -32,7 +32,7 @@ returns-in-Ok-play g c = record {
     part = search rules;
     done = λ e told told_sink.
         let limit : c.from-limit.result ≡ (attach_given c.args.job.now).limit = search rules in
-        let prints = attached c.in-Ok-view_image.image c.in-Ok-read_script.commands c.deref.result.now c.deref-2.result.now c.in-Ok.texts.input.items (g.S.Shelf.held c.args.shelf.now) (attach_given c.args.job.now)
+        let prints = attached c.in-Ok-view_image.image c.in-Ok-read_script.commands c.deref.result.now c.deref-2.result.now c.in-Ok.texts.input.items (g.S.Shelf.state c.args.shelf.now).held (attach_given c.args.job.now)
         c.in-Ok-view_image.ensures c.in-Ok-read_script.ensures
         (c.in-Ok.ensures.image told ∙ ap Some (sym c.deref.ensures.value))
         (c.in-Ok.ensures.script told ∙ ap Some (sym c.deref-2.ensures.value))
@@ -41,7 +41,7 @@ returns-in-Ok-play g c = record {
         record {
           printed = transcript_bytes (viewed c.in-Ok-view_image.image) (orders c.in-Ok-read_script.commands.items) c.in-Ok.texts.input.items (attach_given c.args.job.now).limit;
           prints = prints;
-          whole = c.in-Ok-play.ensures.whole told_sink ∙ ap (λ p. g.K.Sink.taken c.args.sink.now ++ p) same;
+          whole = c.in-Ok-play.ensures.whole told_sink ∙ ap (λ p. (g.K.Sink.state c.args.sink.now).taken ++ p) same;
         };
   };
 }
@@ -58,7 +58,7 @@ returns-in-Err-read_script g c = record {
     image = search rules;
     source = search rules;
     script = λ code at e told.
-        attached_refused c.in-Err-read_script.status code at c.in-Ok-view_image.image c.deref.result.now c.deref-2.result.now (g.S.Shelf.held c.args.shelf.now) (attach_given c.args.job.now)
+        attached_refused c.in-Err-read_script.status code at c.in-Ok-view_image.image c.deref.result.now c.deref-2.result.now (g.S.Shelf.state c.args.shelf.now).held (attach_given c.args.job.now)
         e c.in-Ok-view_image.ensures c.in-Err-read_script.ensures (c.in-Ok.ensures.image told ∙ ap Some (sym c.deref.ensures.value)) (c.in-Ok.ensures.script told ∙ ap Some (sym c.deref-2.ensures.value));
     accepted = search rules;
     write = search rules;
@@ -86,21 +86,21 @@ returns g c = record {
     source = search rules;
     script = search rules;
     accepted = λ e told.
-        attached_accepted c.in-Ok-view_image.image c.in-Ok-read_script.commands c.deref.result.now c.deref-2.result.now (g.S.Shelf.held c.args.shelf.now) (attach_given c.args.job.now)
+        attached_accepted c.in-Ok-view_image.image c.in-Ok-read_script.commands c.deref.result.now c.deref-2.result.now (g.S.Shelf.state c.args.shelf.now).held (attach_given c.args.job.now)
         c.in-Ok-view_image.ensures c.in-Ok-read_script.ensures (c.in-Ok.ensures.image told ∙ ap Some (sym c.deref.ensures.value)) (c.in-Ok.ensures.script told ∙ ap Some (sym c.deref-2.ensures.value));
     write = search rules;
     write_only = search rules;
   };
   stays = record {
     kept = λ early told n. c.in-Ok.ensures.same n told;
-    nothing = λ early told. absurd (written_late (Unit {0}) c.in-Err-play.status (g.K.Sink.fault_count c.args.sink.now) (g.K.Sink.fault_count c.play.new.sink) c.in-Err-play.ensures.ends early);
+    nothing = λ early told. absurd (written_late (Unit {0}) c.in-Err-play.status (g.K.Sink.state c.args.sink.now).fault_count (g.K.Sink.state c.play.new.sink).fault_count c.in-Err-play.ensures.ends early);
     others = λ told n unsaved. c.in-Ok.ensures.same n told;
   };
   image = search rules;
   transcript = record {
     part = λ cut told told_sink.
         let limit : c.from-limit.result ≡ (attach_given c.args.job.now).limit = search rules in
-        let prints = attached c.in-Ok-view_image.image c.in-Ok-read_script.commands c.deref.result.now c.deref-2.result.now c.in-Ok.texts.input.items (g.S.Shelf.held c.args.shelf.now) (attach_given c.args.job.now)
+        let prints = attached c.in-Ok-view_image.image c.in-Ok-read_script.commands c.deref.result.now c.deref-2.result.now c.in-Ok.texts.input.items (g.S.Shelf.state c.args.shelf.now).held (attach_given c.args.job.now)
         c.in-Ok-view_image.ensures c.in-Ok-read_script.ensures
         (c.in-Ok.ensures.image told ∙ ap Some (sym c.deref.ensures.value))
         (c.in-Ok.ensures.script told ∙ ap Some (sym c.deref-2.ensures.value))
@@ -109,7 +109,7 @@ returns g c = record {
         inr (record {
           printed = transcript_bytes (viewed c.in-Ok-view_image.image) (orders c.in-Ok-read_script.commands.items) c.in-Ok.texts.input.items (attach_given c.args.job.now).limit;
           prints = prints;
-          part = subst (λ p. TakesPart p (g.K.Sink.taken c.args.sink.now) (g.K.Sink.taken c.play.new.sink)) same (c.in-Err-play.ensures.part told_sink);
+          part = subst (λ p. TakesPart p (g.K.Sink.state c.args.sink.now).taken (g.K.Sink.state c.play.new.sink).taken) same (c.in-Err-play.ensures.part told_sink);
         });
     done = search rules;
   };

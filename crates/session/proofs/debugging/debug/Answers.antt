@@ -21,7 +21,7 @@ returns-in-Err g c = record {
   image = record {
     saved = search rules;
     whole = search rules;
-    left = λ cut told. nothing_left (λ p. (goal.Pass-dyn g (p.vtable, p.value)).named p.value) (λ p. ((goal.Pass-dyn g (p.vtable, p.value)).steps p.value).leads) c.args.passes.now (g.S.Shelf.held c.args.shelf.now) (g.S.Shelf.held c.load_texts.new.shelf) (debug (debug_given c.args.job.now)) (λ n. c.load_texts.ensures.same n told);
+    left = λ cut told. nothing_left (λ p. (goal.Pass-dyn g (p.vtable, p.value)).named p.value) (λ p. ((goal.Pass-dyn g (p.vtable, p.value)).steps p.value).leads) c.args.passes.now (g.S.Shelf.state c.args.shelf.now).held (g.S.Shelf.state c.load_texts.new.shelf).held (debug (debug_given c.args.job.now)) (λ n. c.load_texts.ensures.same n told);
   };
   transcript = search rules;
 }
@@ -37,8 +37,8 @@ returns-in-Err-make g c = record {
     within = search rules;
     image = search rules;
     source = λ code at e told.
-        source_refused c.in-Err-make.status code at c.deref.result.now (g.S.Shelf.held c.args.shelf.now (debug_given c.args.job.now).source) e c.in-Err-make.ensures
-        (subst (Loads (g.S.Shelf.held c.args.shelf.now (debug_given c.args.job.now).source) 1048576) (sym c.deref.ensures.value) (c.in-Ok.ensures.source told));
+        source_refused c.in-Err-make.status code at c.deref.result.now ((g.S.Shelf.state c.args.shelf.now).held (debug_given c.args.job.now).source) e c.in-Err-make.ensures
+        (subst (Loads ((g.S.Shelf.state c.args.shelf.now).held (debug_given c.args.job.now).source) 1048576) (sym c.deref.ensures.value) (c.in-Ok.ensures.source told));
     script = search rules;
     accepted = search rules;
     write = search rules;
@@ -48,7 +48,7 @@ returns-in-Err-make g c = record {
   image = record {
     saved = search rules;
     whole = search rules;
-    left = λ cut told. nothing_left (λ p. (goal.Pass-dyn g (p.vtable, p.value)).named p.value) (λ p. ((goal.Pass-dyn g (p.vtable, p.value)).steps p.value).leads) c.args.passes.now (g.S.Shelf.held c.args.shelf.now) (g.S.Shelf.held c.load_texts.new.shelf) (debug (debug_given c.args.job.now)) (λ n. c.load_texts.ensures.same n told);
+    left = λ cut told. nothing_left (λ p. (goal.Pass-dyn g (p.vtable, p.value)).named p.value) (λ p. ((goal.Pass-dyn g (p.vtable, p.value)).steps p.value).leads) c.args.passes.now (g.S.Shelf.state c.args.shelf.now).held (g.S.Shelf.state c.load_texts.new.shelf).held (debug (debug_given c.args.job.now)) (λ n. c.load_texts.ensures.same n told);
   };
   transcript = search rules;
 }
@@ -65,8 +65,8 @@ returns-in-Err-read_script g c = record {
     image = search rules;
     source = search rules;
     script = λ code at e told.
-        script_refused c.in-Err-read_script.status code at c.deref.result.now c.deref-2.result.now c.in-Ok-make.made (g.S.Shelf.held c.args.shelf.now) (debug_given c.args.job.now) e c.in-Ok-make.ensures c.in-Err-read_script.ensures
-        (subst (Loads (g.S.Shelf.held c.args.shelf.now (debug_given c.args.job.now).source) 1048576) (sym c.deref.ensures.value) (c.in-Ok.ensures.source told))
+        script_refused c.in-Err-read_script.status code at c.deref.result.now c.deref-2.result.now c.in-Ok-make.made (g.S.Shelf.state c.args.shelf.now).held (debug_given c.args.job.now) e c.in-Ok-make.ensures c.in-Err-read_script.ensures
+        (subst (Loads ((g.S.Shelf.state c.args.shelf.now).held (debug_given c.args.job.now).source) 1048576) (sym c.deref.ensures.value) (c.in-Ok.ensures.source told))
         (c.in-Ok.ensures.script told ∙ ap Some (sym c.deref-2.ensures.value));
     accepted = search rules;
     write = search rules;
@@ -76,7 +76,7 @@ returns-in-Err-read_script g c = record {
   image = record {
     saved = search rules;
     whole = search rules;
-    left = λ cut told. nothing_left (λ p. (goal.Pass-dyn g (p.vtable, p.value)).named p.value) (λ p. ((goal.Pass-dyn g (p.vtable, p.value)).steps p.value).leads) c.args.passes.now (g.S.Shelf.held c.args.shelf.now) (g.S.Shelf.held c.load_texts.new.shelf) (debug (debug_given c.args.job.now)) (λ n. c.load_texts.ensures.same n told);
+    left = λ cut told. nothing_left (λ p. (goal.Pass-dyn g (p.vtable, p.value)).named p.value) (λ p. ((goal.Pass-dyn g (p.vtable, p.value)).steps p.value).leads) c.args.passes.now (g.S.Shelf.state c.args.shelf.now).held (g.S.Shelf.state c.load_texts.new.shelf).held (debug (debug_given c.args.job.now)) (λ n. c.load_texts.ensures.same n told);
   };
   transcript = search rules;
 }
@@ -94,8 +94,8 @@ returns-in-Err-save_image g c = record {
     source = search rules;
     script = search rules;
     accepted = λ e told.
-        both_accepted c.deref.result.now c.deref-2.result.now c.in-Ok-make.made c.in-Ok-read_script.commands (g.S.Shelf.held c.args.shelf.now) (debug_given c.args.job.now) c.in-Ok-make.ensures c.in-Ok-read_script.ensures
-        (subst (Loads (g.S.Shelf.held c.args.shelf.now (debug_given c.args.job.now).source) 1048576) (sym c.deref.ensures.value) (c.in-Ok.ensures.source told))
+        both_accepted c.deref.result.now c.deref-2.result.now c.in-Ok-make.made c.in-Ok-read_script.commands (g.S.Shelf.state c.args.shelf.now).held (debug_given c.args.job.now) c.in-Ok-make.ensures c.in-Ok-read_script.ensures
+        (subst (Loads ((g.S.Shelf.state c.args.shelf.now).held (debug_given c.args.job.now).source) 1048576) (sym c.deref.ensures.value) (c.in-Ok.ensures.source told))
         (c.in-Ok.ensures.script told ∙ ap Some (sym c.deref-2.ensures.value));
     write = search rules;
     write_only = search rules;
@@ -106,10 +106,10 @@ returns-in-Err-save_image g c = record {
     whole = search rules;
     left = λ cut told.
         let image : c.as_str.result.now ≡ (debug_given c.args.job.now).image = search rules in
-        let made = image_made (g.S.Shelf.held c.args.shelf.now) (saving (debug_given c.args.job.now)) c.deref.result.now c.deref-3.result.now c.in-Ok-make.made
-        (subst (Loads (g.S.Shelf.held c.args.shelf.now (debug_given c.args.job.now).source) 1048576) (sym c.deref.ensures.value) (c.in-Ok.ensures.source told))
+        let made = image_made (g.S.Shelf.state c.args.shelf.now).held (saving (debug_given c.args.job.now)) c.deref.result.now c.deref-3.result.now c.in-Ok-make.made
+        (subst (Loads ((g.S.Shelf.state c.args.shelf.now).held (debug_given c.args.job.now).source) 1048576) (sym c.deref.ensures.value) (c.in-Ok.ensures.source told))
         c.in-Ok-make.ensures c.deref-3.ensures.value in
-        part_left (g.S.Shelf.held c.args.shelf.now) (g.S.Shelf.held c.load_texts.new.shelf) (g.S.Shelf.held c.save_image.new.shelf) (saving (debug_given c.args.job.now)) c.as_str.result.now c.deref-3.result.now
+        part_left (g.S.Shelf.state c.args.shelf.now).held (g.S.Shelf.state c.load_texts.new.shelf).held (g.S.Shelf.state c.save_image.new.shelf).held (saving (debug_given c.args.job.now)) c.as_str.result.now c.deref-3.result.now
         made (c.load_texts.ensures.same c.as_str.result.now told) image (c.in-Err-save_image.ensures.part (c.in-Ok.ensures.telling ∙ told));
   };
   transcript = search rules;
@@ -131,8 +131,8 @@ returns-in-Ok-play g c = record {
     source = search rules;
     script = search rules;
     accepted = λ e told.
-        both_accepted c.deref.result.now c.deref-2.result.now c.in-Ok-make.made c.in-Ok-read_script.commands (g.S.Shelf.held c.args.shelf.now) (debug_given c.args.job.now) c.in-Ok-make.ensures c.in-Ok-read_script.ensures
-        (subst (Loads (g.S.Shelf.held c.args.shelf.now (debug_given c.args.job.now).source) 1048576) (sym c.deref.ensures.value) (c.in-Ok.ensures.source told))
+        both_accepted c.deref.result.now c.deref-2.result.now c.in-Ok-make.made c.in-Ok-read_script.commands (g.S.Shelf.state c.args.shelf.now).held (debug_given c.args.job.now) c.in-Ok-make.ensures c.in-Ok-read_script.ensures
+        (subst (Loads ((g.S.Shelf.state c.args.shelf.now).held (debug_given c.args.job.now).source) 1048576) (sym c.deref.ensures.value) (c.in-Ok.ensures.source told))
         (c.in-Ok.ensures.script told ∙ ap Some (sym c.deref-2.ensures.value));
     write = search rules;
     write_only = search rules;
@@ -147,10 +147,10 @@ returns-in-Ok-play g c = record {
   image = record {
     saved = λ e told.
         let image : c.as_str.result.now ≡ (debug_given c.args.job.now).image = search rules in
-        let made = image_made (g.S.Shelf.held c.args.shelf.now) (saving (debug_given c.args.job.now)) c.deref.result.now c.deref-3.result.now c.in-Ok-make.made
-        (subst (Loads (g.S.Shelf.held c.args.shelf.now (debug_given c.args.job.now).source) 1048576) (sym c.deref.ensures.value) (c.in-Ok.ensures.source told))
+        let made = image_made (g.S.Shelf.state c.args.shelf.now).held (saving (debug_given c.args.job.now)) c.deref.result.now c.deref-3.result.now c.in-Ok-make.made
+        (subst (Loads ((g.S.Shelf.state c.args.shelf.now).held (debug_given c.args.job.now).source) 1048576) (sym c.deref.ensures.value) (c.in-Ok.ensures.source told))
         c.in-Ok-make.ensures c.deref-3.ensures.value in
-        whole_saved (g.S.Shelf.held c.args.shelf.now) (g.S.Shelf.held c.save_image.new.shelf) (saving (debug_given c.args.job.now)) c.as_str.result.now c.deref-3.result.now made image (c.in-Ok-save_image.ensures.saved (c.in-Ok.ensures.telling ∙ told));
+        whole_saved (g.S.Shelf.state c.args.shelf.now).held (g.S.Shelf.state c.save_image.new.shelf).held (saving (debug_given c.args.job.now)) c.as_str.result.now c.deref-3.result.now made image (c.in-Ok-save_image.ensures.saved (c.in-Ok.ensures.telling ∙ told));
     whole = search rules;
     left = search rules;
   };
@@ -159,11 +159,11 @@ returns-in-Ok-play g c = record {
     done = λ e told told_sink.
         let image : c.as_str.result.now ≡ (debug_given c.args.job.now).image = search rules in
         let limit : c.from-limit.result ≡ (debug_given c.args.job.now).limit = search rules in
-        let prints = debugged (g.S.Shelf.held c.args.shelf.now) (g.S.Shelf.held c.save_image.new.shelf) (debug_given c.args.job.now) c.deref.result.now c.deref-2.result.now c.in-Ok.texts.input.items c.in-Ok-make.made c.in-Ok-read_script.commands
-        (subst (Loads (g.S.Shelf.held c.args.shelf.now (debug_given c.args.job.now).source) 1048576) (sym c.deref.ensures.value) (c.in-Ok.ensures.source told))
+        let prints = debugged (g.S.Shelf.state c.args.shelf.now).held (g.S.Shelf.state c.save_image.new.shelf).held (debug_given c.args.job.now) c.deref.result.now c.deref-2.result.now c.in-Ok.texts.input.items c.in-Ok-make.made c.in-Ok-read_script.commands
+        (subst (Loads ((g.S.Shelf.state c.args.shelf.now).held (debug_given c.args.job.now).source) 1048576) (sym c.deref.ensures.value) (c.in-Ok.ensures.source told))
         (c.in-Ok.ensures.script told ∙ ap Some (sym c.deref-2.ensures.value))
         (c.in-Ok.ensures.input told) (subst (AllByRecursion (λ b. b < 256)) c.deref-6.ensures.value c.in-Ok-play.ensures.bytes) c.in-Ok-make.ensures c.in-Ok-read_script.ensures
-        (ap (g.S.Shelf.held c.save_image.new.shelf) (sym image) ∙ c.in-Ok-save_image.ensures.saved (c.in-Ok.ensures.telling ∙ told) ∙ ap Some c.deref-3.ensures.value) in
+        (ap (g.S.Shelf.state c.save_image.new.shelf).held (sym image) ∙ c.in-Ok-save_image.ensures.saved (c.in-Ok.ensures.telling ∙ told) ∙ ap Some c.deref-3.ensures.value) in
         let one : viewed c.of_spelling-image.result ≡ form c.in-Ok-make.made.image = viewed_made c.deref.result.now (debug_given c.args.job.now).passes (debug_given c.args.job.now).mode c.in-Ok-make.made c.of_spelling-image.result c.deref-4.result.now
         c.in-Ok-make.ensures c.deref-4.ensures.value c.of_spelling-image.ensures.image c.of_spelling-image.ensures.bytes in
         let same = ap (λ (f : Form). transcript_bytes f (orders c.deref-5.result.now) c.deref-6.result.now c.from-limit.result) one
@@ -171,7 +171,7 @@ returns-in-Ok-play g c = record {
         record {
           printed = transcript_bytes (form c.in-Ok-make.made.image) (orders c.in-Ok-read_script.commands.items) c.in-Ok.texts.input.items (debug_given c.args.job.now).limit;
           prints = prints;
-          whole = c.in-Ok-play.ensures.whole told_sink ∙ ap (λ p. g.K.Sink.taken c.args.sink.now ++ p) same;
+          whole = c.in-Ok-play.ensures.whole told_sink ∙ ap (λ p. (g.K.Sink.state c.args.sink.now).taken ++ p) same;
         };
   };
 }
@@ -189,15 +189,15 @@ returns g c = record {
     source = search rules;
     script = search rules;
     accepted = λ e told.
-        both_accepted c.deref.result.now c.deref-2.result.now c.in-Ok-make.made c.in-Ok-read_script.commands (g.S.Shelf.held c.args.shelf.now) (debug_given c.args.job.now) c.in-Ok-make.ensures c.in-Ok-read_script.ensures
-        (subst (Loads (g.S.Shelf.held c.args.shelf.now (debug_given c.args.job.now).source) 1048576) (sym c.deref.ensures.value) (c.in-Ok.ensures.source told))
+        both_accepted c.deref.result.now c.deref-2.result.now c.in-Ok-make.made c.in-Ok-read_script.commands (g.S.Shelf.state c.args.shelf.now).held (debug_given c.args.job.now) c.in-Ok-make.ensures c.in-Ok-read_script.ensures
+        (subst (Loads ((g.S.Shelf.state c.args.shelf.now).held (debug_given c.args.job.now).source) 1048576) (sym c.deref.ensures.value) (c.in-Ok.ensures.source told))
         (c.in-Ok.ensures.script told ∙ ap Some (sym c.deref-2.ensures.value));
     write = search rules;
     write_only = search rules;
   };
   stays = record {
-    kept = λ early told n. absurd (cut_late (Unit {0}) c.in-Err-play.status (g.K.Sink.fault_count c.args.sink.now) (g.K.Sink.fault_count c.play.new.sink) c.in-Err-play.ensures.ends early);
-    nothing = λ early told. absurd (cut_late (Unit {0}) c.in-Err-play.status (g.K.Sink.fault_count c.args.sink.now) (g.K.Sink.fault_count c.play.new.sink) c.in-Err-play.ensures.ends early);
+    kept = λ early told n. absurd (cut_late (Unit {0}) c.in-Err-play.status (g.K.Sink.state c.args.sink.now).fault_count (g.K.Sink.state c.play.new.sink).fault_count c.in-Err-play.ensures.ends early);
+    nothing = λ early told. absurd (cut_late (Unit {0}) c.in-Err-play.status (g.K.Sink.state c.args.sink.now).fault_count (g.K.Sink.state c.play.new.sink).fault_count c.in-Err-play.ensures.ends early);
     others = λ told n other.
         let image : c.as_str.result.now ≡ (debug_given c.args.job.now).image = search rules in
         c.save_image.ensures.others n (λ same. other (same ∙ image)) (c.in-Ok.ensures.telling ∙ told) ∙ c.load_texts.ensures.same n told;
@@ -206,26 +206,26 @@ returns g c = record {
     saved = search rules;
     whole = λ e saves told.
         let image : c.as_str.result.now ≡ (debug_given c.args.job.now).image = search rules in
-        let made = image_made (g.S.Shelf.held c.args.shelf.now) (saving (debug_given c.args.job.now)) c.deref.result.now c.deref-3.result.now c.in-Ok-make.made
-        (subst (Loads (g.S.Shelf.held c.args.shelf.now (debug_given c.args.job.now).source) 1048576) (sym c.deref.ensures.value) (c.in-Ok.ensures.source told))
+        let made = image_made (g.S.Shelf.state c.args.shelf.now).held (saving (debug_given c.args.job.now)) c.deref.result.now c.deref-3.result.now c.in-Ok-make.made
+        (subst (Loads ((g.S.Shelf.state c.args.shelf.now).held (debug_given c.args.job.now).source) 1048576) (sym c.deref.ensures.value) (c.in-Ok.ensures.source told))
         c.in-Ok-make.ensures c.deref-3.ensures.value in
-        whole_saved (g.S.Shelf.held c.args.shelf.now) (g.S.Shelf.held c.save_image.new.shelf) (saving (debug_given c.args.job.now)) c.as_str.result.now c.deref-3.result.now made image (c.in-Ok-save_image.ensures.saved (c.in-Ok.ensures.telling ∙ told));
+        whole_saved (g.S.Shelf.state c.args.shelf.now).held (g.S.Shelf.state c.save_image.new.shelf).held (saving (debug_given c.args.job.now)) c.as_str.result.now c.deref-3.result.now made image (c.in-Ok-save_image.ensures.saved (c.in-Ok.ensures.telling ∙ told));
     left = λ cut told.
         let image : c.as_str.result.now ≡ (debug_given c.args.job.now).image = search rules in
-        let made = image_made (g.S.Shelf.held c.args.shelf.now) (saving (debug_given c.args.job.now)) c.deref.result.now c.deref-3.result.now c.in-Ok-make.made
-        (subst (Loads (g.S.Shelf.held c.args.shelf.now (debug_given c.args.job.now).source) 1048576) (sym c.deref.ensures.value) (c.in-Ok.ensures.source told))
+        let made = image_made (g.S.Shelf.state c.args.shelf.now).held (saving (debug_given c.args.job.now)) c.deref.result.now c.deref-3.result.now c.in-Ok-make.made
+        (subst (Loads ((g.S.Shelf.state c.args.shelf.now).held (debug_given c.args.job.now).source) 1048576) (sym c.deref.ensures.value) (c.in-Ok.ensures.source told))
         c.in-Ok-make.ensures c.deref-3.ensures.value in
-        whole_left (g.S.Shelf.held c.args.shelf.now) (g.S.Shelf.held c.save_image.new.shelf) (saving (debug_given c.args.job.now)) c.as_str.result.now c.deref-3.result.now made image (c.in-Ok-save_image.ensures.saved (c.in-Ok.ensures.telling ∙ told));
+        whole_left (g.S.Shelf.state c.args.shelf.now).held (g.S.Shelf.state c.save_image.new.shelf).held (saving (debug_given c.args.job.now)) c.as_str.result.now c.deref-3.result.now made image (c.in-Ok-save_image.ensures.saved (c.in-Ok.ensures.telling ∙ told));
   };
   transcript = record {
     part = λ cut told told_sink.
         let image : c.as_str.result.now ≡ (debug_given c.args.job.now).image = search rules in
         let limit : c.from-limit.result ≡ (debug_given c.args.job.now).limit = search rules in
-        let prints = debugged (g.S.Shelf.held c.args.shelf.now) (g.S.Shelf.held c.save_image.new.shelf) (debug_given c.args.job.now) c.deref.result.now c.deref-2.result.now c.in-Ok.texts.input.items c.in-Ok-make.made c.in-Ok-read_script.commands
-        (subst (Loads (g.S.Shelf.held c.args.shelf.now (debug_given c.args.job.now).source) 1048576) (sym c.deref.ensures.value) (c.in-Ok.ensures.source told))
+        let prints = debugged (g.S.Shelf.state c.args.shelf.now).held (g.S.Shelf.state c.save_image.new.shelf).held (debug_given c.args.job.now) c.deref.result.now c.deref-2.result.now c.in-Ok.texts.input.items c.in-Ok-make.made c.in-Ok-read_script.commands
+        (subst (Loads ((g.S.Shelf.state c.args.shelf.now).held (debug_given c.args.job.now).source) 1048576) (sym c.deref.ensures.value) (c.in-Ok.ensures.source told))
         (c.in-Ok.ensures.script told ∙ ap Some (sym c.deref-2.ensures.value))
         (c.in-Ok.ensures.input told) (subst (AllByRecursion (λ b. b < 256)) c.deref-6.ensures.value c.in-Err-play.ensures.bytes) c.in-Ok-make.ensures c.in-Ok-read_script.ensures
-        (ap (g.S.Shelf.held c.save_image.new.shelf) (sym image) ∙ c.in-Ok-save_image.ensures.saved (c.in-Ok.ensures.telling ∙ told) ∙ ap Some c.deref-3.ensures.value) in
+        (ap (g.S.Shelf.state c.save_image.new.shelf).held (sym image) ∙ c.in-Ok-save_image.ensures.saved (c.in-Ok.ensures.telling ∙ told) ∙ ap Some c.deref-3.ensures.value) in
         let one : viewed c.of_spelling-image.result ≡ form c.in-Ok-make.made.image = viewed_made c.deref.result.now (debug_given c.args.job.now).passes (debug_given c.args.job.now).mode c.in-Ok-make.made c.of_spelling-image.result c.deref-4.result.now
         c.in-Ok-make.ensures c.deref-4.ensures.value c.of_spelling-image.ensures.image c.of_spelling-image.ensures.bytes in
         let same = ap (λ (f : Form). transcript_bytes f (orders c.deref-5.result.now) c.deref-6.result.now c.from-limit.result) one
@@ -233,7 +233,7 @@ returns g c = record {
         inr (record {
           printed = transcript_bytes (form c.in-Ok-make.made.image) (orders c.in-Ok-read_script.commands.items) c.in-Ok.texts.input.items (debug_given c.args.job.now).limit;
           prints = prints;
-          part = subst (λ p. TakesPart p (g.K.Sink.taken c.args.sink.now) (g.K.Sink.taken c.play.new.sink)) same (c.in-Err-play.ensures.part told_sink);
+          part = subst (λ p. TakesPart p (g.K.Sink.state c.args.sink.now).taken (g.K.Sink.state c.play.new.sink).taken) same (c.in-Err-play.ensures.part told_sink);
         });
     done = search rules;
   };

@@ -8,7 +8,7 @@ use Rattle.session.proofs.playing.carry_out.Given as goal
 
 abbrev pub invariant-loop-command : goal.invariant-loop-command
 invariant-loop-command g l = record {
-  count : g.K.Sink.fault_count l.sink ≡ g.K.Sink.fault_count l.fn.sink;
-  telling : g.K.Sink.tells l.sink ≡ g.K.Sink.tells l.fn.sink;
-  taken : g.K.Sink.tells l.fn.sink ≡ true → IsUnderWay (flat_map line (lines_of l.fn.engine (orders l.commands))) (flat_map line (lines_of l.engine (orders (drop l.command-index l.commands)))) (g.K.Sink.taken l.fn.sink) (g.K.Sink.taken l.sink);
+  count : (g.K.Sink.state l.sink).fault_count ≡ (g.K.Sink.state l.fn.sink).fault_count;
+  telling : (g.K.Sink.state l.sink).tells ≡ (g.K.Sink.state l.fn.sink).tells;
+  taken : (g.K.Sink.state l.fn.sink).tells ≡ true → IsUnderWay (flat_map line (lines_of l.fn.engine (orders l.commands))) (flat_map line (lines_of l.engine (orders (drop l.command-index l.commands)))) (g.K.Sink.state l.fn.sink).taken (g.K.Sink.state l.sink).taken;
 }

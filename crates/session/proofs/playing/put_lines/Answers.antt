@@ -10,4 +10,4 @@ returns-in_err-put_line-clause-part g c = on_err_anyway c.from_residual.result _
     let whole : List ℕ = flat_map line (map (λ x. x.items) c.args.lines.now) in
     let rest : List ℕ = flat_map line (map (λ x. x.items) (drop (c.loop-text.text-index + 1) c.args.lines.now)) in
     let here = text_left c.args.lines.now c.loop-text.text-index c.text-item.result (omega arith) c.text-item.is ∙ ap (λ l. line l ++ rest) (sym c.deref.ensures.value) in
-    under_way_part whole (line c.deref.result.now) rest (g.K.Sink.taken c.args.sink.now) (g.K.Sink.taken c.loop-text.sink) (g.K.Sink.taken c.put_line.new.sink) (c.in_err-put_line.ensures.part (c.loop-text.invariant.telling ∙ told)) (subst (λ l. IsUnderWay whole l (g.K.Sink.taken c.args.sink.now) (g.K.Sink.taken c.loop-text.sink)) here so_far))
+    under_way_part whole (line c.deref.result.now) rest (g.K.Sink.state c.args.sink.now).taken (g.K.Sink.state c.loop-text.sink).taken (g.K.Sink.state c.put_line.new.sink).taken (c.in_err-put_line.ensures.part (c.loop-text.invariant.telling ∙ told)) (subst (λ l. IsUnderWay whole l (g.K.Sink.state c.args.sink.now).taken (g.K.Sink.state c.loop-text.sink).taken) here so_far))

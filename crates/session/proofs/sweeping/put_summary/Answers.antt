@@ -6,18 +6,18 @@ use Rattle.session.proofs.Lines.{sweep_accepted, sweep_within, swept_so}
 use Rattle.session.proofs.sweeping.put_summary.Goals as goal
 
 pub returns-in-Ok-put_lines : goal.returns-in-Ok-put_lines
-returns-in-Ok-put_lines g c = λ loads saves tells held. record {
+returns-in-Ok-put_lines g c = λ shelf. record {
   caused = record {
     usage = search rules;
     audit = search rules;
     read = search rules;
     read_only = search rules;
     too_long = search rules;
-    within = λ l told. sweep_within held (sweep_given c.args.job.now);
+    within = λ l told. sweep_within shelf.held (sweep_given c.args.job.now);
     image = search rules;
     source = search rules;
     script = search rules;
-    accepted = λ e told. sweep_accepted held (sweep_given c.args.job.now) c.in-Ok.summary c.in-Ok.ensures;
+    accepted = λ e told. sweep_accepted shelf.held (sweep_given c.args.job.now) c.in-Ok.summary c.in-Ok.ensures;
     write = search rules;
     write_only = search rules;
   };
@@ -34,18 +34,18 @@ returns-in-Ok-put_lines g c = λ loads saves tells held. record {
 }
 
 pub returns : goal.returns
-returns g c = λ loads saves tells held. record {
+returns g c = λ shelf. record {
   caused = record {
     usage = search rules;
     audit = search rules;
     read = search rules;
     read_only = search rules;
     too_long = search rules;
-    within = λ l told. sweep_within held (sweep_given c.args.job.now);
+    within = λ l told. sweep_within shelf.held (sweep_given c.args.job.now);
     image = search rules;
     source = search rules;
     script = search rules;
-    accepted = λ e told. sweep_accepted held (sweep_given c.args.job.now) c.in-Ok.summary c.in-Ok.ensures;
+    accepted = λ e told. sweep_accepted shelf.held (sweep_given c.args.job.now) c.in-Ok.summary c.in-Ok.ensures;
     write = search rules;
     write_only = search rules;
   };

@@ -8,7 +8,7 @@ pub returns-in-Debug : goal.returns-in-Debug
 returns-in-Debug g c = same_ends _ _ _ _ _ (ap job_given (sym c.in-Debug.is)) c.debug.ensures
 
 pub returns-in-Compile : goal.returns-in-Compile
-returns-in-Compile g c = same_ends _ _ _ _ _ (ap job_given (sym c.in-Compile.is)) (c.save_compiled.ensures _ _ _)
+returns-in-Compile g c = same_ends _ _ _ _ _ (ap job_given (sym c.in-Compile.is)) (c.save_compiled.ensures _)
 
 pub returns-in-Attach : goal.returns-in-Attach
 returns-in-Attach g c = same_ends _ _ _ _ _ (ap job_given (sym c.in-Attach.is)) (attach_ends _ _ _ _ c.attach.ensures)
@@ -17,7 +17,7 @@ pub returns-in-Passes : goal.returns-in-Passes
 returns-in-Passes g c = same_ends _ _ _ _ _ (ap job_given (sym c.in-Passes.is)) c.list_changes.ensures
 
 pub returns-in-Sweep : goal.returns-in-Sweep
-returns-in-Sweep g c = same_ends _ _ _ _ _ (ap job_given (sym c.in-Sweep.is)) (c.put_summary.ensures _ _ _ _)
+returns-in-Sweep g c = same_ends _ _ _ _ _ (ap job_given (sym c.in-Sweep.is)) (c.put_summary.ensures _)
 
 pub debug-requires : goal.debug-requires
 debug-requires g c = subst (λ j. CanRun (λ p. (goal.Pass-dyn g (p.vtable, p.value)).named p.value) c.args.passes.now (needed (job_given j))) c.in-Debug.is c.requires
