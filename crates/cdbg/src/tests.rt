@@ -11,6 +11,7 @@ mod images;
 mod optimised;
 mod orders;
 mod programs;
+mod quiet;
 mod sessions;
 
 use self::sessions::{Ending, IN_SLOTS, assert_refused, ended, prints};
