@@ -1,6 +1,6 @@
 //! Lists by number.
 
-ghost use Rattle.std.specs.Prelude.{◌≡◌, ◌≢◌, ◌<◌, ◌≤◌, ◌++◌, ℕ, IfOk, OnOk, [], ◌∷◌};
+ghost use Rattle.std.specs.Prelude.{◌≡◌, ◌≢◌, ◌<◌, ◌≤◌, ◌++◌, ◌+◌, max, ℕ, IfOk, OnOk, [], ◌∷◌};
 ghost use Rattle.currency_writers.specs.Lists.{count_of, entries_of};
 
 use std::alloc::{AllocError, Global};
@@ -15,6 +15,7 @@ pub struct Lists {
 pub fn count_with(count: usize, number: u32) -> usize
     ensures least { count ≤ result }
     ensures above { number < result }
+    ensures exact { result ≡ max count (number + 1) }
 {
     count.max(number as usize + 1)
 }

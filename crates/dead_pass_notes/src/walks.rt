@@ -67,7 +67,7 @@ pub fn begin(blocks: u32, names: u32, marks: &mut Marks, number: u32)
     ensures walk { (x : ℕ) → bits_of marks.new blocks x ≡ bits_of marks.old number x }
 {
     marks.keep(blocks + 1, blocks);
-    let _is_new = marks.unite(number, blocks);
+    marks.unite(number, blocks);
 }
 
 /// Walks in a row over the instructions of a block.

@@ -1,6 +1,6 @@
 //! The names that are asked for: those that something reads which stays.
 
-ghost use Rattle.std.specs.Prelude.{◌≡◌, ◌≢◌, ◌⊎◌, ℕ, ◌+◌, ◌<◌, ◌^◌, ◌==◌, ◌&&◌, ◌||◌, not, List, Some, OnOk, IfOk, IfSome, length, map, option_map, true, false};
+ghost use Rattle.std.specs.Prelude.{◌≡◌, ◌≢◌, ◌⊎◌, ℕ, ◌+◌, ◌<◌, ◌^◌, ◌==◌, ◌&&◌, ◌||◌, not, List, None, Some, OnOk, IfOk, IfSome, length, map, option_map, true, false};
 ghost use Rattle.std.specs.List.{list_any};
 ghost use Rattle.graph_core.specs.declared.name.Name as declared-name;
 ghost use Rattle.graph_core.specs.Graphs.{block_view, end_view, instruction_view};
@@ -98,7 +98,7 @@ fn join(blocks: u32, names: u32, marks: &mut Marks, from: u32)
         ⊎ ((from < blocks) × (bits_of marks.old from x ≡ true)) }
 {
     if from < blocks {
-        let _is_new = marks.unite(from, blocks);
+        marks.unite(from, blocks);
     }
 }
 
@@ -157,8 +157,9 @@ pub fn begin(
 
 /// Whether it is told at the walk's point of the name that is written.
 pub fn is_told(blocks: u32, marks: &Marks, target: Option<Name>) -> bool
-    ensures { (x : ℕ) → option_map (λ (n : declared-name.Name). n.0) target ≡ Some x → result
+    ensures some { (x : ℕ) → option_map (λ (n : declared-name.Name). n.0) target ≡ Some x → result
         ≡ bits_of marks.now blocks x }
+    ensures none { option_map (λ (n : declared-name.Name). n.0) target ≡ None → result ≡ false }
 {
     match target {
         Some(name) => marks.get(blocks, name.0),

@@ -2,3 +2,4 @@ pub mod Table
 pub mod PathMarksTable
 pub mod Reached
 pub mod Flood
+pub mod Lists

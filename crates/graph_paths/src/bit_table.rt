@@ -38,26 +38,4 @@ impl BitTable {
             }
         }
     }
-
-    /// Makes row `to` the union of the two rows. Tells whether it changed.
-    pub fn unite(&mut self, from: u32, to: u32) -> bool {
-        if from < self.count && to < self.count {
-            let is_new = self.rows.meet_into(from, to, true);
-            is_new
-        } else {
-            false
-        }
-    }
-
-    /// Makes row `to` what a row of `kept` keeps of row `from`, with the bits of that row of `written`. The tables have
-    /// one width.
-    pub fn pass(&mut self, from: u32, to: u32, kept: &BitTable, written: &BitTable) {
-        if self.width != kept.width || self.width != written.width {
-            return;
-        }
-        if from < kept.count && from < written.count && from < self.count && to < self.count {
-            self.rows
-                .pass_into(from, to, &kept.rows, &written.rows, from);
-        }
-    }
 }

@@ -54,18 +54,16 @@ impl Marks {
         }
     }
 
-    /// Makes row `to` the union of the two rows. Tells whether it changed.
-    pub fn unite(&mut self, from: u32, to: u32) -> bool
+    /// Makes row `to` the union of the two rows.
+    pub fn unite(&mut self, from: u32, to: u32)
         requires from { from < self.old.count }
         requires to { to < self.old.count }
         ensures there { (bit : ℕ) → bits_of self.new to bit ≡ (bits_of self.old from bit || bits_of self.old to bit) }
         ensures rows { (other bit : ℕ) → other ≢ to → bits_of self.new other bit ≡ bits_of self.old other bit }
-        ensures quiet { result ≡ false → (row bit : ℕ) → bits_of self.new row bit ≡ bits_of self.old row bit }
         ensures count { self.new.count ≡ self.old.count }
         ensures width { self.new.width ≡ self.old.width }
     {
-        let is_new = self.rows.meet_into(from, to, true);
-        is_new
+        let _is_new = self.rows.meet_into(from, to, true);
     }
 
     /// Makes row `to` what both rows have.

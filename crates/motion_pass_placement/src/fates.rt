@@ -1,7 +1,7 @@
 //! What is so at the instructions that do computations.
 
 ghost use Rattle.std.specs.Prelude.{◌≡◌, ◌↔◌, ℕ, ◌/◌, ◌<◌, ◌||◌, ◌&&◌, not, Bool, false, if◌then◌else◌, IfOk, List, [], None, Option, Some, length, true};
-ghost use Rattle.std.specs.Prelude.{option_map};
+ghost use Rattle.std.specs.Prelude.{option_map, replicate};
 ghost use Rattle.graph_core.specs.declared.name.Name as declared-name;
 ghost use Rattle.graph_core.specs.Computations.{Computation};
 ghost use Rattle.graph_core.specs.Graphs as spec;
@@ -10,7 +10,7 @@ ghost use Rattle.motion_pass_points.specs.Ways.{IsPast, IsUsed, within};
 ghost use Rattle.motion_pass_points.specs.Words.{has};
 ghost use Rattle.motion_pass_points.specs.Columns.{is_number, is_spoiled, number_at};
 ghost use Rattle.motion_pass_problems.specs.Inner.{IsBlock, IsTreated, in_column, point_at};
-ghost use Rattle.motion_pass_placement.specs.Fates.{AreLate, AreUsed, fate_of};
+ghost use Rattle.motion_pass_placement.specs.Fates.{AreLate, AreUsed, fate_of, no_fate};
 
 use graph_core::{Block, Name};
 use motion_pass_points::{Column, either, is_in, without};
@@ -32,7 +32,8 @@ pub const NO_FATE: Fate = Fate {
 
 /// So many instructions of which nothing is known.
 pub fn no_fates(alloc: Global, count: usize) -> Result<Vec<Fate>, AllocError>
-    ensures { IfOk result (λ fates. length fates.items ≡ count) }
+    ensures count { IfOk result (λ fates. length fates.items ≡ count) }
+    ensures none { IfOk result (λ fates. fates.items ≡ replicate count no_fate) }
 {
     vec![in alloc; NO_FATE; count]
 }
