@@ -36,4 +36,5 @@ passed row kept written = joined (λ a b. a || b) (joined (λ a b. a && b) row k
 -- a row whose 64 bits that begin with bit 64 * index are those of a word
 abbrev pub with_word : (row : List Bool) (index word : ℕ) → List Bool
 with_word row index word =
-    map (λ bit. if bit / 64 == index then bit_at word (bit % 64) == 1 else slice_index_or row bit false) (range_with_len 0 (length row))
+    map (λ bit. if bit / 64 == index then bit_at word (bit % 64) == 1 else slice_index_or row bit false)
+    (range_with_len 0 (length row))

@@ -6,7 +6,7 @@ use Rattle.std.specs.List.Sorted.{IsPermutation}
 use Rattle.std.proofs.lemmas.List.Sorted.{sum_by-IsPermutation}
 use Rattle.std.proofs.lemmas.List.Sums.{sum_by-cons}
 use Rattle.c_places.specs.declared.place.Place as declared-place
-use Rattle.c_places.specs.Places.{place_view, count_before, number_at}
+use Rattle.c_places.specs.Places.{place_view, count_before, place_number_at}
 use Rattle.c_flow.specs.Tables.{place_number}
 
 -- one for a position that stands before another
@@ -46,6 +46,6 @@ count_of_places (p ∷ places) at =
 
 -- the number of a place among positions in order is its number among the places
 pub same_number : (places : List declared-place.Place) (positions : List ℕ) (at : ℕ) → IsPermutation (map (λ (p : declared-place.Place). p.spot.at) places) positions
-    → place_number positions at ≡ number_at (map place_view places) at
+    → place_number positions at ≡ place_number_at (map place_view places) at
 same_number places positions at moved =
     ap (λ (n : ℕ). n + 1) (sum_by-IsPermutation (one_if at) (map (λ (p : declared-place.Place). p.spot.at) places) positions moved ∙ sym (count_of_places places at))

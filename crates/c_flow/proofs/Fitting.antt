@@ -6,7 +6,7 @@ use Rattle.std.proofs.lemmas.List.Elements.{All-nil, All-cons, All-head, All-tai
 use Rattle.c_tree.specs.declared.program.TypedFunction.{TypedFunction}
 use Rattle.c_tree.specs.Programs.{TypedFunctionTree, function_view}
 use Rattle.c_places.specs.declared.place.Place as declared-place
-use Rattle.c_places.specs.Places.{Place, number_at, place_view}
+use Rattle.c_places.specs.Places.{Place, place_number_at, place_view}
 use Rattle.c_flow.specs.Tables.{place_number}
 
 -- as many positions as places
@@ -15,8 +15,8 @@ few_positions places positions listed same count few = omega (arith, length-map 
 
 -- the numbers among the places of a program
 pub numbers_among : (places : List declared-place.Place) (positions : List ℕ) (listed : List Place) → map place_view places ≡ listed
-    → ((at : ℕ) → place_number positions at ≡ number_at (map place_view places) at) → (at : ℕ) → place_number positions at ≡ number_at listed at
-numbers_among places positions listed same numbers at = numbers at ∙ ap (λ (ps : List Place). number_at ps at) same
+    → ((at : ℕ) → place_number positions at ≡ place_number_at (map place_view places) at) → (at : ℕ) → place_number positions at ≡ place_number_at listed at
+numbers_among places positions listed same numbers at = numbers at ∙ ap (λ (ps : List Place). place_number_at ps at) same
 
 -- what holds of functions as contracts see them holds of the functions
 pub parameters_fit : (functions : List TypedFunction) → All (λ (f : TypedFunctionTree). f.first_variable + f.parameters < 2 ^ 32) (map function_view functions) → All (λ (f : TypedFunction). f.first_variable + f.parameters < 2 ^ 32) functions

@@ -9,7 +9,8 @@ pub record IsFirstOfName (all : List AutomaticTree) (x first : ℕ) : Type 0 whe
   pub same : is_same_name (name_of all first) (name_of all x) ≡ true
   pub least : (j : ℕ) → j < first → is_same_name (name_of all j) (name_of all x) ≡ false
 
--- These are the classes of the variables by position, and behind them that of what is no variable, which has the empty name.
+-- These are the classes of the variables by position, and behind them that of what is no variable, which has the empty
+-- name.
 pub record AreClasses (all : List AutomaticTree) (classes : List ℕ) : Type 0 where
   pub count : length classes ≡ length all + 1
   pub first : (x : ℕ) → x ≤ length all → IsFirstOfName all x (slice_index classes x)

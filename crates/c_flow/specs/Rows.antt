@@ -17,7 +17,8 @@ abbrev pub numbers_of : ProgramTree → List ℕ → List ℕ
 numbers_of p [] = []
 numbers_of p (x ∷ all) = variable_if (variable_number p (object.Automatic x)) ++ numbers_of p all
 
--- A row of the table of places: where the place stands, its function, whether it is the function's entry, and the variables that are visible there.
+-- A row of the table of places: where the place stands, its function, whether it is the function's entry, and the
+-- variables that are visible there.
 pub record Row : Type 0 where
   pub position : ℕ
   pub line : ℕ
@@ -27,13 +28,26 @@ pub record Row : Type 0 where
 
 -- the row of a place, as definitions speak of it
 abbrev pub row_view : PlaceRow → Row
-row_view r = record { position = r.position; line = r.line; function = r.function; is_entry = r.is_entry; visible = map (λ (v : Var). v.0) r.visible.items }
+row_view r =
+    record {
+      position = r.position;
+      line = r.line;
+      function = r.function;
+      is_entry = r.is_entry;
+      visible = map (λ (v : Var). v.0) r.visible.items;
+    }
 
 -- the row of a place
-abbrev pub row_of : ProgramTree → Place → Row
-row_of p place =
-    record { position = place.spot.at; line = place.spot.line; function = place.function; is_entry = place.is_entry; visible = numbers_of p (visible p.automatics place.scope) }
+abbrev pub flow_row : ProgramTree → Place → Row
+flow_row p place =
+    record {
+      position = place.spot.at;
+      line = place.spot.line;
+      function = place.function;
+      is_entry = place.is_entry;
+      visible = numbers_of p (visible p.automatics place.scope);
+    }
 
 -- the rows of a program's places, in the order of the text
 abbrev pub rows_of_program : ProgramTree → List Row
-rows_of_program p = map (row_of p) (places_of_program p)
+rows_of_program p = map (flow_row p) (places_of_program p)

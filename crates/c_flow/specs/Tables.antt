@@ -15,12 +15,14 @@ place_number positions at = count_by (λ (y : ℕ). nat_lt y at) positions + 1
 
 -- the step that an edge is, among places at these positions
 abbrev pub step_between : List ℕ → Edge → FlowStep
-step_between positions e = record { from = record { 0 = place_number positions e.from }; to = record { 0 = place_number positions e.to } }
+step_between positions e =
+    record { from = record { 0 = place_number positions e.from }; to = record { 0 = place_number positions e.to } }
 
 -- the assignments that these are, among places at these positions
 abbrev pub assignments_among : ProgramTree → List ℕ → List Assigned → List Assignment
 assignments_among p positions [] = []
-assignments_among p positions (a ∷ all) = numbered_for (place_number positions a.at) (variable_number p a.object) ++ assignments_among p positions all
+assignments_among p positions (a ∷ all) =
+    numbered_for (place_number positions a.at) (variable_number p a.object) ++ assignments_among p positions all
 
 -- the variables of a program fit in numbers of 32 bits
 abbrev pub FewVariables : ProgramTree → Type 0

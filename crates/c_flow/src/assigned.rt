@@ -4,7 +4,7 @@ ghost use Rattle.std.specs.Prelude.{◌≡◌, ◌+◌, ◌<◌, ◌^◌, ◌++�
 ghost use Rattle.c_tree.specs.Programs.{function_view, program_view};
 ghost use Rattle.c_tree.specs.TypedExpressions.{arguments_view, lvalue_view, rvalue_view};
 ghost use Rattle.c_tree.specs.TypedStatements.{declared_view, initial_view, start_view, statement_view, statements_view, step_view};
-ghost use Rattle.c_flow.specs.Assigns.{assigned, assigned_by, assigned_by_all, assigned_by_declarators, assigned_by_entry, assigned_by_function, assigned_by_initial, assigned_by_option, assigned_by_program, assigned_by_start, assigned_by_statements, assigned_by_step, assigned_by_values, assigned_within, assigns_object, named};
+ghost use Rattle.c_flow.specs.Assigns.{assigned_objects, assigned_by, assigned_by_all, assigned_by_declarators, assigned_by_entry, assigned_by_function, assigned_by_initial, assigned_by_option, assigned_by_program, assigned_by_start, assigned_by_statements, assigned_by_step, assigned_by_values, assigned_within, assigns_object, named_object};
 
 use c_tree::{
     Arguments, Declared, Initial, Lvalue, Object, Program, Rvalue, TypedFunction, TypedStart,
@@ -39,7 +39,7 @@ fn add(at: u32, object: Object, found: &mut Vec<Assigned>) -> Result<(), AllocEr
 
 /// Adds the object that a target names.
 fn add_named(at: u32, target: &Lvalue, found: &mut Vec<Assigned>) -> Result<(), AllocError>
-    ensures { OnOk result (found.new.items ≡ found.old.items ++ named at (lvalue_view target.now)) }
+    ensures { OnOk result (found.new.items ≡ found.old.items ++ named_object at (lvalue_view target.now)) }
 {
     match target {
         Lvalue::Named { object, .. } => add(at, *object, found),
@@ -88,7 +88,7 @@ fn add_arguments(at: u32, all: &Arguments, found: &mut Vec<Assigned>) -> Result<
 /// Adds what is assigned by name within an expression.
 #[cycle(expressions)]
 fn add_expression(at: u32, e: &Rvalue, found: &mut Vec<Assigned>) -> Result<(), AllocError>
-    ensures { OnOk result (found.new.items ≡ found.old.items ++ assigned at (rvalue_view e.now)) }
+    ensures { OnOk result (found.new.items ≡ found.old.items ++ assigned_objects at (rvalue_view e.now)) }
 {
     match e {
         Rvalue::Constant { .. } | Rvalue::Null => Ok(()),

@@ -5,7 +5,7 @@ ghost use Rattle.std.specs.List.{Contains};
 ghost use Rattle.std.specs.List.Sorted.{IsNonDecreasing};
 ghost use Rattle.c_tree.specs.Programs.{program_view};
 ghost use Rattle.places.specs.Flow.{IsAssignmentBefore};
-ghost use Rattle.c_places.specs.Places.{number_at, places_of_program};
+ghost use Rattle.c_places.specs.Places.{place_number_at, places_of_program};
 ghost use Rattle.c_flow.specs.Assigns.{assignments_of_program};
 ghost use Rattle.c_flow.specs.Tables.{FewVariables, assignments_among, place_number};
 
@@ -72,7 +72,7 @@ pub fn assignment_table(
     requires sorted { IsNonDecreasing positions.now }
     requires few { length positions.now + 1 < 2 ^ 32 }
     requires numbers { (at : ℕ) → place_number positions.now at
-        ≡ number_at (places_of_program (program_view program.now)) at }
+        ≡ place_number_at (places_of_program (program_view program.now)) at }
     requires variables { FewVariables (program_view program.now) }
     requires parameters { All (λ f. f.first_variable + f.parameters < 2 ^ 32) program.now.functions.items }
     ensures ordered { IfOk result (λ v. AllPairs IsAssignmentBefore v.items) }

@@ -2,7 +2,7 @@
 
 ghost use Rattle.std.specs.Prelude.{◌≡◌, map};
 ghost use Rattle.c_tree.specs.TypedStatements.{declared_view, start_view, statement_view, statements_view};
-ghost use Rattle.c_flow.specs.Flow.{start, start_of_all, start_of_declarators, start_of_for};
+ghost use Rattle.c_flow.specs.Flow.{start_place, start_of_all, start_of_declarators, start_of_for};
 
 use c_tree::{Declared, TypedStart, TypedStatement, TypedStatements};
 
@@ -30,7 +30,7 @@ fn start_of_for(begin: &TypedStart, head: u32) -> Option<u32>
 /// Where a statement begins that something follows.
 #[cycle(start)]
 pub fn start(statement: &TypedStatement, next: Option<u32>) -> Option<u32>
-    ensures { result ≡ start (statement_view statement.now) next }
+    ensures { result ≡ start_place (statement_view statement.now) next }
 {
     match statement {
         TypedStatement::Block(all) => start_of_all(all, next),

@@ -4,7 +4,7 @@ ghost use Rattle.std.specs.Prelude.{◌≡◌, ◌<◌, ◌^◌, All, IfOk, map}
 ghost use Rattle.c_tree.specs.Programs.{program_view};
 ghost use Rattle.c_places.specs.Places.{place_view};
 ghost use Rattle.c_flow.specs.Tables.{FewVariables, Fits32};
-ghost use Rattle.c_flow.specs.Rows.{row_of, row_view, rows_of_program};
+ghost use Rattle.c_flow.specs.Rows.{flow_row, row_view, rows_of_program};
 
 use crate::visibility::name_classes;
 use crate::visible_variables::row_of;
@@ -18,7 +18,7 @@ fn table_of(alloc: Global, program: &Program, places: &[Place]) -> Result<PlaceT
     requires variables { FewVariables (program_view program.now) }
     requires functions { All (λ p. p.function < 2 ^ 32) places.now }
     ensures { IfOk result (λ t.
-        map row_view t.rows.items ≡ map (row_of (program_view program.now)) (map place_view places.now)) }
+        map row_view t.rows.items ≡ map (flow_row (program_view program.now)) (map place_view places.now)) }
 {
     let classes = name_classes(alloc, &program.automatics)?;
     let by_name = classes.as_slice();

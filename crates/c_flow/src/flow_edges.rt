@@ -150,7 +150,7 @@ fn add_condition(
 ) -> Result<(), AllocError>
     ensures { OnOk result
         (found.new.items
-        ≡ found.old.items ++ edge at (definition.start (statement_view body.now) (Some at)) ++ edge at next) }
+        ≡ found.old.items ++ edge at (definition.start_place (statement_view body.now) (Some at)) ++ edge at next) }
 {
     add_edge(at, start(body, Some(at)), found)?;
     add_edge(at, next, found)

@@ -2,7 +2,7 @@
 
 ghost use Rattle.std.specs.Prelude.{◌≡◌, ℕ, ◌+◌, ◌<◌, ◌^◌, IfOk, length, map};
 ghost use Rattle.std.specs.List.Sorted.{IsNonDecreasing};
-ghost use Rattle.c_places.specs.Places.{number_at, place_view};
+ghost use Rattle.c_places.specs.Places.{place_number_at, place_view};
 ghost use Rattle.c_flow.specs.Tables.{place_number};
 
 use c_places::Place;
@@ -12,7 +12,7 @@ use std::alloc::{AllocError, Global};
 pub fn positions_of(alloc: Global, places: &[Place]) -> Result<Vec<u32>, AllocError>
     ensures sorted { IfOk result (λ v. IsNonDecreasing v.items) }
     ensures count { IfOk result (λ v. length v.items ≡ length places.now) }
-    ensures numbers { IfOk result (λ v. (at : ℕ) → place_number v.items at ≡ number_at (map place_view places.now) at) }
+    ensures numbers { IfOk result (λ v. (at : ℕ) → place_number v.items at ≡ place_number_at (map place_view places.now) at) }
 {
     let mut positions = Vec::new(alloc);
     for place in places {

@@ -5,7 +5,7 @@ ghost use Rattle.std.specs.List.{Contains};
 ghost use Rattle.std.specs.List.Sorted.{IsNonDecreasing};
 ghost use Rattle.places.specs.Flow.{AreInOrder};
 ghost use Rattle.c_tree.specs.Programs.{program_view};
-ghost use Rattle.c_places.specs.Places.{number_at, places_of_program};
+ghost use Rattle.c_places.specs.Places.{place_number_at, places_of_program};
 ghost use Rattle.c_flow.specs.Flow.{steps_of_program};
 ghost use Rattle.c_flow.specs.Tables.{place_number, step_between};
 
@@ -62,7 +62,7 @@ pub fn step_table(
     requires sorted { IsNonDecreasing positions.now }
     requires few { length positions.now + 1 < 2 ^ 32 }
     requires numbers { (at : ℕ) → place_number positions.now at
-        ≡ number_at (places_of_program (program_view program.now)) at }
+        ≡ place_number_at (places_of_program (program_view program.now)) at }
     ensures ordered { IfOk result (λ v. AreInOrder v.items) }
     ensures exact { IfOk result (λ v.
         (s : FlowStep) → Contains v.items s ↔ Contains (steps_of_program (program_view program.now)) s) }

@@ -5,7 +5,7 @@ ghost use Rattle.c_tree.specs.Programs.{program_view};
 ghost use Rattle.c_places.specs.Places.{place_view};
 ghost use Rattle.c_flow.specs.Tables.{FewVariables};
 ghost use Rattle.c_flow.specs.Names.{AreClasses};
-ghost use Rattle.c_flow.specs.Rows.{numbers_of, row_of, row_view};
+ghost use Rattle.c_flow.specs.Rows.{numbers_of, flow_row, row_view};
 
 use crate::automatic_number;
 use crate::visibility::visible_by_class;
@@ -39,7 +39,7 @@ pub fn row_of(
     requires classes { AreClasses (program_view program.now).automatics classes.now }
     requires variables { FewVariables (program_view program.now) }
     requires function { place.now.function < 2 ^ 32 }
-    ensures { IfOk result (λ r. row_view r ≡ row_of (program_view program.now) (place_view place.now)) }
+    ensures { IfOk result (λ r. row_view r ≡ flow_row (program_view program.now) (place_view place.now)) }
 {
     let scope = visible_by_class(alloc, &program.automatics, classes, &place.scope)?;
     Ok(PlaceRow {

@@ -10,7 +10,7 @@ use Rattle.places.specs.declared.flow.Assignment.{Assignment}
 use Rattle.c_tree.specs.declared.object_type.Object.{Object}
 use Rattle.c_tree.specs.declared.object_type.Object.TheVariants.{Static, Automatic, Literal}
 use Rattle.c_tree.specs.Programs.{ProgramTree}
-use Rattle.c_places.specs.Places.{number_at, places_of_program}
+use Rattle.c_places.specs.Places.{place_number_at, places_of_program}
 use Rattle.c_flow.specs.declared.assigned.Assigned.{Assigned}
 use Rattle.c_flow.specs.Assigns.{numbered_assigned, numbered_for, variable_number}
 use Rattle.c_flow_assigns.specs.PlacesBefore.{places_before}
@@ -59,16 +59,16 @@ module _ (p : ProgramTree) (place : declared-place.Place) (var : Var) (x : Objec
   all_of all = numbered_assigned p (places_of_program p) all
 
   -- an assignment that passes the test is the one
-  here : (a : Assigned) → is_wanted p place.0 x a ≡ true → Contains (numbered_for (number_at (places_of_program p) a.at) (variable_number p a.object)) (one place var)
+  here : (a : Assigned) → is_wanted p place.0 x a ≡ true → Contains (numbered_for (place_number_at (places_of_program p) a.at) (variable_number p a.object)) (one place var)
   here a h =
       let parts = and_parts (is_same_object x a.object) (places_before a.at p + 1 == place.0) h in
-      there (number_at (places_of_program p) a.at) place var (variable_number p a.object) (number_by_count p a.at ∙ number_same (places_before a.at p + 1) place.0 parts.1)
+      there (place_number_at (places_of_program p) a.at) place var (variable_number p a.object) (number_by_count p a.at ∙ number_same (places_before a.at p + 1) place.0 parts.1)
       ((found a.object).1 (ap Some (object_same x a.object parts.0)))
 
   -- the one passes the test
-  passes : (a : Assigned) → Contains (numbered_for (number_at (places_of_program p) a.at) (variable_number p a.object)) (one place var) → is_wanted p place.0 x a ≡ true
+  passes : (a : Assigned) → Contains (numbered_for (place_number_at (places_of_program p) a.at) (variable_number p a.object)) (one place var) → is_wanted p place.0 x a ≡ true
   passes a h =
-      let both = from_there (number_at (places_of_program p) a.at) place var (variable_number p a.object) h in
+      let both = from_there (place_number_at (places_of_program p) a.at) place var (variable_number p a.object) h in
       let is : x ≡ a.object = of_some x a.object ((found a.object).0 both.1) in
       and_from (is_same_object x a.object) (places_before a.at p + 1 == place.0) (subst (λ (y : Object). is_same_object x y ≡ true) is (object_itself x))
       (eq-eqb (places_before a.at p + 1) place.0 (sym (number_by_count p a.at) ∙ both.0))
@@ -79,7 +79,7 @@ module _ (p : ProgramTree) (place : declared-place.Place) (var : Var) (x : Objec
   pub is_there : (all : List Assigned) → list_any (is_wanted p place.0 x) all ≡ true → Contains (numbered_assigned p (places_of_program p) all) (one place var)
   is_there [] h = absurd (cc)
   is_there (a ∷ all) h =
-      let first = numbered_for (number_at (places_of_program p) a.at) (variable_number p a.object) in
+      let first = numbered_for (place_number_at (places_of_program p) a.at) (variable_number p a.object) in
       elim (or_cases (is_wanted p place.0 x a) (list_any (is_wanted p place.0 x) all) h) [
         | inl e ↦ Contains-append_left first (all_of all) (one place var) (here a e)
         | inr e ↦ Contains-append_right first (all_of all) (one place var) (is_there all e)
@@ -88,7 +88,7 @@ module _ (p : ProgramTree) (place : declared-place.Place) (var : Var) (x : Objec
   pub is_found : (all : List Assigned) → Contains (numbered_assigned p (places_of_program p) all) (one place var) → list_any (is_wanted p place.0 x) all ≡ true
   is_found [] h = absurd (none_there (one place var) h)
   is_found (a ∷ all) h =
-      let first = numbered_for (number_at (places_of_program p) a.at) (variable_number p a.object) in
+      let first = numbered_for (place_number_at (places_of_program p) a.at) (variable_number p a.object) in
       elim (Contains-append_cases first (all_of all) (one place var) h) [
         | inl e ↦ or_left (is_wanted p place.0 x a) (list_any (is_wanted p place.0 x) all) (passes a e)
         | inr e ↦ or_right (is_wanted p place.0 x a) (list_any (is_wanted p place.0 x) all) (is_found all e)
@@ -99,8 +99,8 @@ pub no_variable : (p : ProgramTree) (place : declared-place.Place) (var : Var) �
     → Contains (numbered_assigned p (places_of_program p) all) (one place var) → ⊥
 no_variable p place var none [] h = none_there (one place var) h
 no_variable p place var none (a ∷ all) h =
-    elim (Contains-append_cases (numbered_for (number_at (places_of_program p) a.at) (variable_number p a.object)) (numbered_assigned p (places_of_program p) all) (one place var) h) [
-      | inl e ↦ none a.object (from_there (number_at (places_of_program p) a.at) place var (variable_number p a.object) e).1
+    elim (Contains-append_cases (numbered_for (place_number_at (places_of_program p) a.at) (variable_number p a.object)) (numbered_assigned p (places_of_program p) all) (one place var) h) [
+      | inl e ↦ none a.object (from_there (place_number_at (places_of_program p) a.at) place var (variable_number p a.object) e).1
       | inr e ↦ no_variable p place var none all e
     ]
 

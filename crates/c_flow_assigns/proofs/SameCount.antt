@@ -6,7 +6,7 @@ use Rattle.c_tree.specs.TypedExpressions.{RvalueTree}
 use Rattle.c_tree.specs.TypedStatements.{DeclaredTree, TypedStartTree, Nothing, Value, Declares, StepTree, TypedStatementTree, Block, Declaration, Empty, Run, If, IfElse, While, DoWhile, For, Switch, Break, Continue, Return, TypedStatementTrees, none, first, case, default}
 use Rattle.c_tree.specs.Programs.{TypedFunctionTree, ProgramTree}
 use Rattle.c_places.specs.Flow.{reaches_end}
-use Rattle.c_places.specs.Places.{Place, brought, brought_by_start, close_of, count_before, entry_of, number_at, parameters_of, places_of, places_of_all, places_of_declarators, places_of_function, places_of_functions, places_of_head, places_of_program, places_of_start, places_of_step, brought_by_body, stop}
+use Rattle.c_places.specs.Places.{Place, brought, brought_by_start, close_of, count_before, entry_of, place_number_at, parameters_of, places_of, places_of_all, places_of_declarators, places_of_function, places_of_functions, places_of_head, places_of_program, places_of_start, places_of_step, brought_by_body, stop}
 use Rattle.c_flow_assigns.specs.PlacesBefore.{close_before, declarators_before, function_before, functions_before, places_before, spot_before, start_before, statement_before, statements_before, step_before}
 
 -- one more, if so
@@ -111,5 +111,5 @@ module _ (at : ℕ) where
       joined (places_of_function n f) (places_of_functions (n + 1) functions) (function_before at f) (functions_before at functions) (of_function n f) (of_functions (n + 1) functions)
 
 -- the number of a place by the places before it
-pub number_by_count : (p : ProgramTree) (at : ℕ) → number_at (places_of_program p) at ≡ places_before at p + 1
+pub number_by_count : (p : ProgramTree) (at : ℕ) → place_number_at (places_of_program p) at ≡ places_before at p + 1
 number_by_count p at = ap (λ (n : ℕ). n + 1) (of_functions at 0 p.functions)

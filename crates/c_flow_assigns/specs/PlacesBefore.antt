@@ -37,7 +37,8 @@ module _ (at : ℕ) where
     statement_before (IfElse spot c chosen other) = spot_before spot + statement_before chosen + statement_before other
     statement_before (While spot c body) = spot_before spot + statement_before body
     statement_before (DoWhile body spot c) = statement_before body + spot_before spot
-    statement_before (For begin spot c step body) = start_before begin + spot_before spot + step_before step + statement_before body
+    statement_before (For begin spot c step body) =
+        start_before begin + spot_before spot + step_before step + statement_before body
     statement_before (Switch spot e all) = spot_before spot + statements_before all
     statement_before (Break spot) = spot_before spot
     statement_before (Continue spot) = spot_before spot

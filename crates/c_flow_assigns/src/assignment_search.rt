@@ -7,7 +7,7 @@ ghost use Rattle.c_tree.specs.declared.object_type.Object.{Object};
 ghost use Rattle.c_tree.specs.Programs.{function_view, program_view};
 ghost use Rattle.c_tree.specs.TypedExpressions.{arguments_view, lvalue_view, rvalue_view};
 ghost use Rattle.c_tree.specs.TypedStatements.{declared_view, initial_view, start_view, statement_view, statements_view, step_view};
-ghost use Rattle.c_flow.specs.Assigns.{assigned, assigned_by, assigned_by_all, assigned_by_declarators, assigned_by_entry, assigned_by_function, assigned_by_initial, assigned_by_option, assigned_by_program, assigned_by_start, assigned_by_statements, assigned_by_step, assigned_by_values, assigned_within, assignments_of_program, assigns_object, named, variable_number};
+ghost use Rattle.c_flow.specs.Assigns.{assigned_objects, assigned_by, assigned_by_all, assigned_by_declarators, assigned_by_entry, assigned_by_function, assigned_by_initial, assigned_by_option, assigned_by_program, assigned_by_start, assigned_by_statements, assigned_by_step, assigned_by_values, assigned_within, assignments_of_program, assigns_object, named_object, variable_number};
 ghost use Rattle.c_flow_assigns.specs.Wanted.{has_wanted, is_same_object, is_wanted};
 
 use crate::places_before::after_places;
@@ -48,7 +48,7 @@ fn is_wanted(wanted: &Wanted<'_>, at: u32, object: Object) -> bool
 
 /// Whether the target of an assignment at a position is the one.
 fn is_named(wanted: &Wanted<'_>, at: u32, target: &Lvalue) -> bool
-    ensures { result ≡ has_wanted wanted.now (named at (lvalue_view target.now)) }
+    ensures { result ≡ has_wanted wanted.now (named_object at (lvalue_view target.now)) }
 {
     match target {
         Lvalue::Named { object, .. } => is_wanted(wanted, at, *object),
@@ -74,7 +74,7 @@ fn is_within(wanted: &Wanted<'_>, at: u32, target: &Lvalue) -> bool
 #[cycle(expressions)]
 fn is_in_target(wanted: &Wanted<'_>, at: u32, target: &Lvalue) -> bool
     ensures { result ≡ has_wanted wanted.now
-        (named at (lvalue_view target.now) ++ assigned_within at (lvalue_view target.now)) }
+        (named_object at (lvalue_view target.now) ++ assigned_within at (lvalue_view target.now)) }
 {
     is_named(wanted, at, target) || is_within(wanted, at, target)
 }
@@ -95,7 +95,7 @@ fn is_in_arguments(wanted: &Wanted<'_>, at: u32, all: &Arguments) -> bool
 /// Whether it is within an expression.
 #[cycle(expressions)]
 fn is_in_expression(wanted: &Wanted<'_>, at: u32, e: &Rvalue) -> bool
-    ensures { result ≡ has_wanted wanted.now (assigned at (rvalue_view e.now)) }
+    ensures { result ≡ has_wanted wanted.now (assigned_objects at (rvalue_view e.now)) }
 {
     match e {
         Rvalue::Constant { .. } | Rvalue::Null => false,

@@ -8,7 +8,7 @@ use Rattle.c_tree.specs.Programs.{StaticTree, LiteralTree, ProgramTree}
 use Rattle.c_places.specs.Places.{numbers_from}
 use Rattle.c_meaning_values.specs.declared.value.Value.{Value}
 use Rattle.c_meaning_values.specs.Memory.{Object}
-use Rattle.c_meaning_values.specs.Types.{scalar_size, element_of}
+use Rattle.c_meaning_values.specs.Types.{scalar_size, element_scalar}
 use Rattle.c_meaning.specs.StaticStorage.{spelled, first_value, first_values, static_object, static_objects, literal_object, literal_objects}
 
 -- what four bytes spell
@@ -41,10 +41,10 @@ values_more p v element index =
 
 -- the values so far, and the next
 pub adds_value : (p : ProgramTree) (v : StaticTree) (element : Scalar) (size index : ℕ) (values new : List Value) (x : Value)
-    → element ≡ element_of v.of → size ≡ scalar_size element → values ≡ first_values p v (element_of v.of) (numbers_from 0 index)
-    → x ≡ first_value p v element (index * size) → new ≡ values ++ x ∷ [] → new ≡ first_values p v (element_of v.of) (numbers_from 0 (index + 1))
+    → element ≡ element_scalar v.of → size ≡ scalar_size element → values ≡ first_values p v (element_scalar v.of) (numbers_from 0 index)
+    → x ≡ first_value p v element (index * size) → new ≡ values ++ x ∷ [] → new ≡ first_values p v (element_scalar v.of) (numbers_from 0 (index + 1))
 adds_value p v element size index values new x is_element is_size so_far is_next adds =
-    let of = element_of v.of in
+    let of = element_scalar v.of in
     let next : suc index ≡ index + 1 = omega arith in
     let value : x ≡ first_value p v of (index * scalar_size of) =
     is_next ∙ ap (λ k. first_value p v element (index * k)) is_size ∙ ap (λ e. first_value p v e (index * scalar_size e)) is_element in

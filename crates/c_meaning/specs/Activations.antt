@@ -6,11 +6,11 @@ use Rattle.word_base.specs.Owners.{Owner, Variable}
 use Rattle.c_meaning_steps.specs.declared.event.Frame.{Frame}
 use Rattle.c_meaning_steps.specs.declared.event.Ending.TheVariants.{Turns}
 use Rattle.c_meaning_values.specs.Memory.{Memory, contents}
-use Rattle.c_places.specs.Places.{Place, number_at, scope_at, visible}
+use Rattle.c_places.specs.Places.{Place, place_number_at, scope_at, visible}
 use Rattle.c_meaning_steps.specs.States.{Shown, Stop, State, seen, Outcome, Ended}
 
--- What is the same for all of an activation: the program and its places, the function, and the activations that wait, each with the place of its call,
--- from the innermost on.
+-- What is the same for all of an activation: the program and its places, the function, and the activations that wait,
+-- each with the place of its call, from the innermost on.
 pub record Activation : Type 0 where
   pub program : ProgramTree
   pub places : List Place
@@ -26,12 +26,12 @@ abbrev pub frames_at : Activation → ℕ → List Frame
 frames_at here place = record { function = here.function; place = place } ∷ here.waiting
 
 -- the owner of this activation's object of a variable
-abbrev pub owner_of : Activation → ℕ → Owner
-owner_of here x = Variable x (depth_of here)
+abbrev pub variable_owner : Activation → ℕ → Owner
+variable_owner here x = Variable x (depth_of here)
 
 -- what a stop shows of a variable: its values in memory
 abbrev pub shown : Activation → Memory → ℕ → Shown
-shown here memory x = record { variable = x; values = contents (owner_of here x) memory }
+shown here memory x = record { variable = x; values = contents (variable_owner here x) memory }
 
 -- the visible variables at the place at a position, with their values
 abbrev pub shown_at : Activation → ℕ → Memory → List Shown
@@ -40,7 +40,7 @@ shown_at here at memory = map (shown here memory) (visible here.program.automati
 -- the stop at the place at a position
 abbrev pub stopped : Activation → ℕ → State → State
 stopped here at s =
-    let place = number_at here.places at in
+    let place = place_number_at here.places at in
     seen (Stop place (depth_of here) (frames_at here place) (shown_at here at s.memory) s.memory) s
 
 -- A place has begun, or no turn was left for it.
@@ -50,7 +50,8 @@ pub data Begun : Type 0 where
 
 -- A place is begun: that is a turn and a stop, before anything of the place is done (5.1.2.3).
 abbrev pub begin : Activation → Spot → State → Begun
-begin here spot s = elim s.turns [ zero ↦ NoTurn s | suc left ↦ Goes (stopped here spot.at (record s { turns = left })) ]
+begin here spot s =
+    elim s.turns [ zero ↦ NoTurn s | suc left ↦ Goes (stopped here spot.at (record s { turns = left })) ]
 
 -- what is done where a turn is left
 abbrev pub on_begun : Begun → (State → Outcome) → Outcome

@@ -8,26 +8,28 @@ use Rattle.c_type_rules.specs.Integers.{wrapped}
 use Rattle.c_meaning_values.specs.declared.value.Value.{Value}
 use Rattle.c_meaning_values.specs.declared.value.Value.TheVariants.{Number}
 use Rattle.c_meaning_values.specs.declared.value.Phase.{Phase}
-use Rattle.c_meaning_values.specs.Types.{element_of}
+use Rattle.c_meaning_values.specs.Types.{element_scalar}
 use Rattle.c_meaning_values.specs.Memory.{Object, Memory, new_object, set_value, ended_from}
 use Rattle.c_meaning_steps.specs.States.{State, Outcome, Next, Broken, Continued, Returned, Ended}
-use Rattle.c_meaning.specs.Activations.{Activation, owner_of}
+use Rattle.c_meaning.specs.Activations.{Activation, variable_owner}
 
 -- all objects that began when there were so many end, however control leaves
 abbrev pub ending_from : ℕ → State → State
 ending_from n s = record s { memory = ended_from n s.memory }
 
 -- The objects that began in a block end with it (6.2.4p6).
-abbrev pub closed : ℕ → Outcome → Outcome
-closed n (Next s) = Next (ending_from n s)
-closed n (Broken s) = Broken (ending_from n s)
-closed n (Continued s) = Continued (ending_from n s)
-closed n (Returned v s) = Returned v (ending_from n s)
-closed n (Ended e s) = Ended e s
+abbrev pub lifetimes_ended : ℕ → Outcome → Outcome
+lifetimes_ended n (Next s) = Next (ending_from n s)
+lifetimes_ended n (Broken s) = Broken (ending_from n s)
+lifetimes_ended n (Continued s) = Continued (ending_from n s)
+lifetimes_ended n (Returned v s) = Returned v (ending_from n s)
+lifetimes_ended n (Ended e s) = Ended e s
 
 -- a new object of a variable, if the program has it
 abbrev pub objects_of : Activation → Phase → ℕ → List Object
-objects_of here phase x = option_map_or (λ (a : AutomaticTree). new_object (owner_of here x) a.of phase ∷ []) (slice_get here.program.automatics x) []
+objects_of here phase x =
+    option_map_or (λ (a : AutomaticTree). new_object (variable_owner here x) a.of phase ∷ [])
+    (slice_get here.program.automatics x) []
 
 -- A declarator makes a new object, which is zero (6.2.4p6).
 abbrev pub made : Activation → Phase → ℕ → State → State
@@ -35,9 +37,11 @@ made here phase x s = record s { memory = s.memory ++ objects_of here phase x }
 
 -- the integer type of a variable's elements; `char` where the program has no such variable
 abbrev pub element_type : Activation → ℕ → IntegerType
-element_type here x = option_map_or (λ (a : AutomaticTree). (element_of a.of).base) (slice_get here.program.automatics x) Char
+element_type here x =
+    option_map_or (λ (a : AutomaticTree). (element_scalar a.of).base) (slice_get here.program.automatics x) Char
 
--- The value of an element that a byte of a literal initialises: the byte, converted to the element's type (6.7.9p14, 6.3.1.3).
+-- The value of an element that a byte of a literal initialises: the byte, converted to the element's type (6.7.9p14,
+-- 6.3.1.3).
 abbrev pub element_value : IntegerType → ℕ → Value
 element_value t byte = Number (wrapped t (pos byte))
 

@@ -19,25 +19,33 @@ abbrev pub activate : (ℕ → Calls) → Activation → Option TypedFunctionTre
 activate calls here None vs s = Ends Undefined s
 activate calls here (Some f) vs s = on_entry (enter_turn s) (λ t.
     forgotten (length s.memory) (handed_back (here.function == here.program.main)
-    (at_close here f.close (execute_all calls here f.body (record t { memory = bind here (parameters_of f) vs t.memory })))))
+    (at_close here f.close
+    (execute_all calls here f.body (record t { memory = bind here (parameters_of f) vs t.memory })))))
 
 -- What a call comes to where so many activations may still begin. Others wait, each at the place of its call.
 abbrev pub calls_of : ProgramTree → List Place → ℕ → List Frame → Calls
 calls_of program places zero waiting f vs s = Ends Depth s
 calls_of program places (suc left) waiting f vs s =
     activate (λ place. calls_of program places left (record { function = f; place = place } ∷ waiting))
-    (record { program = program; places = places; function = f; waiting = waiting }) (slice_get program.functions f) vs s
+    (record {
+      program = program;
+      places = places;
+      function = f;
+      waiting = waiting;
+    }) (slice_get program.functions f) vs s
 
 -- what a call at a place of an activation comes to, where so many may still begin
 abbrev pub calls_at : Activation → ℕ → (place : ℕ) → Calls
-calls_at here left place = calls_of here.program here.places left (record { function = here.function; place = place } ∷ here.waiting)
+calls_at here left place =
+    calls_of here.program here.places left (record { function = here.function; place = place } ∷ here.waiting)
 
 -- A run: what was seen of it, and how it ended, or that its turns are used up.
 pub record SourceRun : Type 0 where
   pub events : List Event
   pub ending : Ending
 
--- the run of a program with this ending: that the program ends and that a call is too deep can be seen, undefined behaviour can't
+-- the run of a program with this ending: that the program ends and that a call is too deep can be seen, undefined
+-- behaviour can't
 abbrev pub with_ending : Ending → List Event → SourceRun
 with_ending Undefined events = record { events = events; ending = Undefined }
 with_ending (Exit status) events = record { events = events ++ Exited status ∷ []; ending = Exit status }
@@ -54,4 +62,9 @@ finished (Ends e s) = with_ending e s.events
 -- The run of a program on an input, of at most so many turns. Nothing follows what C does not define.
 abbrev pub source_run : ProgramTree → (input : List ℕ) → (turns : ℕ) → SourceRun
 source_run p input turns =
-    finished (calls_of p (places_of_program p) 1024 [] p.main [] (record { memory = first_memory p; input = input; events = []; turns = turns }))
+    finished (calls_of p (places_of_program p) 1024 [] p.main [] (record {
+      memory = first_memory p;
+      input = input;
+      events = [];
+      turns = turns;
+    }))

@@ -6,13 +6,13 @@ use Rattle.c_tree.specs.declared.object_type.Object as designator
 use Rattle.c_tree.specs.declared.object_type.Object.TheVariants as designator-is
 use Rattle.c_tree.specs.declared.program.Relocation.{Relocation}
 use Rattle.c_tree.specs.Programs.{StaticTree, LiteralTree, ProgramTree}
-use Rattle.word_base.specs.Types.{number_of}
+use Rattle.word_base.specs.Types.{number_of_bits}
 use Rattle.word_base.specs.Owners.{Static, Literal}
 use Rattle.c_meaning_values.specs.declared.value.Value.{Value}
 use Rattle.c_meaning_values.specs.declared.value.Value.TheVariants.{Number, Null, Pointer}
 use Rattle.c_meaning_values.specs.declared.value.Phase.TheVariants.{Live}
 use Rattle.c_type_rules.specs.Integers.{integer}
-use Rattle.c_meaning_values.specs.Types.{integer_size, scalar_size, element_of, count_of}
+use Rattle.c_meaning_values.specs.Types.{integer_size, scalar_size, element_scalar, value_count}
 use Rattle.c_meaning_values.specs.Memory.{Object, Memory}
 use Rattle.c_places.specs.Places.{numbers_from}
 
@@ -30,12 +30,15 @@ static_number p (designator-is.Automatic n) = n
 -- the address in a static object's word
 abbrev pub address_at : ProgramTree → List Relocation → ℕ → Value
 address_at p [] place = Null
-address_at p (r ∷ more) place = if r.at == place then Pointer (static_number p r.object) r.offset else address_at p more place
+address_at p (r ∷ more) place =
+    if r.at == place then Pointer (static_number p r.object) r.offset else address_at p more place
 
 -- the value that a static object of a type has at a byte at first
 abbrev pub first_value : ProgramTree → StaticTree → Scalar → (place : ℕ) → Value
 first_value p v of place =
-    if of.stars == 0 then Number (number_of (integer of.base) (spelled (take (integer_size of.base) (drop place v.bytes)))) else address_at p v.relocations place
+    if of.stars == 0
+    then Number (number_of_bits (integer of.base) (spelled (take (integer_size of.base) (drop place v.bytes))))
+    else address_at p v.relocations place
 
 abbrev pub first_values : ProgramTree → StaticTree → (element : Scalar) → List ℕ → List Value
 first_values p v element indices = map (λ i. first_value p v element (i * scalar_size element)) indices
@@ -43,7 +46,12 @@ first_values p v element indices = map (λ i. first_value p v element (i * scala
 -- An object of static storage lives from the beginning, with the values of its initializer (6.2.4p3, 6.7.9p10).
 abbrev pub static_object : ProgramTree → ℕ → StaticTree → Object
 static_object p n v =
-    record { owner = Static n; element = element_of v.of; values = first_values p v (element_of v.of) (numbers_from 0 (count_of v.of)); phase = Live }
+    record {
+      owner = Static n;
+      element = element_scalar v.of;
+      values = first_values p v (element_scalar v.of) (numbers_from 0 (value_count v.of));
+      phase = Live;
+    }
 
 -- objects of static storage, numbered from n on
 abbrev pub static_objects : ProgramTree → ℕ → List StaticTree → List Object
@@ -52,7 +60,13 @@ static_objects p n (v ∷ more) = static_object p n v ∷ static_objects p (n + 
 
 -- the object of a string literal (6.4.5p6)
 abbrev pub literal_object : ℕ → LiteralTree → Object
-literal_object n l = record { owner = Literal n; element = record { base = Char; stars = 0 }; values = map (λ byte. Number (pos byte)) l.bytes; phase = Live }
+literal_object n l =
+    record {
+      owner = Literal n;
+      element = record { base = Char; stars = 0 };
+      values = map (λ byte. Number (pos byte)) l.bytes;
+      phase = Live;
+    }
 
 -- the objects of string literals, numbered from n on
 abbrev pub literal_objects : ℕ → List LiteralTree → List Object

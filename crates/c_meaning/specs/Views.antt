@@ -11,7 +11,7 @@ use Rattle.c_meaning.specs.declared.loops.Round.TheVariants as round
 use Rattle.debug_records.specs.declared.source.Spot.{Spot}
 use Rattle.c_meaning_steps.specs.States.{State, Evaluated, Outcome, Tested, Listed, Lists, NoList}
 use Rattle.c_meaning.specs.Activations.{Activation, depth_of}
-use Rattle.c_meaning.specs.Statements.{execute, execute_all, value_at, test_at, check, run, step, begin_loop, declare_all, declare, initialise_elements, while_round, do_round, for_round}
+use Rattle.c_meaning.specs.Statements.{execute, execute_all, value_at, test_at, check, expression_run, step, begin_loop, declare_all, declare, initialise_elements, while_round, do_round, for_round}
 use Rattle.c_meaning.specs.Runs.{calls_at}
 use Rattle.c_meaning_steps.specs.Views.{end_view, outcome_view}
 use Rattle.c_meaning.specs.CActivationsViews.{activation_view}
@@ -34,7 +34,8 @@ abbrev pub designates : declared-activation.Activation → (place : ℕ) → Lva
 designates here place = designate (calls_at (activation_view here) here.left place) (depth_of (activation_view here))
 
 abbrev pub evaluates_all : declared-activation.Activation → (place : ℕ) → ArgumentTrees → State → Listed
-evaluates_all here place = evaluate_all (calls_at (activation_view here) here.left place) (depth_of (activation_view here))
+evaluates_all here place =
+    evaluate_all (calls_at (activation_view here) here.left place) (depth_of (activation_view here))
 
 -- what statements come to in an activation
 abbrev pub executes : declared-activation.Activation → TypedStatementTree → State → Outcome
@@ -53,7 +54,7 @@ abbrev pub checks : declared-activation.Activation → Spot → Option RvalueTre
 checks here = check (calls_at (activation_view here) here.left) (activation_view here)
 
 abbrev pub runs : declared-activation.Activation → Spot → RvalueTree → State → Outcome
-runs here = run (calls_at (activation_view here) here.left) (activation_view here)
+runs here = expression_run (calls_at (activation_view here) here.left) (activation_view here)
 
 abbrev pub steps : declared-activation.Activation → Option StepTree → State → Outcome
 steps here = step (calls_at (activation_view here) here.left) (activation_view here)
@@ -67,14 +68,16 @@ declares_all here = declare_all (calls_at (activation_view here) here.left) (act
 abbrev pub declares : declared-activation.Activation → DeclaredTree → State → Outcome
 declares here = declare (calls_at (activation_view here) here.left) (activation_view here)
 
-abbrev pub initialises_elements : declared-activation.Activation → Spot → (object index : ℕ) → List RvalueTree → State → Outcome
+abbrev pub initialises_elements : declared-activation.Activation → Spot → (object index : ℕ) → List RvalueTree → State
+    → Outcome
 initialises_elements here = initialise_elements (calls_at (activation_view here) here.left) (activation_view here)
 
 -- a round of a loop, given what a next round comes to
 abbrev pub round_of : declared-activation.Activation → TypedStatementTree → (State → Outcome) → State → Outcome
 round_of here (While spot c body) = while_round (activation_view here) spot (tests_at here spot c) (executes here body)
 round_of here (DoWhile body spot c) = do_round (activation_view here) spot (tests_at here spot c) (executes here body)
-round_of here (For start spot c p body) = for_round (activation_view here) spot (checks here spot c) (executes here body) (steps here p)
+round_of here (For start spot c p body) =
+    for_round (activation_view here) spot (checks here spot c) (executes here body) (steps here p)
 round_of here _ = λ again s. again s
 
 -- how a round of a loop ends, given what a next round comes to

@@ -90,7 +90,8 @@ abbrev pub sums : ProgramTree
 sums =
     only_main 23 72 (variable 120 38 int ∷ [])
     (sequence (
-    declares 0 38 (number 2) ∷ Run (spot 43) (Assign int (the 0) (Arithmetic Add Int (value_of 0) (number 3))) ∷ puts 50 65
+    declares 0 38 (number 2) ∷ Run (spot 43) (Assign int (the 0) (Arithmetic Add Int (value_of 0) (number 3)))
+    ∷ puts 50 65
     ∷ Return (spot 63) (Some (value_of 0)) ∷ []))
 
 -- x's object, holding a number
@@ -111,20 +112,27 @@ abbrev pub empty_if : ProgramTree
 empty_if =
     only_main 4 49 (variable 99 19 int ∷ [])
     (sequence (
-    declares 0 19 (number 0) ∷ IfElse (spot 28) (value_of 0) (Empty (spot 31)) (Empty (spot 38)) ∷ Return (spot 40) (Some (value_of 0)) ∷ []))
+    declares 0 19 (number 0) ∷ IfElse (spot 28) (value_of 0) (Empty (spot 31)) (Empty (spot 38))
+    ∷ Return (spot 40) (Some (value_of 0)) ∷ []))
 
 -- int main(void){for(;;){}}
 abbrev pub endless : ProgramTree
 endless = only_main 4 24 [] (sequence (For Nothing (spot 15) None None (Block none) ∷ []))
 
--- #include <stdio.h>
--- int main(void){switch(1){case 0: putchar(48); case 1: putchar(49); case 2: putchar(50); break; default: putchar(51);} return 0;}
+-- #include <stdio.h> int main(void){switch(1){case 0: putchar(48); case 1: putchar(49); case 2: putchar(50); break;
+-- default: putchar(51);} return 0;}
 abbrev pub falls_through : ProgramTree
 falls_through =
     only_main 23 146 []
     (sequence (
     Switch (spot 41) (number 1)
-    (case (pos 0) (first (puts 52 48) (case (pos 1) (first (puts 73 49) (case (pos 2) (first (puts 94 50) (first (Break (spot 107)) (default (first (puts 123 51) none))))))))) ∷ Return (spot 137) (Some (number 0)) ∷ []))
+    (case (pos 0)
+    (first (puts 52 48)
+    (case (pos 1)
+    (first (puts 73 49)
+    (case (pos 2)
+    (first (puts 94 50) (first (Break (spot 107)) (default (first (puts 123 51) none)))))))))
+    ∷ Return (spot 137) (Some (number 0)) ∷ []))
 
 -- int main(void){int x=2147483647; x=x+1; return 0;}
 abbrev pub overflows : ProgramTree
@@ -150,7 +158,10 @@ goes_on =
     only_main 4 59 (variable 105 23 int ∷ [])
     (sequence (
     For (Declares (record { variable = 0; spot = spot 23; initial = statement.Scalar (number 0) } ∷ [])) (spot 28)
-    (Some (Compare Less Int (value_of 0) (number 2))) (Some (record { spot = spot 33; value = Assign int (the 0) (Arithmetic Add Int (value_of 0) (number 1)) }))
+    (Some (Compare Less Int (value_of 0) (number 2))) (Some (record {
+      spot = spot 33;
+      value = Assign int (the 0) (Arithmetic Add Int (value_of 0) (number 1));
+    }))
     (Continue (spot 40)) ∷ Return (spot 50) (Some (number 0)) ∷ []))
 
 -- the `int` to which the variable 0 points
@@ -169,7 +180,10 @@ stores_first = record {
         first_variable = 0;
         parameters = 1;
         variables = 1;
-        body = sequence (Run (spot 16) (Assign int target_of_p (number 5)) ∷ Return (spot 22) (Some (Arithmetic Add Int (Load int target_of_p) (number 1))) ∷ []);
+        body =
+            sequence
+            (Run (spot 16) (Assign int target_of_p (number 5))
+            ∷ Return (spot 22) (Some (Arithmetic Add Int (Load int target_of_p) (number 1))) ∷ []);
         close = spot 34;
         weight = 0;
       }
@@ -191,7 +205,8 @@ stores_first = record {
       ∷ [];
   main = 1;
   statics = [];
-  automatics = variable 112 13 pointer_to_int ∷ record (variable 120 55 int) { in_memory = true } ∷ variable 121 70 int ∷ [];
+  automatics =
+      variable 112 13 pointer_to_int ∷ record (variable 120 55 int) { in_memory = true } ∷ variable 121 70 int ∷ [];
   literals = [];
   array_literals = [];
   weight = 0;
@@ -200,7 +215,9 @@ stores_first = record {
 -- int main(void){int x = x + 1; return x;}
 abbrev pub reads_first : ProgramTree
 reads_first =
-    only_main 4 39 (variable 120 19 int ∷ []) (sequence (declares 0 19 (Arithmetic Add Int (value_of 0) (number 1)) ∷ Return (spot 30) (Some (value_of 0)) ∷ []))
+    only_main 4 39 (variable 120 19 int ∷ [])
+    (sequence
+    (declares 0 19 (Arithmetic Add Int (value_of 0) (number 1)) ∷ Return (spot 30) (Some (value_of 0)) ∷ []))
 
 -- the numbers of the places at which a run stops
 abbrev pub places_in : List Event → List ℕ

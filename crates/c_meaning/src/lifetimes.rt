@@ -6,7 +6,7 @@ ghost use Rattle.c_meaning_values.specs.Memory.{begun, set_value};
 ghost use Rattle.c_meaning.specs.CActivationsViews.{activation_view};
 ghost use Rattle.c_meaning_steps.specs.Views.{evaluated_view, outcome_view, state_view};
 ghost use Rattle.c_meaning_values.specs.Views.{object_view};
-ghost use Rattle.c_meaning.specs.Lifetimes.{closed, element_type, element_value, ending_from, literal_values, made, set_values};
+ghost use Rattle.c_meaning.specs.Lifetimes.{lifetimes_ended, element_type, element_value, ending_from, literal_values, made, set_values};
 ghost use Rattle.c_meaning.specs.Calls.{forgotten};
 
 use crate::activation::Activation;
@@ -62,7 +62,7 @@ pub fn end_objects(first: usize, state: &mut State)
 
 /// A block is left.
 pub fn close(first: usize, outcome: Outcome, state: &mut State)
-    ensures { outcome_view outcome (state_view state.new) ≡ closed first (outcome_view outcome (state_view state.old)) }
+    ensures { outcome_view outcome (state_view state.new) ≡ lifetimes_ended first (outcome_view outcome (state_view state.old)) }
 {
     match outcome {
         Outcome::Next | Outcome::Broken | Outcome::Continued | Outcome::Returned(_) => {

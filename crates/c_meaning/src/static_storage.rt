@@ -4,7 +4,7 @@ ghost use Rattle.std.specs.Prelude.{◌≡◌, ◌+◌, ◌++◌, ◌<◌, ◌^�
 ghost use Rattle.c_tree.specs.Programs.{literal_view, program_view, static_view};
 ghost use Rattle.c_places.specs.Places.{numbers_from};
 ghost use Rattle.c_meaning_values.specs.declared.value.Value.TheVariants.{Number};
-ghost use Rattle.c_meaning_values.specs.Types.{count_of, element_of, integer_size};
+ghost use Rattle.c_meaning_values.specs.Types.{value_count, element_scalar, integer_size};
 ghost use Rattle.c_meaning_values.specs.Views.{object_view};
 ghost use Rattle.c_meaning.specs.StaticStorage.{address_at, first_memory, first_value, first_values, literal_object, literal_objects, spelled, static_number, static_object, static_objects};
 
@@ -93,8 +93,8 @@ fn first_values(
     variable: &StaticVariable,
 ) -> Result<Vec<Value>, AllocError>
     ensures { IfOk result (λ v.
-        v.items ≡ first_values (program_view program.now) (static_view variable.now) (element_of variable.now.of)
-        (numbers_from 0 (count_of variable.now.of))) }
+        v.items ≡ first_values (program_view program.now) (static_view variable.now) (element_scalar variable.now.of)
+        (numbers_from 0 (value_count variable.now.of))) }
 {
     let element = element_of(variable.of);
     let size = scalar_size(element) as usize;

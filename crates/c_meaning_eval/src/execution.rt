@@ -7,9 +7,9 @@ ghost use Rattle.c_meaning.specs.CActivationsViews.{activation_view};
 ghost use Rattle.c_meaning.specs.Views.{behind, designates, evaluates, evaluates_all, listed_view};
 ghost use Rattle.c_meaning_steps.specs.Views.{both_view, evaluated_view, state_view, tested_view};
 ghost use Rattle.c_places.specs.Places.{place_view};
-ghost use Rattle.c_meaning_steps.specs.States.{both, tested};
+ghost use Rattle.c_meaning_steps.specs.States.{both_operands, condition_tested};
 ghost use Rattle.c_meaning.specs.Expressions.{call};
-ghost use Rattle.c_meaning_steps.specs.Steps.{located};
+ghost use Rattle.c_meaning_steps.specs.Steps.{left_side_read};
 ghost use Rattle.c_meaning.specs.Runs.{activate, calls_at, calls_of};
 
 use crate::statements::execute_all as execute_statements;
@@ -167,7 +167,7 @@ fn evaluate_test(
     state: &mut State,
 ) -> Result<Tested, AllocError>
     ensures { IfOk result (λ t.
-        tested_view t (state_view state.new) ≡ tested
+        tested_view t (state_view state.new) ≡ condition_tested
         (evaluates here.now place (rvalue_view e.now) (state_view state.old))) }
 {
     let value = done!(evaluate(alloc, here, place, e, state));
@@ -185,7 +185,7 @@ fn evaluate_both(
     state: &mut State,
 ) -> Result<Operands, AllocError>
     ensures { IfOk result (λ b.
-        both_view b (state_view state.new) ≡ both
+        both_view b (state_view state.new) ≡ both_operands
         (evaluates here.now place (rvalue_view left.now) (state_view state.old))
         (evaluates here.now place (rvalue_view right.now))) }
 {
@@ -210,7 +210,7 @@ fn designate_and_evaluate(
     state: &mut State,
 ) -> Result<Operands, AllocError>
     ensures { IfOk result (λ b.
-        both_view b (state_view state.new) ≡ both
+        both_view b (state_view state.new) ≡ both_operands
         (designates here.now place (lvalue_view target.now) (state_view state.old))
         (evaluates here.now place (rvalue_view right.now))) }
 {
@@ -234,7 +234,7 @@ fn locate(
     state: &mut State,
 ) -> Result<Operands, AllocError>
     ensures { IfOk result (λ b.
-        both_view b (state_view state.new) ≡ located
+        both_view b (state_view state.new) ≡ left_side_read
         (designates here.now place (lvalue_view target.now) (state_view state.old))) }
 {
     let found = done!(designate(alloc, here, place, target, state));

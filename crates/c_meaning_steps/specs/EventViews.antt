@@ -19,7 +19,8 @@ abbrev pub event_view : declared-event.Event → Event
 event_view (event.Put byte) = Put byte
 event_view (event.Exited status) = Exited status
 event_view event.TooDeep = TooDeep
-event_view (event.Stop s) = Stop s.place s.depth s.frames.items (map shown_view s.shown.items) (map object_view s.memory.items)
+event_view (event.Stop s) =
+    Stop s.place s.depth s.frames.items (map shown_view s.shown.items) (map object_view s.memory.items)
 
 -- Behind these events comes a stop, which stands there, and is the one that was made, if one was.
 pub record IsNextStop (before after : List Event) (at : Standing) (made : Option declared-stop.Stop) : Type 0 where

@@ -12,15 +12,17 @@ pub record Shown : Type 0 where
   pub variable : ℕ
   pub values : List Value
 
--- What can be seen of a run: a byte that is put out, the end of the program with its status, a call that finds 1,024 activations alive, or a stop. At a stop
--- a place is begun: its number, how many activations live, these from the innermost on, the visible variables, and all objects.
+-- What can be seen of a run: a byte that is put out, the end of the program with its status, a call that finds 1,024
+-- activations alive, or a stop. At a stop a place is begun: its number, how many activations live, these from the
+-- innermost on, the visible variables, and all objects.
 pub data Event : Type 0 where
   Put : ℕ → Event
   Exited : ℤ → Event
   TooDeep : Event
   Stop : (place depth : ℕ) → List Frame → List Shown → Memory → Event
 
--- What a run has: its objects, the input that is left, the events so far in order, and how many places it may still begin.
+-- What a run has: its objects, the input that is left, the events so far in order, and how many places it may still
+-- begin.
 pub record State : Type 0 where
   pub memory : Memory
   pub input : List ℕ
@@ -31,13 +33,15 @@ pub record State : Type 0 where
 abbrev pub seen : Event → State → State
 seen e s = record s { events = s.events ++ e ∷ [] }
 
--- What an expression comes to: a value, or no value (a call of a function that gave none, or a cast to `void`), or the run ends within it.
+-- What an expression comes to: a value, or no value (a call of a function that gave none, or a cast to `void`), or the
+-- run ends within it.
 pub data Evaluated : Type 0 where
   Gives : Value → State → Evaluated
   Leaves : State → Evaluated
   Ends : Ending → State → Evaluated
 
--- What a statement comes to: control goes on behind it, leaves by `break`, `continue` or `return`, or the run ends within it.
+-- What a statement comes to: control goes on behind it, leaves by `break`, `continue` or `return`, or the run ends
+-- within it.
 pub data Outcome : Type 0 where
   Next : State → Outcome
   Broken : State → Outcome
@@ -46,9 +50,9 @@ pub data Outcome : Type 0 where
   Ended : Ending → State → Outcome
 
 -- a value, or undefined where there is none
-abbrev pub given : Option Value → State → Evaluated
-given None s = Ends Undefined s
-given (Some v) s = Gives v s
+abbrev pub value_or_undefined : Option Value → State → Evaluated
+value_or_undefined None s = Ends Undefined s
+value_or_undefined (Some v) s = Gives v s
 
 -- the value of an expression is used: one that has none is undefined (6.9.1p12)
 abbrev pub with : Evaluated → (Value → State → Evaluated) → Evaluated
@@ -64,7 +68,7 @@ afterwards (Ends e s) go = Ends e s
 
 -- the value of an expression, if it has one, becomes another
 abbrev pub mapped : Evaluated → (Value → Option Value) → Evaluated
-mapped (Gives v s) f = given (f v) s
+mapped (Gives v s) f = value_or_undefined (f v) s
 mapped (Leaves s) f = Leaves s
 mapped (Ends e s) f = Ends e s
 
@@ -84,17 +88,18 @@ second v (Leaves s) = NoPair Undefined s
 second v (Ends e s) = NoPair e s
 
 -- the values of two operands, the left one first
-abbrev pub both : Evaluated → (State → Evaluated) → Both
-both (Gives v s) right = second v (right s)
-both (Leaves s) right = NoPair Undefined s
-both (Ends e s) right = NoPair e s
+abbrev pub both_operands : Evaluated → (State → Evaluated) → Both
+both_operands (Gives v s) right = second v (right s)
+both_operands (Leaves s) right = NoPair Undefined s
+both_operands (Ends e s) right = NoPair e s
 
 -- what is done with the values of two operands
 abbrev pub on_both : Both → (Value → Value → State → Evaluated) → Evaluated
 on_both (Pair v w s) go = go v w s
 on_both (NoPair e s) go = Ends e s
 
--- Whether a value is true; or the run ends within its expression. A value that is tested is no pointer to an object that has ended.
+-- Whether a value is true; or the run ends within its expression. A value that is tested is no pointer to an object
+-- that has ended.
 pub data Tested : Type 0 where
   Holds : State → Tested
   Fails : State → Tested
@@ -112,10 +117,10 @@ tested_usable (Leaves s) = NoTest Undefined s
 tested_usable (Ends e s) = NoTest e s
 
 -- a condition by its value, which must be one that may be used
-abbrev pub tested : Evaluated → Tested
-tested (Gives v s) = tested_usable (usable v s)
-tested (Leaves s) = NoTest Undefined s
-tested (Ends e s) = NoTest e s
+abbrev pub condition_tested : Evaluated → Tested
+condition_tested (Gives v s) = tested_usable (usable v s)
+condition_tested (Leaves s) = NoTest Undefined s
+condition_tested (Ends e s) = NoTest e s
 
 -- one way where a test holds, another where it fails
 abbrev pub on_test : Tested → (State → Evaluated) → (State → Evaluated) → Evaluated
@@ -140,10 +145,10 @@ fronted v (Lists vs s) = Lists (v ∷ vs) s
 fronted v (NoList e s) = NoList e s
 
 -- what is done with the value of an argument, and then the arguments behind it
-abbrev pub listed : Evaluated → (Value → State → Listed) → Listed
-listed (Gives v s) go = go v s
-listed (Leaves s) go = NoList Undefined s
-listed (Ends e s) go = NoList e s
+abbrev pub argument_listed : Evaluated → (Value → State → Listed) → Listed
+argument_listed (Gives v s) go = go v s
+argument_listed (Leaves s) go = NoList Undefined s
+argument_listed (Ends e s) go = NoList e s
 
 -- what is done with the values of all arguments
 abbrev pub on_list : Listed → (List Value → State → Evaluated) → Evaluated

@@ -11,28 +11,28 @@ use Rattle.word_base.specs.Owners as owner
 use Rattle.c_meaning_values.specs.declared.value.Value.{Value}
 use Rattle.c_meaning_values.specs.declared.value.Value.TheVariants as value
 use Rattle.c_meaning_steps.specs.declared.event.Ending.TheVariants as ending
-use Rattle.c_meaning_values.specs.Memory.{Memory, address_of, read, write}
+use Rattle.c_meaning_values.specs.Memory.{Memory, pointer_to_owner, read, write}
 use Rattle.c_meaning_values.specs.Operations.{arithmetic, convert}
-use Rattle.c_meaning_steps.specs.States.{State, Put, seen, Evaluated, Gives, Leaves, Ends, given, with, usable, Both, Pair, NoPair}
+use Rattle.c_meaning_steps.specs.States.{State, Put, seen, Evaluated, Gives, Leaves, Ends, value_or_undefined, with, usable, Both, Pair, NoPair}
 
 -- what an object holds where a pointer points; a pointer that is read is one that may be used
 abbrev pub load : Value → State → Evaluated
-load p s = with (given (read s.memory p) s) usable
+load p s = with (value_or_undefined (read s.memory p) s) usable
 
 -- memory with a value written, or undefined behaviour where it could not be written
-abbrev pub stored : Option Memory → Value → State → Evaluated
-stored None v s = Ends ending.Undefined s
-stored (Some memory) v s = Gives v (record s { memory = memory })
+abbrev pub value_stored : Option Memory → Value → State → Evaluated
+value_stored None v s = Ends ending.Undefined s
+value_stored (Some memory) v s = Gives v (record s { memory = memory })
 
 -- a value is written where a pointer points, and is the value of the assignment (6.5.16p3)
 abbrev pub store : Value → Value → State → Evaluated
-store p v s = stored (write s.memory p v) v s
+store p v s = value_stored (write s.memory p v) v s
 
 -- a pointer to the beginning of an object that a name designates, in an activation of this depth
-abbrev pub named : ℕ → designator.Object → Memory → Option Value
-named depth (Static n) memory = address_of (owner.Static n) memory
-named depth (Literal n) memory = address_of (owner.Literal n) memory
-named depth (Automatic x) memory = address_of (owner.Variable x depth) memory
+abbrev pub pointer_to_named : ℕ → designator.Object → Memory → Option Value
+pointer_to_named depth (Static n) memory = pointer_to_owner (owner.Static n) memory
+pointer_to_named depth (Literal n) memory = pointer_to_owner (owner.Literal n) memory
+pointer_to_named depth (Automatic x) memory = pointer_to_owner (owner.Variable x depth) memory
 
 -- a value, if another one could be read
 abbrev pub if_read : Option Value → Value → Option Value
@@ -41,7 +41,7 @@ if_read (Some v) p = Some p
 
 -- An array that is used is a pointer to its first element, which is there (6.3.2.1p3).
 abbrev pub decayed : Value → State → Evaluated
-decayed p s = given (if_read (read s.memory p) p) s
+decayed p s = value_or_undefined (if_read (read s.memory p) p) s
 
 -- an old value was read, and a new one is written: the value is the new one or the old one
 abbrev pub replaced : Given → Value → (old new : Value) → State → Evaluated
@@ -54,9 +54,9 @@ next_byte [] s = Gives (value.Number (negsuc 0)) s
 next_byte (byte ∷ input) s = Gives (value.Number (pos byte)) (record s { input = input })
 
 -- A byte is put out, converted to `unsigned char`, and is the value (7.21.7.8).
-abbrev pub put : Value → State → Evaluated
-put (value.Number z) s = Gives (value.Number (converted char_type z)) (seen (Put (bits_of char_type z)) s)
-put _ s = Ends ending.Undefined s
+abbrev pub byte_put : Value → State → Evaluated
+byte_put (value.Number z) s = Gives (value.Number (converted char_type z)) (seen (Put (bits_of char_type z)) s)
+byte_put _ s = Ends ending.Undefined s
 
 -- the program ends with a status (7.22.4.4)
 abbrev pub leave : Value → State → Evaluated
@@ -64,8 +64,8 @@ leave (value.Number z) s = Ends (ending.Exit z) s
 leave _ s = Ends ending.Undefined s
 
 -- the value of a condition as a number
-abbrev pub truth : ℤ → State → Evaluated
-truth z s = Gives (value.Number z) s
+abbrev pub truth_value : ℤ → State → Evaluated
+truth_value z s = Gives (value.Number z) s
 
 -- the value that was read through a pointer, beside the pointer
 abbrev pub read_by : Value → Evaluated → Both
@@ -74,15 +74,18 @@ read_by p (Leaves s) = NoPair ending.Undefined s
 read_by p (Ends e s) = NoPair e s
 
 -- the object of a left side was found, and is read: where it is, and what it holds
-abbrev pub located : Evaluated → Both
-located (Gives p s) = read_by p (load p s)
-located (Leaves s) = NoPair ending.Undefined s
-located (Ends e s) = NoPair e s
+abbrev pub left_side_read : Evaluated → Both
+left_side_read (Gives p s) = read_by p (load p s)
+left_side_read (Leaves s) = NoPair ending.Undefined s
+left_side_read (Ends e s) = NoPair e s
 
--- What `a op= b` makes of an integer: the old value and the right side are operands in a type, and the result is converted to the target's type (6.5.16.2p3).
-abbrev pub updated : declared-arithmetic.Arithmetic → (type calculated_in : IntegerType) → (old right : Value) → Option Value
-updated o type calculated_in old right =
-    option_and_then (λ r. convert type r) (option_and_then (λ left. arithmetic o calculated_in left right) (convert calculated_in old))
+-- What `a op= b` makes of an integer: the old value and the right side are operands in a type, and the result is
+-- converted to the target's type (6.5.16.2p3).
+abbrev pub updated_value : declared-arithmetic.Arithmetic → (type calculated_in : IntegerType) → (old right : Value)
+    → Option Value
+updated_value o type calculated_in old right =
+    option_and_then (λ r. convert type r)
+    (option_and_then (λ left. arithmetic o calculated_in left right) (convert calculated_in old))
 
 -- a new value, if there is one, is written where a pointer points
 abbrev pub store_if : Option Value → Value → State → Evaluated

@@ -1,4 +1,5 @@
--- What is told of a list of events in short: how many stops and how many bytes are in it, and where its last stop stands.
+-- What is told of a list of events in short: how many stops and how many bytes are in it, and where its last stop
+-- stands.
 use Rattle.std.specs.Prelude.{ℕ, ◌+◌, ◌-◌, ◌^◌, min, List, [], ◌∷◌, Option, Some, None}
 use Rattle.c_meaning_steps.specs.declared.event.Frame.{Frame}
 use Rattle.c_meaning_steps.specs.declared.event.Standing.{Standing}
@@ -42,7 +43,8 @@ abbrev pub standing : Event → Option Standing
 standing (Put byte) = None
 standing (Exited status) = None
 standing TooDeep = None
-standing (Stop place depth frames shown memory) = Some (record { place = place; depth = depth; function = innermost frames })
+standing (Stop place depth frames shown memory) =
+    Some (record { place = place; depth = depth; function = innermost frames })
 
 -- the later of two, if there is one
 abbrev pub later : (before after : Option Standing) → Option Standing

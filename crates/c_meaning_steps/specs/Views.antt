@@ -18,7 +18,13 @@ use Rattle.c_meaning_values.specs.Views.{object_view}
 pub use Rattle.c_meaning_steps.specs.EventViews.{shown_view, event_view}
 
 abbrev pub state_view : declared-state.State → State
-state_view s = record { memory = map object_view s.memory.all.items; input = s.input.now; events = s.seen.log.events; turns = s.turns }
+state_view s =
+    record {
+      memory = map object_view s.memory.all.items;
+      input = s.input.now;
+      events = s.seen.log.events;
+      turns = s.turns;
+    }
 
 -- how a run ends; the definitions do not say why C leaves it undefined
 abbrev pub end_view : declared-end.End → Ending

@@ -3,10 +3,10 @@
 ghost use Rattle.std.specs.Prelude.{◌≡◌, pos};
 ghost use Rattle.c_meaning_steps.specs.Views.{both_view, evaluated_view, outcome_view, state_view, tested_view};
 ghost use Rattle.c_meaning_steps.specs.States as states;
-ghost use Rattle.c_meaning_steps.specs.States.{afterwards, given, mapped, on_both, on_effect, on_test, second, tested, usable, with, Leaves, Next};
+ghost use Rattle.c_meaning_steps.specs.States.{afterwards, value_or_undefined, mapped, on_both, on_effect, on_test, second, condition_tested, usable, with, Leaves, Next};
 ghost use Rattle.c_tree.specs.declared.typed_expression.Direction.TheVariants.{Up};
-ghost use Rattle.c_meaning_values.specs.Operations.{arithmetic, comparison, convert, moved_by, operator_of, pointer_comparison, pointer_difference, signed};
-ghost use Rattle.c_meaning_steps.specs.Steps.{decayed, load, located, one, replace_if, store, store_if, truth, updated};
+ghost use Rattle.c_meaning_values.specs.Operations.{arithmetic, comparison, convert, moved_by_elements, operator_of, pointer_comparison, pointer_difference, value_with_sign};
+ghost use Rattle.c_meaning_steps.specs.Steps.{decayed, load, left_side_read, one, replace_if, store, store_if, truth_value, updated_value};
 
 use crate::fault::{
     Fault, arithmetic_fault, difference_fault, move_fault, order_fault, update_fault,
@@ -91,7 +91,7 @@ pub fn discard(operand: Evaluated) -> Evaluated
 /// An operand with its sign.
 pub fn sign_from(sign: Sign, of: IntegerType, operand: Evaluated) -> Evaluated
     ensures { (s : states.State)
-        → evaluated_view result s ≡ with (evaluated_view operand s) (λ v t. given (signed sign of v) t) }
+        → evaluated_view result s ≡ with (evaluated_view operand s) (λ v t. value_or_undefined (value_with_sign sign of v) t) }
 {
     match operand {
         Evaluated::Gives(value) => given(signed(sign, of, value), Fault::ResultTooGreat),
@@ -113,7 +113,7 @@ pub fn second(left: Value, right: Evaluated) -> Operands
 
 /// Whether an operand is true.
 pub fn tested(operand: Evaluated, state: &State) -> Tested
-    ensures { tested_view result (state_view state.now) ≡ tested (evaluated_view operand (state_view state.now)) }
+    ensures { tested_view result (state_view state.now) ≡ condition_tested (evaluated_view operand (state_view state.now)) }
 {
     match operand {
         Evaluated::Gives(value) => match usable(value, state) {
@@ -135,7 +135,7 @@ pub fn tested(operand: Evaluated, state: &State) -> Tested
 /// 1 where a test holds, and 0 where it fails.
 pub fn truth_of(test: Tested) -> Evaluated
     ensures { (s : states.State) → evaluated_view result s
-        ≡ on_test (tested_view test s) (truth (pos 1)) (truth (pos 0)) }
+        ≡ on_test (tested_view test s) (truth_value (pos 1)) (truth_value (pos 0)) }
 {
     match test {
         Tested::Holds => Evaluated::Gives(Value::Number(1)),
@@ -147,7 +147,7 @@ pub fn truth_of(test: Tested) -> Evaluated
 /// 0 where a test holds, and 1 where it fails.
 pub fn not_of(test: Tested) -> Evaluated
     ensures { (s : states.State) → evaluated_view result s
-        ≡ on_test (tested_view test s) (truth (pos 0)) (truth (pos 1)) }
+        ≡ on_test (tested_view test s) (truth_value (pos 0)) (truth_value (pos 1)) }
 {
     match test {
         Tested::Holds => Evaluated::Gives(Value::Number(0)),
@@ -159,7 +159,7 @@ pub fn not_of(test: Tested) -> Evaluated
 /// Arithmetic on two operands.
 pub fn arithmetic_from(operator: Arithmetic, of: IntegerType, operands: Operands) -> Evaluated
     ensures { (s : states.State)
-        → evaluated_view result s ≡ on_both (both_view operands s) (λ v w t. given (arithmetic operator of v w) t) }
+        → evaluated_view result s ≡ on_both (both_view operands s) (λ v w t. value_or_undefined (arithmetic operator of v w) t) }
 {
     match operands {
         Operands::Pair(left, right) => {
@@ -173,7 +173,7 @@ pub fn arithmetic_from(operator: Arithmetic, of: IntegerType, operands: Operands
 /// A comparison of two numbers.
 pub fn comparison_from(operator: Comparison, operands: Operands) -> Evaluated
     ensures { (s : states.State)
-        → evaluated_view result s ≡ on_both (both_view operands s) (λ v w t. given (comparison operator v w) t) }
+        → evaluated_view result s ≡ on_both (both_view operands s) (λ v w t. value_or_undefined (comparison operator v w) t) }
 {
     match operands {
         Operands::Pair(left, right) => given(comparison(operator, left, right), Fault::Untyped),
@@ -185,7 +185,7 @@ pub fn comparison_from(operator: Comparison, operands: Operands) -> Evaluated
 pub fn pointer_comparison_from(operator: Comparison, operands: Operands, state: &State) -> Evaluated
     ensures { evaluated_view result (state_view state.now)
         ≡ on_both (both_view operands (state_view state.now)) (λ v w t.
-        given (pointer_comparison t.memory operator v w) t) }
+        value_or_undefined (pointer_comparison t.memory operator v w) t) }
 {
     match operands {
         Operands::Pair(left, right) => {
@@ -205,7 +205,7 @@ pub fn moved_from(
 ) -> Evaluated
     ensures { evaluated_view result (state_view state.now)
         ≡ on_both (both_view operands (state_view state.now)) (λ v w t.
-        given (moved_by t.memory direction element v w) t) }
+        value_or_undefined (moved_by_elements t.memory direction element v w) t) }
 {
     match operands {
         Operands::Pair(pointer, by) => {
@@ -220,7 +220,7 @@ pub fn moved_from(
 pub fn moved_behind(element: ObjectType, operands: Operands, state: &State) -> Evaluated
     ensures { evaluated_view result (state_view state.now)
         ≡ on_both (both_view operands (state_view state.now)) (λ w v t.
-        given (moved_by t.memory Up element v w) t) }
+        value_or_undefined (moved_by_elements t.memory Up element v w) t) }
 {
     match operands {
         Operands::Pair(by, pointer) => {
@@ -235,7 +235,7 @@ pub fn moved_behind(element: ObjectType, operands: Operands, state: &State) -> E
 pub fn difference_from(element: ObjectType, operands: Operands, state: &State) -> Evaluated
     ensures { evaluated_view result (state_view state.now)
         ≡ on_both (both_view operands (state_view state.now)) (λ v w t.
-        given (pointer_difference t.memory element v w) t) }
+        value_or_undefined (pointer_difference t.memory element v w) t) }
 {
     match operands {
         Operands::Pair(left, right) => {
@@ -258,7 +258,7 @@ pub fn assigned(operands: Operands, state: &mut State) -> Evaluated
 
 /// An object that was found, and what it holds.
 pub fn located(found: Evaluated, state: &State) -> Operands
-    ensures { both_view result (state_view state.now) ≡ located (evaluated_view found (state_view state.now)) }
+    ensures { both_view result (state_view state.now) ≡ left_side_read (evaluated_view found (state_view state.now)) }
 {
     match found {
         Evaluated::Gives(pointer) => second(pointer, load(pointer, state)),
@@ -275,7 +275,7 @@ fn updated(
     old: Value,
     right: Value,
 ) -> Option<Value>
-    ensures { result ≡ updated operator target calculated_in old right }
+    ensures { result ≡ updated_value operator target calculated_in old right }
 {
     let left = convert(calculated_in, old)?;
     let number = arithmetic(operator, calculated_in, left, right)?;
@@ -293,7 +293,7 @@ pub fn update(
     state: &mut State,
 ) -> Evaluated
     ensures { evaluated_view result (state_view state.new) ≡ with (evaluated_view right (state_view state.old)) (λ v u.
-        store_if (updated operator target calculated_in old v) pointer u) }
+        store_if (updated_value operator target calculated_in old v) pointer u) }
 {
     match right {
         Evaluated::Gives(value) => {
@@ -316,7 +316,7 @@ pub fn update_pointer(
     state: &mut State,
 ) -> Evaluated
     ensures { evaluated_view result (state_view state.new) ≡ with (evaluated_view by (state_view state.old)) (λ v u.
-        store_if (moved_by u.memory direction element old v) pointer u) }
+        store_if (moved_by_elements u.memory direction element old v) pointer u) }
 {
     match by {
         Evaluated::Gives(value) => {
@@ -340,7 +340,7 @@ pub fn step(
 ) -> Evaluated
     ensures { evaluated_view result (state_view state.new)
         ≡ on_both (both_view operands (state_view state.old)) (λ p old t.
-        replace_if (updated (operator_of direction) target calculated_in old one) which p old t) }
+        replace_if (updated_value (operator_of direction) target calculated_in old one) which p old t) }
 {
     let operator = match direction {
         Direction::Up => Arithmetic::Add,
@@ -367,7 +367,7 @@ pub fn step_pointer(
 ) -> Evaluated
     ensures { evaluated_view result (state_view state.new)
         ≡ on_both (both_view operands (state_view state.old)) (λ p old t.
-        replace_if (moved_by t.memory direction element old one) which p old t) }
+        replace_if (moved_by_elements t.memory direction element old one) which p old t) }
 {
     match operands {
         Operands::Pair(pointer, old) => {

@@ -5,8 +5,8 @@ ghost use Rattle.c_meaning_values.specs.declared.value.Value.TheVariants.{Number
 ghost use Rattle.c_meaning_steps.specs.Views.{evaluated_view, state_view};
 ghost use Rattle.c_meaning_values.specs.Views.{object_view, owner_view};
 ghost use Rattle.c_meaning_steps.specs.States as states;
-ghost use Rattle.c_meaning_steps.specs.States.{given, usable};
-ghost use Rattle.c_meaning_steps.specs.Steps.{decayed, leave, load, named, next_byte, put, replaced, store};
+ghost use Rattle.c_meaning_steps.specs.States.{value_or_undefined, usable};
+ghost use Rattle.c_meaning_steps.specs.Steps.{decayed, leave, load, pointer_to_named, next_byte, byte_put, replaced, store};
 
 use crate::fault::{Fault, read_fault, write_fault};
 use crate::state::{End, Evaluated, State};
@@ -17,7 +17,7 @@ use std::alloc::AllocError;
 
 /// A value, or undefined for a cause where there is none.
 pub fn given(value: Option<Value>, fault: Fault) -> Evaluated
-    ensures { (s : states.State) → evaluated_view result s ≡ given value s }
+    ensures { (s : states.State) → evaluated_view result s ≡ value_or_undefined value s }
 {
     match value {
         None => Evaluated::Ends(End::Undefined(fault)),
@@ -59,7 +59,7 @@ pub fn store(pointer: Value, value: Value, state: &mut State) -> Evaluated
 
 /// A pointer to the beginning of an object that a name designates.
 pub fn named(depth: usize, object: c_tree::Object, memory: &Objects) -> Option<Value>
-    ensures { result ≡ named depth object (map object_view memory.now.all.items) }
+    ensures { result ≡ pointer_to_named depth object (map object_view memory.now.all.items) }
 {
     let owner = match object {
         c_tree::Object::Static(number) => Owner::Static(number as usize),
@@ -119,7 +119,7 @@ pub fn next_byte(state: &mut State) -> Evaluated
 
 /// `putchar`.
 pub fn put(value: Value, state: &mut State) -> Result<Evaluated, AllocError>
-    ensures { IfOk result (λ v. evaluated_view v (state_view state.new) ≡ put value (state_view state.old)) }
+    ensures { IfOk result (λ v. evaluated_view v (state_view state.new) ≡ byte_put value (state_view state.old)) }
 {
     match value {
         Value::Number(number) => {

@@ -8,7 +8,7 @@ use Rattle.c_meaning_values.specs.declared.value.Value.{Value}
 use Rattle.c_meaning_values.specs.declared.value.Value.TheVariants.{Number, Null, Pointer}
 use Rattle.c_meaning_values.specs.declared.value.Phase.{Phase}
 use Rattle.c_meaning_values.specs.declared.value.Phase.TheVariants.{Initialising, Live, Ended}
-use Rattle.c_meaning_values.specs.Types.{scalar_size, element_of, count_of, zero_of}
+use Rattle.c_meaning_values.specs.Types.{scalar_size, element_scalar, value_count, zero_of}
 
 -- An object: whose it is, the type of its values, its values in order, and how far its lifetime has come.
 pub record Object : Type 0 where
@@ -36,7 +36,12 @@ is_begun Ended = false
 -- a new object of a type, all zero
 abbrev pub new_object : Owner → ObjectType → Phase → Object
 new_object owner of phase =
-    record { owner = owner; element = element_of of; values = replicate (count_of of) (zero_of (element_of of)); phase = phase }
+    record {
+      owner = owner;
+      element = element_scalar of;
+      values = replicate (value_count of) (zero_of (element_scalar of));
+      phase = phase;
+    }
 
 -- how many bytes an object has
 abbrev pub bytes_of : Object → ℕ
@@ -56,12 +61,13 @@ object_of owner [] = None
 object_of owner (o ∷ memory) = if is_owned owner o then Some 0 else option_map (λ n. suc n) (object_of owner memory)
 
 -- a pointer to the beginning of an owner's object
-abbrev pub address_of : Owner → Memory → Option Value
-address_of owner memory = option_map (λ n. Pointer n 0) (object_of owner memory)
+abbrev pub pointer_to_owner : Owner → Memory → Option Value
+pointer_to_owner owner memory = option_map (λ n. Pointer n 0) (object_of owner memory)
 
 -- the values of an owner's object
 abbrev pub contents : Owner → Memory → List Value
-contents owner memory = option_map_or (λ o. o.values) (option_and_then (λ n. slice_get memory n) (object_of owner memory)) []
+contents owner memory =
+    option_map_or (λ o. o.values) (option_and_then (λ n. slice_get memory n) (object_of owner memory)) []
 
 -- A value may be used where it is no pointer to an object that has ended (6.2.4p2).
 abbrev pub is_usable : Memory → Value → Bool
@@ -73,8 +79,8 @@ is_usable memory (Pointer n offset) = option_map_or (λ o. not (is_over o.phase)
 abbrev pub value_in : Object → ℕ → Option Value
 value_in o offset = if is_begun o.phase then slice_get o.values (index_at o offset) else None
 
--- What an object holds where a pointer points: not by null, not one past the object's end, not in an object that has ended, nor in one that is being initialised and that
--- nothing was stored in yet (6.5.3.2p4, 6.5.6p8, 6.3.2.1p2).
+-- What an object holds where a pointer points: not by null, not one past the object's end, not in an object that has
+-- ended, nor in one that is being initialised and that nothing was stored in yet (6.5.3.2p4, 6.5.6p8, 6.3.2.1p2).
 abbrev pub read : Memory → Value → Option Value
 read memory (Number z) = None
 read memory Null = None
@@ -104,14 +110,18 @@ begun memory n = option_map_or (λ o. slice_set memory n (in_phase Live o)) (sli
 
 -- the element at an offset of an object may be written: it is there, alive, and no part of a string literal
 abbrev pub is_writable : Object → ℕ → Bool
-is_writable o offset = not (is_over o.phase) && not (is_literal o.owner) && not (nat_le (length o.values) (index_at o offset))
+is_writable o offset =
+    not (is_over o.phase) && not (is_literal o.owner) && not (nat_le (length o.values) (index_at o offset))
 
--- A write changes a value of an object that may be written, and makes the object live: a read of a variable in its own initializer is undefined only where nothing was
--- assigned to it before, by its name or through a pointer (6.3.2.1p2, 6.7.9p8).
+-- A write changes a value of an object that may be written, and makes the object live: a read of a variable in its own
+-- initializer is undefined only where nothing was assigned to it before, by its name or through a pointer (6.3.2.1p2,
+-- 6.7.9p8).
 abbrev pub written_in : Memory → ℕ → ℕ → Value → Object → Option Memory
-written_in memory n offset v o = if is_writable o offset then Some (begun (set_value memory n (index_at o offset) v) n) else None
+written_in memory n offset v o =
+    if is_writable o offset then Some (begun (set_value memory n (index_at o offset) v) n) else None
 
--- The memory behind a write where a pointer points: not by null, not one past the object's end, not to an object that has ended, not to a string literal.
+-- The memory behind a write where a pointer points: not by null, not one past the object's end, not to an object that
+-- has ended, not to a string literal.
 abbrev pub write : Memory → Value → Value → Option Memory
 write memory (Number z) v = None
 write memory Null v = None
@@ -131,10 +141,10 @@ abbrev pub moved_in : ℕ → ℤ → Object → Option Value
 moved_in n offset o = if is_over o.phase then None else in_object n o offset
 
 -- A pointer moved by so many bytes: it stays in its object, or one past its end (6.5.6p8).
-abbrev pub moved : Memory → Value → ℤ → Option Value
-moved memory (Number z) by = None
-moved memory Null by = None
-moved memory (Pointer n offset) by = option_and_then (moved_in n (pos offset +ℤ by)) (slice_get memory n)
+abbrev pub moved_by_bytes : Memory → Value → ℤ → Option Value
+moved_by_bytes memory (Number z) by = None
+moved_by_bytes memory Null by = None
+moved_by_bytes memory (Pointer n offset) by = option_and_then (moved_in n (pos offset +ℤ by)) (slice_get memory n)
 
 -- all objects that began when there were so many end
 abbrev pub ended_from : ℕ → Memory → Memory

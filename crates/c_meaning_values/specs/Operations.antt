@@ -16,17 +16,18 @@ use Rattle.c_type_rules.specs.Integers.{wrapped}
 use Rattle.c_meaning_values.specs.declared.value.Value.{Value}
 use Rattle.c_meaning_values.specs.declared.value.Value.TheVariants.{Number, Null, Pointer}
 use Rattle.c_meaning_values.specs.Types.{size}
-use Rattle.c_meaning_values.specs.Memory.{Memory, is_usable, moved}
+use Rattle.c_meaning_values.specs.Memory.{Memory, is_usable, moved_by_bytes}
 
--- an operator on two numbers of a type, of which a shift's count has a type of its own (6.5.5 to 6.5.7, 6.5.10 to 6.5.12)
+-- an operator on two numbers of a type, of which a shift's count has a type of its own (6.5.5 to 6.5.7, 6.5.10 to
+-- 6.5.12)
 abbrev pub arithmetic : Arithmetic → IntegerType → Value → Value → Option Value
 arithmetic o t (Number a) (Number b) = option_map Number (constant.calculated o t a b)
 arithmetic o t _ _ = None
 
 -- a sign before a number of a promoted type (6.5.3.3)
-abbrev pub signed : Sign → IntegerType → Value → Option Value
-signed o t (Number z) = option_map Number (constant.signed o t z)
-signed o t _ = None
+abbrev pub value_with_sign : Sign → IntegerType → Value → Option Value
+value_with_sign o t (Number z) = option_map Number (constant.constant_with_sign o t z)
+value_with_sign o t _ = None
 
 -- a number converted to an integer type (6.3.1.3)
 abbrev pub convert : IntegerType → Value → Option Value
@@ -34,12 +35,12 @@ convert t (Number z) = Some (Number (wrapped t z))
 convert t _ = None
 
 -- whether a comparison of two numbers holds, as an `int` (6.5.8p6, 6.5.9p3)
-abbrev pub compared : Comparison → ℤ → ℤ → ℤ
-compared o a b = truth (constant.compared o a b)
+abbrev pub comparison_value : Comparison → ℤ → ℤ → ℤ
+comparison_value o a b = truth (constant.comparison_holds o a b)
 
 -- the value of a comparison of two numbers
 abbrev pub comparison : Comparison → Value → Value → Option Value
-comparison o (Number a) (Number b) = Some (Number (compared o a b))
+comparison o (Number a) (Number b) = Some (Number (comparison_value o a b))
 comparison o _ _ = None
 
 -- Two pointers are equal where both are null, or where object and offset are the same (6.5.9p6).
@@ -50,7 +51,7 @@ is_same_pointer _ _ = false
 
 -- the order of two pointers: of two places in one object (6.5.8p5)
 abbrev pub order_of : Comparison → Value → Value → Option Value
-order_of o (Pointer n i) (Pointer m j) = if n == m then Some (Number (compared o (pos i) (pos j))) else None
+order_of o (Pointer n i) (Pointer m j) = if n == m then Some (Number (comparison_value o (pos i) (pos j))) else None
 order_of o _ _ = None
 
 -- the value of a comparison of two pointers by == or !=
@@ -89,13 +90,14 @@ stride Up element = pos (size element)
 stride Down element = neg_ℤ (pos (size element))
 
 -- so many elements in bytes, up or down
-abbrev pub distance : Direction → ObjectType → ℤ → ℤ
-distance direction element n = n *ℤ stride direction element
+abbrev pub bytes_moved : Direction → ObjectType → ℤ → ℤ
+bytes_moved direction element n = n *ℤ stride direction element
 
 -- a pointer moved by so many elements (6.5.6p8)
-abbrev pub moved_by : Memory → Direction → ObjectType → Value → Value → Option Value
-moved_by memory direction element pointer (Number n) = moved memory pointer (distance direction element n)
-moved_by memory direction element pointer _ = None
+abbrev pub moved_by_elements : Memory → Direction → ObjectType → Value → Value → Option Value
+moved_by_elements memory direction element pointer (Number n) =
+    moved_by_bytes memory pointer (bytes_moved direction element n)
+moved_by_elements memory direction element pointer _ = None
 
 -- `++` and `--` add and subtract (6.5.2.4, 6.5.3.1)
 abbrev pub operator_of : Direction → Arithmetic

@@ -7,18 +7,7 @@ use Rattle.c_tree.specs.declared.object_type.ObjectType.{ObjectType}
 use Rattle.c_tree.specs.declared.object_type.ObjectType.TheVariants as type
 use Rattle.c_meaning_values.specs.declared.value.Value.{Value}
 use Rattle.c_meaning_values.specs.declared.value.Value.TheVariants.{Number, Null}
-
--- how many bytes an integer type has
-abbrev pub integer_size : IntegerType → ℕ
-integer_size Char = 1
-integer_size SignedChar = 1
-integer_size UnsignedChar = 1
-integer_size Short = 2
-integer_size UnsignedShort = 2
-integer_size Int = 4
-integer_size UnsignedInt = 4
-integer_size Long = 4
-integer_size UnsignedLong = 4
+pub use Rattle.c_type_rules.specs.Integers.{integer_size}
 
 -- by how many `*` a type leads to an integer type: with none it has the integer type's bytes, a pointer has 4
 abbrev pub size_by_stars : IntegerType → ℕ → ℕ
@@ -35,14 +24,14 @@ size (type.Scalar s) = scalar_size s
 size (type.Array element count) = count * scalar_size element
 
 -- the type of the values that an object holds
-abbrev pub element_of : ObjectType → Scalar
-element_of (type.Scalar s) = s
-element_of (type.Array element count) = element
+abbrev pub element_scalar : ObjectType → Scalar
+element_scalar (type.Scalar s) = s
+element_scalar (type.Array element count) = element
 
 -- how many values an object holds
-abbrev pub count_of : ObjectType → ℕ
-count_of (type.Scalar s) = 1
-count_of (type.Array element count) = count
+abbrev pub value_count : ObjectType → ℕ
+value_count (type.Scalar s) = 1
+value_count (type.Array element count) = count
 
 abbrev pub zero_by_stars : ℕ → Value
 zero_by_stars zero = Number (pos 0)

@@ -2,7 +2,7 @@
 
 ghost use Rattle.std.specs.Prelude.{◌≡◌, ◌++◌, ◌∷◌, [], map, OnOk, Some, None, true, false, if◌then◌else◌};
 ghost use Rattle.c_meaning_values.specs.Views.{object_view, owner_view};
-ghost use Rattle.c_meaning_values.specs.Memory.{address_of, begun, ended_from, is_over, object_of, set_value, write};
+ghost use Rattle.c_meaning_values.specs.Memory.{pointer_to_owner, begun, ended_from, is_over, object_of, set_value, write};
 ghost use Rattle.c_meaning_values.specs.Living.{IsLivingAt, living_from};
 
 use crate::memory::{
@@ -72,7 +72,7 @@ impl Objects {
 
     /// A pointer to the beginning of an owner's object.
     pub fn address_of(&self, owner: Owner) -> Option<Value>
-        ensures { result ≡ address_of (owner_view owner) (map object_view self.now.all.items) }
+        ensures { result ≡ pointer_to_owner (owner_view owner) (map object_view self.now.all.items) }
     {
         let object = self.number_of(owner)?;
         Some(Value::Pointer { object, offset: 0 })

@@ -4,7 +4,7 @@ ghost use Rattle.std.specs.Prelude.{pos, ◌+ℤ◌, ◌-◌, ◌≡◌, ◌<◌
 ghost use Rattle.word_base.specs.Owners.{is_same_owner};
 ghost use Rattle.c_meaning_values.specs.Views.{owner_view, object_view};
 ghost use Rattle.c_meaning_values.specs.declared.value.Phase.TheVariants.{Ended};
-ghost use Rattle.c_meaning_values.specs.Memory.{is_over, is_begun, new_object, bytes_of, index_at, is_owned, object_of, in_bytes, in_phase, is_usable, value_in, read, with_value, IsOpen, IsClosed, is_literal, set_value, is_writable, moved, begun, ended_from};
+ghost use Rattle.c_meaning_values.specs.Memory.{is_over, is_begun, new_object, bytes_of, index_at, is_owned, object_of, in_bytes, in_phase, is_usable, value_in, read, with_value, IsOpen, IsClosed, is_literal, set_value, is_writable, moved_by_bytes as moved, begun, ended_from};
 ghost use Rattle.c_meaning_values.specs.Living.{IsLivingAt, is_owned_at, living_from, owned_among};
 
 use crate::types::{count_of, element_of, scalar_size, zero_of};

@@ -4,7 +4,7 @@ ghost use Rattle.std.specs.Prelude.{◌≡◌, ◌*ℤ◌, map, pos, option_map}
 ghost use Rattle.c_meaning_values.specs.Types.{size};
 ghost use Rattle.c_meaning_values.specs.declared.value.Value.TheVariants.{Number};
 ghost use Rattle.c_meaning_values.specs.Views.{object_view};
-ghost use Rattle.c_meaning_values.specs.Operations.{arithmetic, compared, comparison, convert, distance, stride, elements_from, elements_between, if_usable, is_same_pointer, is_true, moved_by, order_of, pointer_comparison, pointer_difference, pointers_compared, signed};
+ghost use Rattle.c_meaning_values.specs.Operations.{arithmetic, comparison_value, comparison, convert, bytes_moved, stride, elements_from, elements_between, if_usable, is_same_pointer, is_true, moved_by_elements, order_of, pointer_comparison, pointer_difference, pointers_compared, value_with_sign};
 
 use crate::memory::{Object, is_usable, moved};
 use crate::types::size;
@@ -34,7 +34,7 @@ pub fn arithmetic(operator: Arithmetic, of: IntegerType, left: Value, right: Val
 
 /// What a sign gives on a number of a promoted type.
 pub fn signed(sign: Sign, of: IntegerType, operand: Value) -> Option<Value>
-    ensures { result ≡ signed sign of operand }
+    ensures { result ≡ value_with_sign sign of operand }
 {
     match operand {
         Value::Number(a) => number(c_type_rules::signed(sign, of, a)),
@@ -86,7 +86,7 @@ fn is_same_pointer(left: Value, right: Value) -> bool
 
 /// What a comparison of two offsets gives.
 fn offsets_compared(operator: Comparison, i: u128, j: u128) -> i64
-    ensures { result ≡ compared operator (pos i) (pos j) }
+    ensures { result ≡ comparison_value operator (pos i) (pos j) }
 {
     match operator {
         Comparison::Less => truth(i < j),
@@ -235,7 +235,7 @@ fn product(left: i64, right: i64) -> i128
 
 /// So many elements in bytes, up or down.
 fn distance(direction: Direction, element: ObjectType, count: i64) -> i128
-    ensures { result ≡ distance direction element count }
+    ensures { result ≡ bytes_moved direction element count }
 {
     product(count, stride(direction, element))
 }
@@ -248,7 +248,7 @@ pub fn moved_by(
     pointer: Value,
     by: Value,
 ) -> Option<Value>
-    ensures { result ≡ moved_by (map object_view memory.now) direction element pointer by }
+    ensures { result ≡ moved_by_elements (map object_view memory.now) direction element pointer by }
 {
     match by {
         Value::Number(count) => moved(memory, pointer, distance(direction, element, count)),

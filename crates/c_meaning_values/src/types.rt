@@ -1,7 +1,7 @@
 //! The types of a program: how many bytes they have, and their zeros (ISO/IEC 9899:2011, 6.2.5, 6.5.3.4).
 
 ghost use Rattle.std.specs.Prelude.{◌≡◌, ◌<◌, ◌≤◌, ◌^◌};
-ghost use Rattle.c_meaning_values.specs.Types.{scalar_size, size, element_of, count_of, zero_of};
+ghost use Rattle.c_meaning_values.specs.Types.{scalar_size, size, element_scalar, value_count, zero_of};
 
 use crate::value::Value;
 use c_tree::{IntegerType, ObjectType, Scalar};
@@ -38,7 +38,7 @@ pub fn size(of: ObjectType) -> u64
 
 /// The type of the values that an object holds.
 pub fn element_of(of: ObjectType) -> Scalar
-    ensures { result ≡ element_of of }
+    ensures { result ≡ element_scalar of }
 {
     match of {
         ObjectType::Scalar(scalar) => scalar,
@@ -48,7 +48,7 @@ pub fn element_of(of: ObjectType) -> Scalar
 
 /// How many values an object holds.
 pub fn count_of(of: ObjectType) -> u32
-    ensures { result ≡ count_of of }
+    ensures { result ≡ value_count of }
 {
     match of {
         ObjectType::Scalar(_) => 1,

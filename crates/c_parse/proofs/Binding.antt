@@ -13,10 +13,10 @@ use Rattle.c_parse_tokens.specs.declared.fault.Stuck.{Stuck}
 use Rattle.c_parse_tokens.specs.declared.mark.Mark.{Mark}
 use Rattle.c_parse_tokens.specs.declared.mark.Mark.TheVariants as mark
 use Rattle.c_parse_tokens.specs.Outcome.{Parser, ◌>>=◌}
-use Rattle.c_parse_tokens.specs.Front.{is, is_at, behind, want, separated}
+use Rattle.c_parse_tokens.specs.Front.{is, is_at, tokens_behind, want, separated}
 use Rattle.c_parse_tokens.specs.Operators.{binary_operator, operator_at, assignment_operator, assignment_at}
 use Rattle.c_parse_expressions.specs.declared.expression.SuffixStart.{SuffixStart}
-use Rattle.c_parse_expressions.specs.Expressions.{literal_of, literals, suffix_start, suffix_at}
+use Rattle.c_parse_expressions.specs.Expressions.{literal_of, literals_at_front, suffix_start, suffix_at}
 use Rattle.c_parse.specs.Tokens.{IsPunctuator, IsKeyword}
 use Rattle.c_parse.proofs.Words.{word_of, word_is, is_word, some_same, never, literal_there}
 use Rattle.c_parse.proofs.SoundExpressions.{suffix_front, operator_front, assignment_front}
@@ -138,12 +138,12 @@ no_assignment [] h = refl
 no_assignment (t ∷ ts) h =
     assignment_front t ts (λ (o : Option (AssignmentOperator × List Lexeme)). o ≡ None) (λ o p k e. too_tight t 13 13 k (assignment_rank p o e) (omega arith) h) refl
 
-pub no_mark : (m : Mark) (ts : List Lexeme) → is_at m ts ≡ false → behind m ts ≡ None
-unfolding behind is_at
+pub no_mark : (m : Mark) (ts : List Lexeme) → is_at m ts ≡ false → tokens_behind m ts ≡ None
+unfolding tokens_behind is_at
 no_mark m [] h = refl
 no_mark m (t ∷ ts) h = rw h refl
 
-pub no_question : (ts : List Lexeme) → 12 < binding_at ts → behind mark.Question ts ≡ None
+pub no_question : (ts : List Lexeme) → 12 < binding_at ts → tokens_behind mark.Question ts ≡ None
 unfolding is_at
 no_question ts h = no_mark mark.Question ts (by ts h)
   where
@@ -155,7 +155,7 @@ no_question ts h = no_mark mark.Question ts (by ts h)
     by [] g = refl
     by (t ∷ l) g = not_it t.kind g (is mark.Question t.kind) refl
 
-pub no_comma : (ts : List Lexeme) → 14 < binding_at ts → behind mark.Comma ts ≡ None
+pub no_comma : (ts : List Lexeme) → 14 < binding_at ts → tokens_behind mark.Comma ts ≡ None
 unfolding is_at
 no_comma ts h = no_mark mark.Comma ts (by ts h)
   where
@@ -167,11 +167,11 @@ no_comma ts h = no_mark mark.Comma ts (by ts h)
     by [] g = refl
     by (t ∷ l) g = not_it t.kind g (is mark.Comma t.kind) refl
 
-pub no_literal : (bytes : List ℕ) (ts : List Lexeme) → 0 < binding_at ts → literals bytes ts ≡ (bytes, ts)
+pub no_literal : (bytes : List ℕ) (ts : List Lexeme) → 0 < binding_at ts → literals_at_front bytes ts ≡ (bytes, ts)
 no_literal bytes [] h = refl
 no_literal bytes (t ∷ ts) h = by (literal_of t.kind) refl
   where
-    by : (o : Option (List ℕ)) → literal_of t.kind ≡ o → option_map_or (λ part. literals (bytes ++ part) ts) o (bytes, t ∷ ts) ≡ (bytes, t ∷ ts)
+    by : (o : Option (List ℕ)) → literal_of t.kind ≡ o → option_map_or (λ part. literals_at_front (bytes ++ part) ts) o (bytes, t ∷ ts) ≡ (bytes, t ∷ ts)
     by None e = refl
     by (Some part) e = let same : binding t.kind ≡ 0 = ap binding (literal_there t.kind part e) in absurd (omega (arith, same, h))
 
@@ -189,8 +189,8 @@ there_is_none {A} {B} {o} f {d} {y} e g = subst (λ (q : Option A). option_map_o
 pub at_mark : (m : Mark) (t : Lexeme) → t.kind ≡ word_of m → is m t.kind ≡ true
 at_mark m t k = ap (is m) k ∙ word_is m
 
-pub behind_mark : (m : Mark) (t : Lexeme) (rest : List Lexeme) → t.kind ≡ word_of m → behind m (t ∷ rest) ≡ Some rest
-unfolding behind
+pub behind_mark : (m : Mark) (t : Lexeme) (rest : List Lexeme) → t.kind ≡ word_of m → tokens_behind m (t ∷ rest) ≡ Some rest
+unfolding tokens_behind
 behind_mark m t rest k = let e = at_mark m t k in rw e refl
 
 pub wanted : (m : Mark) (t : Lexeme) (rest : List Lexeme) → t.kind ≡ word_of m → want m (t ∷ rest) ≡ Ok rest

@@ -7,7 +7,7 @@ use Rattle.c_token.specs.Lexemes.{Lexeme, Word}
 use Rattle.c_tree.specs.declared.extent.Extent.{Extent}
 use Rattle.c_tree.specs.declared.types.IntegerType.{IntegerType}
 use Rattle.c_tree.specs.Expressions.{ExpressionTree, NameTree}
-use Rattle.c_tree.specs.Declarations.{BracketsTree, Absent, Empty, Sized, InitializerTree, Value, Braces, chain, DeclaratorTree, DeclarationTree}
+use Rattle.c_tree.specs.Declarations.{BracketsTree, Absent, Empty, Sized, InitializerTree, Value, Braces, chain_of_initializers, DeclaratorTree, DeclarationTree}
 use Rattle.c_parse_tokens.specs.declared.mark.Mark.{Mark}
 use Rattle.c_parse_tokens.specs.declared.mark.Mark.TheVariants as mark
 use Rattle.c_parse_tokens.specs.Outcome.{Parser}
@@ -56,7 +56,7 @@ name_read n t ts k =
     subst (λ (w : Word). identifier_of w t ts ≡ Ok (n, ts)) (sym k.0) (ap (λ (s : Spot). read (record { name = n.name; spot = s }) ts) k.1)
 
 pub name_no_keyword : (n : NameTree) (t : Lexeme) (ts : List Lexeme) → IsName n t → keyword_at (t ∷ ts) ≡ None
-name_no_keyword n t ts k = ap Rattle.c_parse_tokens.specs.Specifiers.keyword_of k.0
+name_no_keyword n t ts k = ap Rattle.c_parse_tokens.specs.Specifiers.keyword_of_word k.0
 
 pub name_no_star : (n : NameTree) (t : Lexeme) (ts : List Lexeme) → IsName n t → star_at (t ∷ ts) ≡ false
 name_no_star n t ts k = ap is_star k.0
@@ -79,7 +79,7 @@ abbrev AllWithin : List InitializerTree → ℕ → Type 0
 AllWithin [] depth = Unit {0}
 AllWithin (i ∷ all) depth = Within depth (λ d. InitializerNests i d) × AllWithin all depth
 
-all_within : (all : List InitializerTree) (depth : ℕ) → Within depth (λ d. InitializersNest (chain all) d) → AllWithin all depth
+all_within : (all : List InitializerTree) (depth : ℕ) → Within depth (λ d. InitializersNest (chain_of_initializers all) d) → AllWithin all depth
 all_within all zero h = elim h [ ]
 all_within [] (suc depth) h = tt
 all_within (i ∷ all) (suc depth) h = (h.0, all_within all (suc depth) h.1)
@@ -130,7 +130,7 @@ unfolding initializer_in
 value_read depth e ts rest b r = there_is_none _ (no_mark mark.OpenBrace ts (no_end mark.OpenBrace ts refl b)) (followed _ r refl)
 
 braces_read : (depth : ℕ) (o c : Lexeme) (all : List InitializerTree) (ts rest : List Lexeme) → IsPunctuator punctuator.OpenBrace o → in_braces (within_braces depth) ts ≡ Ok (all, c ∷ rest) → IsPunctuator punctuator.CloseBrace c
-    → initializer_in (nesting depth) (within_braces depth) (o ∷ ts) ≡ Ok (Braces (chain all), rest)
+    → initializer_in (nesting depth) (within_braces depth) (o ∷ ts) ≡ Ok (Braces (chain_of_initializers all), rest)
 unfolding initializer_in
 braces_read depth o c all ts rest k r e = there_is _ _ (behind_mark mark.OpenBrace o ts k) (followed _ r (followed _ (wanted mark.CloseBrace c rest e) refl))
 

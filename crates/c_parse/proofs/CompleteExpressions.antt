@@ -13,7 +13,7 @@ use Rattle.c_tree.specs.declared.operator.AssignmentOperator.{AssignmentOperator
 use Rattle.c_tree.specs.declared.operator.PrefixOperator.{PrefixOperator}
 use Rattle.c_tree.specs.declared.operator.PrefixOperator.TheVariants as prefix_operators
 use Rattle.c_tree.specs.declared.types.TypeName.{TypeName}
-use Rattle.c_tree.specs.Expressions.{ExpressionTree, SuffixTree, suffixed, Indexes, Calls, Increments, Decrements, chain}
+use Rattle.c_tree.specs.Expressions.{ExpressionTree, SuffixTree, suffixed, Indexes, Calls, Increments, Decrements, chain_of_arguments}
 use Rattle.c_tree.specs.Expressions as tree
 use Rattle.c_parse_tokens.specs.declared.fault.Stuck.{Stuck}
 use Rattle.c_parse_tokens.specs.declared.mark.Mark.TheVariants as mark
@@ -27,7 +27,7 @@ use Rattle.c_parse_expressions.specs.declared.expression.Sort.{Sort}
 use Rattle.c_parse_expressions.specs.declared.expression.Sort.TheVariants as sort
 use Rattle.c_parse_expressions.specs.declared.expression.SuffixStart.{SuffixStart}
 use Rattle.c_parse_expressions.specs.declared.expression.SuffixStart.TheVariants as start
-use Rattle.c_parse_expressions.specs.Expressions.{nested, constant_type, literals, primary_of, primary, arguments, suffix_start, suffix_at, suffix, suffixes, postfix, operand_of, prefix, sizeof_expression, size, sizeof_tree, sizeof_type, unary_of, unary, type_name, cast, operations, levels, conditional, assignment, more_commas, comma, expression_of, nesting}
+use Rattle.c_parse_expressions.specs.Expressions.{nested, constant_type, literals_at_front, primary_of, primary, arguments, suffix_start, suffix_at, suffix, suffixes, postfix, operand_of, prefix, sizeof_expression, array_size, sizeof_tree, sizeof_type, unary_of, unary, type_name, cast, operations, levels, conditional, assignment, more_commas, comma, expression_of, nesting}
 use Rattle.c_parse.specs.Tokens.{IsPunctuator, IsKeyword, from_to}
 use Rattle.c_parse.specs.Types.{Specify, IsTypeName, nothing, integer}
 use Rattle.c_parse.specs.Expressions.{IsUnaryOperator, IsPrimary, IsPostfix, AreArguments, IsUnary, IsCast, IsLevel, IsConditional, IsAssignment, IsExpression}
@@ -64,7 +64,7 @@ literal_read : (depth : ℕ) (t last : Lexeme) (bytes : List ℕ) (ts rest : Lis
     → primary (nesting depth) (t ∷ ts) ≡ Ok (tree.Literal (from_to t last) bytes, rest)
 unfolding primary extent_before
 literal_read depth t last bytes ts rest h before b =
-    let all : literals h.0 ts ≡ (bytes, rest) = h.2 ∙ no_literal bytes rest b in
+    let all : literals_at_front h.0 ts ≡ (bytes, rest) = h.2 ∙ no_literal bytes rest b in
     subst (λ (w : Word). primary_of (nesting depth) w t ts ≡ Ok (tree.Literal (from_to t last) bytes, rest)) (sym h.1)
     (subst (λ (x : List ℕ × List Lexeme). read (tree.Literal (record { first = t.spot; last = last_before (t ∷ ts) x.1 }) x.0) x.1 ≡ read (tree.Literal (from_to t last) bytes) rest) (sym all)
     (ap (λ (n : ℕ). read (tree.Literal (record { first = t.spot; last = n }) bytes) rest) before))
@@ -114,7 +114,7 @@ arguments_end : (depth : ℕ) (es : List ExpressionTree) (ts rest : List Lexeme)
 unfolding arguments
 arguments_end depth es ts rest (m, le, g) f b = rw f (g ∙ separated_end m (nested (nesting depth) sort.Assignment) es rest b)
 
-nest_before : (es : List ExpressionTree) (e : ExpressionTree) (depth : ℕ) → AllNest (chain (es ++ e ∷ [])) depth → AllNest (chain es) depth × Within depth (λ d. Nests e d)
+nest_before : (es : List ExpressionTree) (e : ExpressionTree) (depth : ℕ) → AllNest (chain_of_arguments (es ++ e ∷ [])) depth → AllNest (chain_of_arguments es) depth × Within depth (λ d. Nests e d)
 nest_before [] e depth h = (tt, h.0)
 nest_before (x ∷ es) e depth h = let g = nest_before es e depth h.1 in ((h.0, g.0), g.1)
 
@@ -160,7 +160,7 @@ typed_behind t ts k n = let e : is_parenthesis t.kind ≡ true = ap is_parenthes
 
 -- `sizeof` of a type, up to its size
 sizeof_type_read : (depth : ℕ) (t u c : Lexeme) (found : SpecifierList) (count : ℕ) (o : Option ExpressionTree) (ts mid its rest : List Lexeme) → IsKeyword keyword.Sizeof t → IsPunctuator punctuator.OpenParenthesis u
-    → Specify place.Object found ts mid → keyword_at mid ≡ None → stars mid ≡ (count, its) → size (nesting depth) its ≡ Ok (o, c ∷ rest) → IsPunctuator punctuator.CloseParenthesis c → last_before (t ∷ u ∷ ts) rest ≡ c.spot.at
+    → Specify place.Object found ts mid → keyword_at mid ≡ None → stars mid ≡ (count, its) → array_size (nesting depth) its ≡ Ok (o, c ∷ rest) → IsPunctuator punctuator.CloseParenthesis c → last_before (t ∷ u ∷ ts) rest ≡ c.spot.at
     → unary (nesting (suc (suc depth))) (t ∷ u ∷ ts) ≡ Ok (sizeof_tree (from_to t c) (integer_type found) count o, rest)
 unfolding unary sizeof_type nesting extent_before
 sizeof_type_read depth t u c found count o ts mid its rest k p s n m z e before =
@@ -170,13 +170,13 @@ sizeof_type_read depth t u c found count o ts mid its rest k p s n m z e before 
     (rw m
     (followed _ z (followed _ (wanted mark.CloseParenthesis c rest e) (ap (λ (l : ℕ). read (sizeof_tree (record { first = t.spot; last = l }) (integer_type found) count o) rest) before))))))
 
-no_size_read : (depth : ℕ) (c : Lexeme) (rest : List Lexeme) → IsPunctuator punctuator.CloseParenthesis c → size (nesting depth) (c ∷ rest) ≡ Ok (None, c ∷ rest)
-unfolding size is_at
+no_size_read : (depth : ℕ) (c : Lexeme) (rest : List Lexeme) → IsPunctuator punctuator.CloseParenthesis c → array_size (nesting depth) (c ∷ rest) ≡ Ok (None, c ∷ rest)
+unfolding array_size is_at
 no_size_read depth c rest k = there_is_none _ (no_mark mark.OpenBracket (c ∷ rest) (ap (is mark.OpenBracket) k)) refl
 
 size_read : (depth : ℕ) (b d : Lexeme) (e : ExpressionTree) (its rest : List Lexeme) → IsPunctuator punctuator.OpenBracket b → nested (nesting depth) sort.Assignment its ≡ Ok (e, d ∷ rest) → IsPunctuator punctuator.CloseBracket d
-    → size (nesting depth) (b ∷ its) ≡ Ok (Some e, rest)
-unfolding size
+    → array_size (nesting depth) (b ∷ its) ≡ Ok (Some e, rest)
+unfolding array_size
 size_read depth b d e its rest k r c = there_is _ _ (behind_mark mark.OpenBracket b its k) (followed _ r (followed _ (wanted mark.CloseBracket d rest c) refl))
 
 -- ---- casts
@@ -361,7 +361,7 @@ mutual
       suffix_on depth start.Decrement e (Decrements t.spot.at) t ts rest rest (postfix_goes x depth d (loose t rest 0 k (omega arith))) (suffix_begins t rest punctuator.Decrement start.Decrement k decrement_begins)
       (decrement_read depth t rest) (omega arith)
 
-  pub arguments_go : {es : List ExpressionTree} {ts rest : List Lexeme} → AreArguments es ts rest → (depth : ℕ) → AllNest (chain es) depth → 13 < binding_at rest → ArgumentsGo depth es ts rest
+  pub arguments_go : {es : List ExpressionTree} {ts rest : List Lexeme} → AreArguments es ts rest → (depth : ℕ) → AllNest (chain_of_arguments es) depth → 13 < binding_at rest → ArgumentsGo depth es ts rest
   arguments_go (grammar.one {e = e} {ts = ts} {rest = rest} x) depth d b =
       (length rest, omega arith, followed _ (nested_read depth sort.Assignment e ts rest d.0 (λ n f. assignment_read x n f b)) refl)
   arguments_go (grammar.more {t = t} {es = es} {e = e} {ts = ts} {mid = mid} {rest = rest} xs k x) depth d b =

@@ -13,16 +13,16 @@ use Rattle.c_tree.specs.declared.types.IntegerType.{IntegerType}
 use Rattle.c_tree.specs.declared.declaration.Header.{Header}
 use Rattle.c_tree.specs.Expressions.{NameTree}
 use Rattle.c_tree.specs.Declarations.{BracketsTree, DeclaratorTree, ParameterTree}
-use Rattle.c_tree.specs.Statements.{StatementTree, BlockTree, chain}
+use Rattle.c_tree.specs.Statements.{StatementTree, BlockTree, chain_of_statements}
 use Rattle.c_tree.specs.Trees.{FunctionTree, ItemTree, Include, Declares, Defines}
 use Rattle.c_parse_tokens.specs.declared.mark.Mark.{Mark}
 use Rattle.c_parse_tokens.specs.declared.mark.Mark.TheVariants as mark
 use Rattle.c_parse_tokens.specs.declared.specifier.Place.TheVariants as place
 use Rattle.c_parse_tokens.specs.declared.specifier.SpecifierList.{SpecifierList}
 use Rattle.c_parse_tokens.specs.Front.{is, is_at, spot_at, last_before, extent_before}
-use Rattle.c_parse_tokens.specs.Specifiers.{no_specifiers, with_word, keyword_of, integer_type, base_of, is_type_word, begins_type, is_star}
+use Rattle.c_parse_tokens.specs.Specifiers.{no_specifiers, with_specifier, keyword_of_word, integer_type, base_of, is_type_word, begins_type, is_star}
 use Rattle.c_parse_statements.specs.Declarations.{declarator, begun_declaration}
-use Rattle.c_parse.specs.Reading.{is_name, begins_name, parameter_name, parameter, parameters, are_named, body, function, result_stars, objects, external, header, item_of, item, items_from, items, tree_of}
+use Rattle.c_parse.specs.Reading.{is_name_word, begins_with_name, parameter_name, parameter, parameters, are_named, body, function, result_stars, objects, external, header, item_of, item, items_from, items, tree_of}
 use Rattle.c_parse.specs.Tokens.{IsPunctuator, IsName}
 use Rattle.c_parse.specs.Types.{Specify}
 use Rattle.c_parse.specs.Declarations.{AreBrackets, no_brackets, empty, sized, IsInitialized, no_initializer, initialized, IsNamed, IsDeclarator, Separated}
@@ -45,10 +45,10 @@ use Rattle.c_parse.proofs.CompleteStatements.{unchained, block_read, statements_
 
 -- the first token is no keyword, no `*` and no name
 abbrev IsPlain : List Lexeme → Type 0
-IsPlain ts = (keyword_at ts ≡ None) × (star_at ts ≡ false) × (begins_name ts ≡ false)
+IsPlain ts = (keyword_at ts ≡ None) × (star_at ts ≡ false) × (begins_with_name ts ≡ false)
 
 plain_word : (t : Lexeme) (p : Punctuator) → IsPunctuator p t → is_star (word.Punctuator p) ≡ false → (ts : List Lexeme) → IsPlain (t ∷ ts)
-plain_word t p k s ts = (ap keyword_of k, ap is_star k ∙ s, ap is_name k)
+plain_word t p k s ts = (ap keyword_of_word k, ap is_star k ∙ s, ap is_name_word k)
 
 ends_plain : (ts : List Lexeme) → Ends ts → IsPlain ts
 ends_plain [] h = elim h [ ]
@@ -74,7 +74,7 @@ name_apart (its_name {t = t} {n = n} {rest = rest} k) h = (name_no_keyword n t r
 optional_name_read : {n : Option NameTree} {ts rest : List Lexeme} → IsOptionalName n ts rest → IsPlain rest → parameter_name ts ≡ Ok (n, rest)
 unfolding parameter_name
 optional_name_read nameless h = let e = h.2 in rw e refl
-optional_name_read (its_name {t = t} {n = n} {rest = rest} k) h = let e : begins_name (t ∷ rest) ≡ true = ap is_name k.0 in rw e (followed _ (name_read n t rest k) refl)
+optional_name_read (its_name {t = t} {n = n} {rest = rest} k) h = let e : begins_with_name (t ∷ rest) ≡ true = ap is_name_word k.0 in rw e (followed _ (name_read n t rest k) refl)
 
 pub parameter_read : {p : ParameterTree} {ts rest : List Lexeme} → IsParameter p ts rest → (depth : ℕ) → SizeNests p.brackets depth → Ends rest → parameter depth ts ≡ Ok (p, rest)
 unfolding parameter
@@ -148,7 +148,7 @@ body_read (no_body {t = t} {rest = rest} k) depth d = there_is _ _ (behind_mark 
 body_read (grammar.body {opening = o} {closing = c} {ps = ps} {all = all} {ts = ts} {rest = rest} h k x e) depth d =
     let n = named h in
     there_is_none _ (no_mark mark.Semicolon (o ∷ ts) (ap (is mark.Semicolon) k))
-    (rw n (followed _ (block_read depth true (chain all) o c ts rest k (statements_read x) d e)
+    (rw n (followed _ (block_read depth true (chain_of_statements all) o c ts rest k (statements_read x) d e)
     (ap (λ (l : List StatementTree). read (Some (record { opening = o.spot; statements = l; closing = c.spot })) rest) (unchained all))))
 
 -- ---- items
@@ -222,7 +222,7 @@ keyword_item depth (t ∷ ts) P h = subst (λ (w : Word). item_of depth w t ts �
 specified_item : (depth : ℕ) {found : SpecifierList} {ts rest : List Lexeme} → Specify place.File found ts rest → item depth ts ≡ external depth ts
 specified_item depth {found} {ts} s = by (starts s.words)
   where
-    by : (no_specifiers ≡ found) ⊎ FirstKeyword ts (λ k. (x : SpecifierList) × (with_word place.File k no_specifiers ≡ Some x)) → item depth ts ≡ external depth ts
+    by : (no_specifiers ≡ found) ⊎ FirstKeyword ts (λ k. (x : SpecifierList) × (with_specifier place.File k no_specifiers ≡ Some x)) → item depth ts ≡ external depth ts
     by (inl e) = no_words e s.type
     by (inr h) = keyword_item depth ts _ h
 

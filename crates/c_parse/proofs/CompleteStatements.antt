@@ -8,7 +8,7 @@ use Rattle.c_token.specs.declared.token.Punctuator.TheVariants as punctuator
 use Rattle.c_token.specs.Lexemes.{Lexeme, Word}
 use Rattle.c_token.specs.Lexemes as word
 use Rattle.c_tree.specs.Expressions.{ExpressionTree}
-use Rattle.c_tree.specs.Statements.{StartTree, StatementTree, StatementTrees, BlockTree, BranchTree, LabelTree, CaseLabel, DefaultLabel, labeled, if_tree, else_tree, behind_labels, block_tree, chain, none, first}
+use Rattle.c_tree.specs.Statements.{StartTree, StatementTree, StatementTrees, BlockTree, BranchTree, LabelTree, CaseLabel, DefaultLabel, labeled, if_tree, else_tree, behind_labels, block_tree, chain_of_statements, none, first}
 use Rattle.c_tree.specs.Statements as tree
 use Rattle.c_parse_tokens.specs.declared.fault.Stuck.{Stuck}
 use Rattle.c_parse_tokens.specs.declared.mark.Mark.{Mark}
@@ -335,11 +335,11 @@ abbrev pub unchain : StatementTrees → List StatementTree
 unchain none = []
 unchain (first s all) = s ∷ unchain all
 
-chained : (all : StatementTrees) → chain (unchain all) ≡ all
+chained : (all : StatementTrees) → chain_of_statements (unchain all) ≡ all
 chained none = refl
 chained (first s all) = ap (λ (l : StatementTrees). first s l) (chained all)
 
-pub unchained : (all : List StatementTree) → unchain (chain all) ≡ all
+pub unchained : (all : List StatementTree) → unchain (chain_of_statements all) ≡ all
 unchained [] = refl
 unchained (s ∷ all) = ap (λ (l : List StatementTree). s ∷ l) (unchained all)
 

@@ -4,7 +4,7 @@ use Rattle.std.proofs.Math.Nat.{le-max_left, le-max_right, max-le}
 use Rattle.c_tree.specs.Expressions.{ExpressionTree, ExpressionTrees, none, first, Name, Constant, Literal, Parenthesized, Index, Call, PostIncrement, PostDecrement, Prefix, Cast, SizeofExpression, SizeofType, SizeofArray, Binary, Conditional, Assignment, Comma}
 use Rattle.c_tree.specs.Declarations.{BracketsTree, Absent, Empty, Sized, InitializerTree, InitializerTrees, Value, Braces, DeclaratorTree, DeclarationTree, ParameterTree}
 use Rattle.c_tree.specs.Declarations as initializer
-use Rattle.c_tree.specs.Statements.{StartTree, StatementTree, StatementTrees, BlockTree, Compound, Declare, Run, If, IfElse, While, DoWhile, For, Switch, Case, Default, Break, Continue, Return, chain}
+use Rattle.c_tree.specs.Statements.{StartTree, StatementTree, StatementTrees, BlockTree, Compound, Declare, Run, If, IfElse, While, DoWhile, For, Switch, Case, Default, Break, Continue, Return, chain_of_statements}
 use Rattle.c_tree.specs.Statements as statement
 use Rattle.c_tree.specs.Trees.{ItemTree, Include, Declares, Defines}
 use Rattle.c_parse.specs.Depths.{expression_depth, arguments_depth, brackets_depth, optional_depth, initializer_depth, initializers_depth, initial_depth, declarator_depth, declarators_depth, declaration_depth, start_depth, statement_depth, statements_depth, parameters_depth, body_depth, item_depth, file_depth, is_if, else_depth}
@@ -211,11 +211,11 @@ parameters_down (p ∷ all) d h = max-le (brackets_down p.brackets d h.0) (param
 
 pub body_up : (x : Option BlockTree) (d : ℕ) → body_depth x ≤ d → BodyNests x d
 body_up None d h = tt
-body_up (Some b) d h = statements_up (chain b.statements) d h
+body_up (Some b) d h = statements_up (chain_of_statements b.statements) d h
 
 pub body_down : (x : Option BlockTree) (d : ℕ) → BodyNests x d → body_depth x ≤ d
 body_down None d h = nothing_deep _
-body_down (Some b) d h = statements_down (chain b.statements) d h
+body_down (Some b) d h = statements_down (chain_of_statements b.statements) d h
 
 pub item_up : (x : ItemTree) (d : ℕ) → item_depth x ≤ d → ItemNests x d
 item_up (Include spot header) d h = tt

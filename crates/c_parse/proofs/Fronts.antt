@@ -15,9 +15,9 @@ use Rattle.c_parse_tokens.specs.declared.specifier.Place.TheVariants as place
 use Rattle.c_parse_tokens.specs.declared.specifier.SpecifierList.{SpecifierList}
 use Rattle.c_parse_tokens.specs.Front.{is, is_at}
 use Rattle.c_parse_tokens.specs.Operators.{prefix_operator, is_beginning, begins_expression}
-use Rattle.c_parse_tokens.specs.Specifiers.{no_specifiers, is_type, unless, bars_static, with_static, with_void, with_word, keyword_of, specifiers_from, specifiers, is_void_word, is_type_word, begins_type, names_type, is_parenthesis, type_behind, is_star, stars_from, stars}
+use Rattle.c_parse_tokens.specs.Specifiers.{no_specifiers, is_type, unless, bars_static, with_static, with_void, with_specifier, keyword_of_word, specifiers_from, specifiers, is_void_word, is_type_word, begins_type, names_type, is_parenthesis, type_behind, is_star, stars_from, stars}
 use Rattle.c_parse_expressions.specs.declared.expression.Sort.TheVariants as sort
-use Rattle.c_parse_expressions.specs.Expressions.{Nesting, literals, literal_of, operand_of, unary_of, unary, postfix}
+use Rattle.c_parse_expressions.specs.Expressions.{Nesting, literals_at_front, literal_of, operand_of, unary_of, unary, postfix}
 use Rattle.c_parse.specs.Tokens.{IsPunctuator, IsKeyword, AreLiterals, one, more}
 use Rattle.c_parse.specs.Types.{AreSpecifiers, Specify, AreStars, no_star, star}
 use Rattle.c_parse.specs.Types as types
@@ -31,13 +31,13 @@ use Rattle.c_parse.proofs.Binding.{there_is, there_is_none}
 -- the first token is a literal, from which the others lead to these bytes and the rest
 abbrev pub FirstLiteral : List Lexeme → List ℕ → List Lexeme → Type 0
 FirstLiteral [] bytes rest = ⊥
-FirstLiteral (t ∷ ts) bytes rest = (part : List ℕ) × (t.kind ≡ word.Literal part) × (literals part ts ≡ literals bytes rest)
+FirstLiteral (t ∷ ts) bytes rest = (part : List ℕ) × (t.kind ≡ word.Literal part) × (literals_at_front part ts ≡ literals_at_front bytes rest)
 
 pub literals_go : {bytes : List ℕ} {last : Lexeme} {ts rest : List Lexeme} → AreLiterals bytes last ts rest → FirstLiteral ts bytes rest
 literals_go (one {bytes = bytes} k) = (bytes, k, refl)
 literals_go (more {t = t} {bytes = bytes} {part = part} {ts = ts} {rest = rest} l k) = grow ts (literals_go l)
   where
-    on : literals bytes (t ∷ rest) ≡ literals (bytes ++ part) rest
+    on : literals_at_front bytes (t ∷ rest) ≡ literals_at_front (bytes ++ part) rest
     on = there_is _ _ (ap literal_of k) refl
 
     grow : (whole : List Lexeme) → FirstLiteral whole bytes (t ∷ rest) → FirstLiteral whole (bytes ++ part) rest
@@ -241,7 +241,7 @@ no_end m (t ∷ ts) h g = by (is m t.kind) refl
 -- the first token is no keyword
 abbrev pub keyword_at : List Lexeme → Option Keyword
 keyword_at [] = None
-keyword_at (t ∷ ts) = keyword_of t.kind
+keyword_at (t ∷ ts) = keyword_of_word t.kind
 
 all_found : (p : Place) (found : SpecifierList) (rest : List Lexeme) → is_type found ≡ true → keyword_at rest ≡ None → specifiers_from p found rest ≡ Ok (found, rest)
 all_found p found [] h n = rw h refl
@@ -249,7 +249,7 @@ all_found p found (t ∷ ts) h n = there_is_none _ n (rw h refl)
 
 specifiers_from_read : {p : Place} {before all : SpecifierList} {ts rest : List Lexeme} → AreSpecifiers p before all ts rest → is_type all ≡ true → keyword_at rest ≡ None → specifiers_from p before ts ≡ Ok (all, rest)
 specifiers_from_read {p} {before} {all} {ts} {rest} types.none h n = all_found p all rest h n
-specifiers_from_read (types.more k w s) h n = there_is _ _ (ap keyword_of k) (there_is _ _ w (specifiers_from_read s h n))
+specifiers_from_read (types.more k w s) h n = there_is _ _ (ap keyword_of_word k) (there_is _ _ w (specifiers_from_read s h n))
 
 pub specifiers_read : {p : Place} {found : SpecifierList} {ts rest : List Lexeme} → Specify p found ts rest → keyword_at rest ≡ None → specifiers p ts ≡ Ok (found, rest)
 unfolding specifiers
@@ -262,15 +262,15 @@ FirstKeyword (t ∷ ts) P = (k : Keyword) × IsKeyword k t × P k
 
 -- specifiers are those that stood before, or begin with a keyword that may stand behind them
 abbrev pub Starts : Place → SpecifierList → SpecifierList → List Lexeme → Type 0
-Starts p before all ts = (before ≡ all) ⊎ FirstKeyword ts (λ k. (found : SpecifierList) × (with_word p k before ≡ Some found))
+Starts p before all ts = (before ≡ all) ⊎ FirstKeyword ts (λ k. (found : SpecifierList) × (with_specifier p k before ≡ Some found))
 
 pub starts : {p : Place} {before all : SpecifierList} {ts rest : List Lexeme} → AreSpecifiers p before all ts rest → Starts p before all ts
 starts types.none = inl refl
 starts (types.more {k = k} {with_this = found} e w s) = inr (k, e, (found, w))
 
 -- a keyword with which specifiers begin, where `static` may not stand
-first_word : (p : Place) (k : Keyword) (found : SpecifierList) → bars_static p ≡ true → with_word p k no_specifiers ≡ Some found → is_void_word (word.Keyword k) || is_type_word (word.Keyword k) ≡ true
-unfolding with_word with_static
+first_word : (p : Place) (k : Keyword) (found : SpecifierList) → bars_static p ≡ true → with_specifier p k no_specifiers ≡ Some found → is_void_word (word.Keyword k) || is_type_word (word.Keyword k) ≡ true
+unfolding with_specifier with_static
 first_word p keyword.Static found b e =
     let none : unless (bars_static p) (record no_specifiers { is_static = true }) ≡ None = rw b refl in never (sym none ∙ e)
 first_word p keyword.Void found b e = refl
@@ -283,8 +283,8 @@ first_word p keyword.Unsigned found b e = refl
 first_word p k found b e = never e
 
 -- the same for objects
-first_type_word : (k : Keyword) (found : SpecifierList) → with_word place.Object k no_specifiers ≡ Some found → is_type_word (word.Keyword k) ≡ true
-unfolding with_word with_static with_void is_type
+first_type_word : (k : Keyword) (found : SpecifierList) → with_specifier place.Object k no_specifiers ≡ Some found → is_type_word (word.Keyword k) ≡ true
+unfolding with_specifier with_static with_void is_type
 first_type_word keyword.Char found e = refl
 first_type_word keyword.Short found e = refl
 first_type_word keyword.Int found e = refl
@@ -339,7 +339,7 @@ stars_read {n} {ts} {rest} s h = let e : 0 + n ≡ n = omega arith in stars_from
 -- stars are no keyword
 pub stars_no_keyword : {n : ℕ} {ts rest : List Lexeme} → AreStars n ts rest → keyword_at rest ≡ None → keyword_at ts ≡ None
 stars_no_keyword no_star h = h
-stars_no_keyword (star k s) h = ap keyword_of k
+stars_no_keyword (star k s) h = ap keyword_of_word k
 
 pub punctuator_no_keyword : (t : Lexeme) (ts : List Lexeme) {p : Punctuator} → IsPunctuator p t → keyword_at (t ∷ ts) ≡ None
-punctuator_no_keyword t ts k = ap keyword_of k
+punctuator_no_keyword t ts k = ap keyword_of_word k

@@ -3,7 +3,7 @@ use Rattle.std.specs.Prelude.{ℕ, zero, suc, Bool, true, false, List, [], ◌�
 use Rattle.c_tree.specs.Expressions.{ExpressionTree, ExpressionTrees, none, first, Name, Constant, Literal, Parenthesized, Index, Call, PostIncrement, PostDecrement, Prefix, Cast, SizeofExpression, SizeofType, SizeofArray, Binary, Conditional, Assignment, Comma}
 use Rattle.c_tree.specs.Declarations.{BracketsTree, Absent, Empty, Sized, InitializerTree, InitializerTrees, Value, Braces, DeclaratorTree, DeclarationTree, ParameterTree}
 use Rattle.c_tree.specs.Declarations as initializer
-use Rattle.c_tree.specs.Statements.{StartTree, StatementTree, StatementTrees, BlockTree, Compound, Declare, Run, If, IfElse, While, DoWhile, For, Switch, Case, Default, Break, Continue, Return, chain}
+use Rattle.c_tree.specs.Statements.{StartTree, StatementTree, StatementTrees, BlockTree, Compound, Declare, Run, If, IfElse, While, DoWhile, For, Switch, Case, Default, Break, Continue, Return, chain_of_statements}
 use Rattle.c_tree.specs.Statements as statement
 use Rattle.c_parse.specs.Depths.{is_if}
 use Rattle.c_tree.specs.Trees.{ItemTree, Include, Declares, Defines}
@@ -123,7 +123,7 @@ ParametersNest (p ∷ all) depth = SizeNests p.brackets depth × ParametersNest 
 -- the body of a function, if it has one
 abbrev pub BodyNests : Option BlockTree → ℕ → Type 0
 BodyNests None depth = Unit {0}
-BodyNests (Some b) depth = StatementsNest (chain b.statements) depth
+BodyNests (Some b) depth = StatementsNest (chain_of_statements b.statements) depth
 
 -- what stands at file scope; the parameters of a function nest
 abbrev pub ItemNests : ItemTree → ℕ → Type 0

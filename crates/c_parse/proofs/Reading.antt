@@ -9,8 +9,8 @@ use Rattle.c_parse_tokens.specs.declared.mark.Mark.TheVariants as mark
 use Rattle.c_parse_tokens.specs.declared.specifier.Place.{Place}
 use Rattle.c_parse_tokens.specs.declared.specifier.SpecifierList.{SpecifierList}
 use Rattle.c_parse_tokens.specs.Outcome.{Parser, ◌>>=◌}
-use Rattle.c_parse_tokens.specs.Front.{stuck, is, behind, want, separated}
-use Rattle.c_parse_tokens.specs.Specifiers.{no_specifiers, is_type, with_word, keyword_of, ended, specifiers_from, specifiers, is_star, stars_from, stars}
+use Rattle.c_parse_tokens.specs.Front.{stuck, is, tokens_behind, want, separated}
+use Rattle.c_parse_tokens.specs.Specifiers.{no_specifiers, is_type, with_specifier, keyword_of_word, ended, specifiers_from, specifiers, is_star, stars_from, stars}
 use Rattle.c_parse.specs.Tokens.{Grammar, IsPunctuator}
 use Rattle.c_parse.specs.Types.{AreSpecifiers, none, more, Specify, AreStars, no_star, star}
 use Rattle.c_parse.proofs.Words.{word_of, is_word, keyword_there, star_there}
@@ -37,7 +37,7 @@ seen G H ts whole (Err s) f h = tt
 -- a mark has to stand at the front, of tokens of which something is known
 pub want_next : {B : Type 0} (H : Grammar B) (m : Mark) (ts whole : List Lexeme) (f : List Lexeme → Result (B × List Lexeme) Stuck) (P : List Lexeme → Type 0) → P ts
     → ((t : Lexeme) (rest : List Lexeme) → t.kind ≡ word_of m → P (t ∷ rest) → Found H whole (f rest)) → Found H whole (want m ts >>= f)
-unfolding want behind
+unfolding want tokens_behind
 want_next H m [] whole f P p k = tt
 want_next {B} H m (t ∷ ts) whole f P p k = by (is m t.kind) refl
   where
@@ -47,8 +47,8 @@ want_next {B} H m (t ∷ ts) whole f P p k = by (is m t.kind) refl
 
 -- a mark may stand at the front, of tokens of which something is known
 pub behind_next : {B : Type 0} (H : Grammar B) (m : Mark) (ts whole : List Lexeme) (f : List Lexeme → Result (B × List Lexeme) Stuck) (d : Result (B × List Lexeme) Stuck) (P : List Lexeme → Type 0) → P ts
-    → ((t : Lexeme) (rest : List Lexeme) → t.kind ≡ word_of m → P (t ∷ rest) → Found H whole (f rest)) → Found H whole d → Found H whole (option_map_or f (behind m ts) d)
-unfolding behind
+    → ((t : Lexeme) (rest : List Lexeme) → t.kind ≡ word_of m → P (t ∷ rest) → Found H whole (f rest)) → Found H whole d → Found H whole (option_map_or f (tokens_behind m ts) d)
+unfolding tokens_behind
 behind_next H m [] whole f d P p k h = h
 behind_next {B} H m (t ∷ ts) whole f d P p k h = by (is m t.kind) refl
   where
@@ -79,8 +79,8 @@ ended_found p found ts = by_test (Found (Further p found) ts) (is_type found) _ 
 from_found : (p : Place) (found : SpecifierList) (ts : List Lexeme) → Found (Further p found) ts (specifiers_from p found ts)
 from_found p found [] = ended_found p found []
 from_found p found (t ∷ ts) =
-    by_option P _ (keyword_of t.kind) _
-    (λ k e. by_option P _ (with_word p k found) _
+    by_option P _ (keyword_of_word t.kind) _
+    (λ k e. by_option P _ (with_specifier p k found) _
     (λ with_this i. seen (Further p with_this) (Further p found) ts (t ∷ ts) (specifiers_from p with_this ts) (λ all rest h. (more (keyword_there t.kind k e) i h.0, h.1)) (from_found p with_this ts))
     tt)
     (ended_found p found (t ∷ ts))
@@ -118,7 +118,7 @@ want_first {B} H m ts f k = want_next H m ts ts f (λ l. l ≡ ts) refl (λ t re
 
 -- a mark may stand at the front
 pub behind_first : {B : Type 0} (H : Grammar B) (m : Mark) (ts : List Lexeme) (f : List Lexeme → Result (B × List Lexeme) Stuck) (d : Result (B × List Lexeme) Stuck)
-    → ((t : Lexeme) (rest : List Lexeme) → t.kind ≡ word_of m → Found H (t ∷ rest) (f rest)) → Found H ts d → Found H ts (option_map_or f (behind m ts) d)
+    → ((t : Lexeme) (rest : List Lexeme) → t.kind ≡ word_of m → Found H (t ∷ rest) (f rest)) → Found H ts d → Found H ts (option_map_or f (tokens_behind m ts) d)
 behind_first {B} H m ts f d k h = behind_next H m ts ts f d (λ l. l ≡ ts) refl (λ t rest is same. subst (λ (l : List Lexeme). Found H l (f rest)) same (k t rest is)) h
 
 -- the same for any answer, of which an error says nothing
@@ -129,7 +129,7 @@ next_any G T e ts (Err s) f h k = e s
 
 pub want_any : {B : Type 0} (T : Result B Stuck → Type 0) → ((s : Stuck) → T (Err s)) → (m : Mark) (ts : List Lexeme) (f : List Lexeme → Result B Stuck) (P : List Lexeme → Type 0) → P ts
     → ((t : Lexeme) (rest : List Lexeme) → t.kind ≡ word_of m → P (t ∷ rest) → T (f rest)) → T (want m ts >>= f)
-unfolding want behind
+unfolding want tokens_behind
 want_any T e m [] f P p k = e _
 want_any {B} T e m (t ∷ ts) f P p k = by (is m t.kind) refl
   where

@@ -5,12 +5,12 @@ use Rattle.c_token.specs.Lexemes.{Lexeme, Word}
 use Rattle.c_token.specs.Lexemes as word
 use Rattle.c_tree.specs.declared.types.IntegerType.{IntegerType}
 use Rattle.c_tree.specs.Expressions.{NameTree}
-use Rattle.c_tree.specs.Declarations.{BracketsTree, Empty, Sized, InitializerTree, Braces, chain, DeclaratorTree, DeclarationTree}
+use Rattle.c_tree.specs.Declarations.{BracketsTree, Empty, Sized, InitializerTree, Braces, chain_of_initializers, DeclaratorTree, DeclarationTree}
 use Rattle.c_parse_tokens.specs.declared.mark.Mark.TheVariants as mark
 use Rattle.c_parse_tokens.specs.declared.specifier.Place.TheVariants as place
 use Rattle.c_parse_tokens.specs.declared.specifier.SpecifierList.{SpecifierList}
 use Rattle.c_parse_tokens.specs.Outcome.{Parser}
-use Rattle.c_parse_tokens.specs.Front.{is_at, behind, spot_at, last_before, extent_before}
+use Rattle.c_parse_tokens.specs.Front.{is_at, tokens_behind, spot_at, last_before, extent_before}
 use Rattle.c_parse_tokens.specs.Specifiers.{specifiers, integer_type, stars}
 use Rattle.c_parse_expressions.specs.declared.expression.Sort.TheVariants as sort
 use Rattle.c_parse_expressions.specs.Expressions.{nested, assignment, nesting}
@@ -46,7 +46,7 @@ abbrev pub DeepBrackets : ℕ → Grammar BracketsTree
 DeepBrackets depth b ts rest = AreBrackets b ts rest × SizeNests b depth
 
 pub brackets_found : (depth : ℕ) (ts : List Lexeme) → Goods depth → Found (DeepBrackets depth) ts (brackets (nesting depth) ts)
-unfolding brackets behind
+unfolding brackets tokens_behind
 brackets_found depth [] good = (no_brackets, tt)
 brackets_found depth (t ∷ ts) good =
     behind_next (DeepBrackets depth) mark.OpenBracket (t ∷ ts) (t ∷ ts) _ _ (λ l. l ≡ t ∷ ts) refl
@@ -74,7 +74,7 @@ within_on : (all : List InitializerTree) (i : InitializerTree) (depth : ℕ) →
 within_on [] i depth h g = (g, tt)
 within_on (x ∷ all) i depth h g = (h.0, within_on all i depth h.1 g)
 
-within_all : (all : List InitializerTree) (depth : ℕ) → AllWithin all (suc depth) → InitializersNest (chain all) depth
+within_all : (all : List InitializerTree) (depth : ℕ) → AllWithin all (suc depth) → InitializersNest (chain_of_initializers all) depth
 within_all [] depth h = tt
 within_all (i ∷ all) depth h = (h.0, within_all all depth h.1)
 
@@ -102,7 +102,7 @@ module _ (depth : ℕ) (within : Option (Parser InitializerTree)) (good : (ts : 
       next (InnerInitializer depth) (DeepList depth) ts ts (nested_initializer within ts) _ (good ts) (λ i g. more_found (length i.1) (i.0 ∷ []) i.1 ts (only g.0) (g.1, tt))
 
 closed : {opening closing : Lexeme} {all : List InitializerTree} {ts rest l : List Lexeme} → l ≡ closing ∷ rest → IsPunctuator punctuator.OpenBrace opening → ListInBraces all ts l → IsPunctuator punctuator.CloseBrace closing
-    → IsInitializer (Braces (chain all)) (opening ∷ ts) rest
+    → IsInitializer (Braces (chain_of_initializers all)) (opening ∷ ts) rest
 closed {opening} {closing} {all} {ts} {rest} same o (ended h) c = braces o (subst (λ (m : List Lexeme). AreInitializers all ts m) same h) c
 closed {opening} {closing} {all} {ts} {rest} same o (with_comma {t = t} h k) c = braces_with_comma o (subst (λ (m : List Lexeme). AreInitializers all ts (t ∷ m)) same h) k c
 
@@ -115,7 +115,7 @@ no_initializers : {all : List InitializerTree} {ts rest : List Lexeme} → AreIn
 no_initializers (only {i = i} h) e = none_of (i ∷ []) e [] i refl
 no_initializers (another {all = done} {i = i} h k g) e = none_of (done ++ i ∷ []) e done i refl
 
-some_level : (all : List InitializerTree) (depth : ℕ) (ts rest : List Lexeme) → ListInBraces all ts rest → AllWithin all depth → Within depth (λ d. InitializersNest (chain all) d)
+some_level : (all : List InitializerTree) (depth : ℕ) (ts rest : List Lexeme) → ListInBraces all ts rest → AllWithin all depth → Within depth (λ d. InitializersNest (chain_of_initializers all) d)
 some_level [] zero ts rest h d = there h refl
   where
     there : {l m : List Lexeme} {all : List InitializerTree} → ListInBraces all l m → all ≡ [] → ⊥
@@ -127,14 +127,14 @@ some_level (i ∷ all) (suc depth) ts rest h d = within_all (i ∷ all) depth d
 
 module _ (depth : ℕ) (within : Option (Parser InitializerTree)) (good : (ts : List Lexeme) → Found (InnerInitializer depth) ts (nested_initializer within ts)) where
   initializer_in_found : (ts : List Lexeme) → Found (DeepInitializer depth) ts (initializer_in (nesting depth) within ts)
-  unfolding initializer_in behind
+  unfolding initializer_in tokens_behind
   initializer_in_found [] =
       next (Deep depth IsAssignment) (DeepInitializer depth) [] [] (assignment (nesting depth) []) _ (assignment_found depth (all_good depth) []) (λ e d. (value d.0, d.1))
   initializer_in_found (t ∷ ts) =
       behind_next (DeepInitializer depth) mark.OpenBrace (t ∷ ts) (t ∷ ts) _ _ (λ l. l ≡ t ∷ ts) refl
       (λ u its k same. next (DeepList depth) (DeepInitializer depth) its (t ∷ ts) (in_braces within its) _ (in_found depth within good its)
       (λ all d. want_next (DeepInitializer depth) mark.CloseBrace all.1 (t ∷ ts) _ (λ l. ListInBraces all.0 its l) d.0
-      (λ c rest is x. (subst (λ (l : List Lexeme). IsInitializer (Braces (chain all.0)) l rest) same (closed refl k x is), some_level all.0 depth its (c ∷ rest) x d.1))))
+      (λ c rest is x. (subst (λ (l : List Lexeme). IsInitializer (Braces (chain_of_initializers all.0)) l rest) same (closed refl k x is), some_level all.0 depth its (c ∷ rest) x d.1))))
       (next (Deep depth IsAssignment) (DeepInitializer depth) (t ∷ ts) (t ∷ ts) (assignment (nesting depth) (t ∷ ts)) _ (assignment_found depth (all_good depth) (t ∷ ts)) (λ e d. (value d.0, d.1)))
 
 within_found : (depth : ℕ) (ts : List Lexeme) → Found (InnerInitializer depth) ts (nested_initializer (within_braces depth) ts)
@@ -155,7 +155,7 @@ not_empty : (b : BracketsTree) → are_empty b ≡ false → b ≡ Empty → ⊥
 not_empty b h e = let g : are_empty b ≡ true = ap are_empty e in absurd cc
 
 initialized_found : (depth : ℕ) (b : BracketsTree) (ts : List Lexeme) → Found (Initial depth b) ts (initialized depth b ts)
-unfolding initialized behind
+unfolding initialized tokens_behind
 initialized_found depth b [] = by_test (Found (Initial depth b) []) (are_empty b) _ _ (λ _. tt) (λ e. (no_initializer (not_empty b e), tt))
 initialized_found depth b (t ∷ ts) =
     behind_next (Initial depth b) mark.Equal (t ∷ ts) (t ∷ ts) _ _ (λ l. l ≡ t ∷ ts) refl

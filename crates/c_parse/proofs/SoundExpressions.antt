@@ -12,20 +12,20 @@ use Rattle.c_tree.specs.declared.operator.BinaryOperator.{BinaryOperator}
 use Rattle.c_tree.specs.declared.operator.AssignmentOperator.{AssignmentOperator}
 use Rattle.c_tree.specs.declared.operator.PrefixOperator.{PrefixOperator}
 use Rattle.c_tree.specs.declared.types.IntegerType.{IntegerType}
-use Rattle.c_tree.specs.Expressions.{ExpressionTree, SuffixTree, suffixed, Indexes, Calls, Increments, Decrements, chain}
+use Rattle.c_tree.specs.Expressions.{ExpressionTree, SuffixTree, suffixed, Indexes, Calls, Increments, Decrements, chain_of_arguments}
 use Rattle.c_tree.specs.Expressions as tree
 use Rattle.c_parse_tokens.specs.declared.mark.Mark.TheVariants as mark
 use Rattle.c_parse_tokens.specs.declared.specifier.Place.TheVariants as place
 use Rattle.c_parse_tokens.specs.declared.specifier.SpecifierList.{SpecifierList}
 use Rattle.c_parse_tokens.specs.Outcome.{Parser, ◌>>=◌}
-use Rattle.c_parse_tokens.specs.Front.{inside, is_at, behind, want, last_before, extent_before}
+use Rattle.c_parse_tokens.specs.Front.{inside, is_at, tokens_behind, want, last_before, extent_before}
 use Rattle.c_parse_tokens.specs.Operators.{punctuator_of, binary_operator, operator_at, assignment_operator, assignment_at, prefix_operator}
 use Rattle.c_parse_tokens.specs.Specifiers.{specifiers, integer_type, base_of, is_parenthesis, names_type, type_behind, stars}
 use Rattle.c_parse_expressions.specs.declared.expression.Sort.{Sort}
 use Rattle.c_parse_expressions.specs.declared.expression.Sort.TheVariants as sort
 use Rattle.c_parse_expressions.specs.declared.expression.SuffixStart.{SuffixStart}
 use Rattle.c_parse_expressions.specs.declared.expression.SuffixStart.TheVariants as start
-use Rattle.c_parse_expressions.specs.Expressions.{nested, literal_of, literals, primary_of, primary, arguments, suffix_start, suffix_at, suffix, suffixes, postfix, operand_of, prefix, sizeof_expression, size, sizeof_tree, sizeof_type, unary_of, unary, pointed, type_name, cast, operations, levels, conditional, assignment, more_commas, comma, expression_of, nesting}
+use Rattle.c_parse_expressions.specs.Expressions.{nested, literal_of, literals_at_front, primary_of, primary, arguments, suffix_start, suffix_at, suffix, suffixes, postfix, operand_of, prefix, sizeof_expression, array_size, sizeof_tree, sizeof_type, unary_of, unary, pointed, type_name, cast, operations, levels, conditional, assignment, more_commas, comma, expression_of, nesting}
 use Rattle.c_parse.specs.Tokens.{Grammar, IsPunctuator, IsKeyword, from_to, AreLiterals, one, more}
 use Rattle.std.proofs.lemmas.Bool.Decides.{nat_tests}
 use Rattle.c_parse.specs.Types.{Specify, AreStars, IsTypeName, nothing, integer}
@@ -65,7 +65,7 @@ nested_found (suc depth) s ts g = g.0 s ts
 
 -- ---- literals
 
-literals_found : (bytes : List ℕ) (last : Lexeme) (ts whole : List Lexeme) → AreLiterals bytes last whole ts → (l : Lexeme) × AreLiterals (literals bytes ts).0 l whole (literals bytes ts).1
+literals_found : (bytes : List ℕ) (last : Lexeme) (ts whole : List Lexeme) → AreLiterals bytes last whole ts → (l : Lexeme) × AreLiterals (literals_at_front bytes ts).0 l whole (literals_at_front bytes ts).1
 literals_found bytes last [] whole h = (last, h)
 literals_found bytes last (t ∷ ts) whole h =
     by_option (λ (x : List ℕ × List Lexeme). (l : Lexeme) × AreLiterals x.0 l whole x.1) _ (literal_of t.kind) _
@@ -115,7 +115,7 @@ start_there p s e = never e
 
 -- ---- arguments
 
-all_nest_on : (es : List ExpressionTree) (e : ExpressionTree) (depth : ℕ) → AllNest (chain es) depth → Within depth (λ d. Nests e d) → AllNest (chain (es ++ e ∷ [])) depth
+all_nest_on : (es : List ExpressionTree) (e : ExpressionTree) (depth : ℕ) → AllNest (chain_of_arguments es) depth → Within depth (λ d. Nests e d) → AllNest (chain_of_arguments (es ++ e ∷ [])) depth
 all_nest_on [] e depth h g = (g, tt)
 all_nest_on (x ∷ es) e depth h g = (h.0, all_nest_on es e depth h.1 g)
 
@@ -126,13 +126,13 @@ data AreArgumentsIfAny : List ExpressionTree → List Lexeme → List Lexeme →
 
 -- arguments that nest so deep at most
 abbrev DeepArguments : ℕ → Grammar (List ExpressionTree)
-DeepArguments depth es ts rest = AreArguments es ts rest × AllNest (chain es) depth
+DeepArguments depth es ts rest = AreArguments es ts rest × AllNest (chain_of_arguments es) depth
 
 abbrev DeepIfAny : ℕ → Grammar (List ExpressionTree)
-DeepIfAny depth es ts rest = AreArgumentsIfAny es ts rest × AllNest (chain es) depth
+DeepIfAny depth es ts rest = AreArgumentsIfAny es ts rest × AllNest (chain_of_arguments es) depth
 
 called : {opening closing : Lexeme} {e : ExpressionTree} {es : List ExpressionTree} {whole mid rest : List Lexeme} (l : List Lexeme) → l ≡ closing ∷ rest → IsPostfix e whole (opening ∷ mid) → IsPunctuator punctuator.OpenParenthesis opening
-    → AreArgumentsIfAny es mid l → IsPunctuator punctuator.CloseParenthesis closing → IsPostfix (tree.Call e (chain es) (last_before (opening ∷ mid) rest)) whole rest
+    → AreArgumentsIfAny es mid l → IsPunctuator punctuator.CloseParenthesis closing → IsPostfix (tree.Call e (chain_of_arguments es) (last_before (opening ∷ mid) rest)) whole rest
 called {opening} {closing} {e} {es} {whole} {mid} {rest} l same h o none c =
     let there = subst (λ (m : List Lexeme). IsPostfix e whole (opening ∷ m)) same h in
     let before : last_before (opening ∷ mid) rest ≡ closing.spot.at = last_known (subst (λ (m : List Lexeme). Passes (opening ∷ mid) m) same (passed here)) in
@@ -149,11 +149,11 @@ module _ (depth : ℕ) (good : Goods depth) where
   -- ---- primary expressions
 
   literal_found : (t : Lexeme) (bytes : List ℕ) (ts : List Lexeme) → t.kind ≡ word.Literal bytes
-      → IsPrimary (tree.Literal (extent_before (t ∷ ts) (literals bytes ts).1) (literals bytes ts).0) (t ∷ ts) (literals bytes ts).1
+      → IsPrimary (tree.Literal (extent_before (t ∷ ts) (literals_at_front bytes ts).1) (literals_at_front bytes ts).0) (t ∷ ts) (literals_at_front bytes ts).1
   unfolding extent_before
   literal_found t bytes ts k =
       let l = literals_found bytes t ts (t ∷ ts) (one k) in
-      let before : last_before (t ∷ ts) (literals bytes ts).1 ≡ l.0.spot.at = last_known (literals_pass l.1) in
+      let before : last_before (t ∷ ts) (literals_at_front bytes ts).1 ≡ l.0.spot.at = last_known (literals_pass l.1) in
       rw before (grammar.literals l.1)
 
   primary_found_of : (w : Word) (t : Lexeme) (ts : List Lexeme) → t.kind ≡ w → Found (Deep depth IsPrimary) (t ∷ ts) (primary_of (nesting depth) w t ts)
@@ -268,8 +268,8 @@ SizeNests (Some e) depth = Within depth (λ d. Nests e d)
 abbrev Sizes : ℕ → Grammar (Option ExpressionTree)
 Sizes depth o ts rest = IsSizeIfAny o ts rest × SizeNests o depth
 
-size_found : (depth : ℕ) (ts : List Lexeme) → Goods depth → Found (Sizes depth) ts (size (nesting depth) ts)
-unfolding size behind
+size_found : (depth : ℕ) (ts : List Lexeme) → Goods depth → Found (Sizes depth) ts (array_size (nesting depth) ts)
+unfolding array_size tokens_behind
 size_found depth [] good = (no_size, tt)
 size_found depth (t ∷ ts) good =
     behind_next (Sizes depth) mark.OpenBracket (t ∷ ts) (t ∷ ts) _ _ (λ l. l ≡ t ∷ ts) refl
@@ -301,7 +301,7 @@ sizeof_type_found zero t opening ts good k p = tt
 sizeof_type_found (suc zero) t opening ts good k p = tt
 sizeof_type_found (suc (suc depth)) t opening ts good k p =
     next (Specify place.Object) (Deep (suc (suc depth)) IsUnary) ts (t ∷ opening ∷ ts) (specifiers place.Object ts) _ (specifiers_found place.Object ts)
-    (λ found s. next (Sizes depth) (Deep (suc (suc depth)) IsUnary) (stars found.1).1 (t ∷ opening ∷ ts) (size (nesting depth) (stars found.1).1) _ (size_found depth (stars found.1).1 good.1.1)
+    (λ found s. next (Sizes depth) (Deep (suc (suc depth)) IsUnary) (stars found.1).1 (t ∷ opening ∷ ts) (array_size (nesting depth) (stars found.1).1) _ (size_found depth (stars found.1).1 good.1.1)
     (λ e d. want_next (Deep (suc (suc depth)) IsUnary) mark.CloseParenthesis e.1 (t ∷ opening ∷ ts) _ (λ l. IsSizeIfAny e.0 (stars found.1).1 l) d.0
     (λ c rest is x.
     let passes : Passes (t ∷ opening ∷ ts) (c ∷ rest) = passed (passed (join (specifiers_pass s.words) (join (stars_pass (stars_found found.1)) (size_passes x)))) in

@@ -21,7 +21,7 @@ use Rattle.c_parse_expressions.specs.Expressions.{nesting}
 use Rattle.c_parse_statements.specs.Declarations.{identifier, brackets, named_declarator, begun_declaration}
 use Rattle.c_parse_statements.specs.Statements as reading
 use Rattle.c_parse_statements.specs.Statements.{block}
-use Rattle.c_parse.specs.Reading.{begins_name, parameter_name, parameter, parameters, are_named, body, function, result_stars, objects, external, header, item_of, item, items_from, items, answer, tree_of}
+use Rattle.c_parse.specs.Reading.{begins_with_name, parameter_name, parameter, parameters, are_named, body, function, result_stars, objects, external, header, item_of, item, items_from, items, answer, tree_of}
 use Rattle.c_parse.specs.Tokens.{Grammar, IsPunctuator}
 use Rattle.c_parse.specs.Types.{Specify, AreStars}
 use Rattle.c_parse.specs.Declarations.{Separated, first, further}
@@ -45,7 +45,7 @@ name_there (name_at_front k) = its_name k
 name_found : (ts : List Lexeme) → Found IsOptionalName ts (parameter_name ts)
 unfolding parameter_name
 name_found ts =
-    by_test (Found IsOptionalName ts) (begins_name ts) _ _
+    by_test (Found IsOptionalName ts) (begins_with_name ts) _ _
     (λ _. next NameAtFront IsOptionalName ts ts (identifier ts) _ (identifier_found ts) (λ n h. name_there h))
     (λ _. nameless)
 

@@ -9,13 +9,13 @@ use Rattle.c_token.specs.declared.token.Punctuator.TheVariants as punctuator
 use Rattle.c_token.specs.Lexemes.{Lexeme, Word}
 use Rattle.c_token.specs.Lexemes as word
 use Rattle.c_tree.specs.Expressions.{ExpressionTree}
-use Rattle.c_tree.specs.Statements.{StatementTree, StatementTrees, BlockTree, BranchTree, LabelTree, CaseLabel, DefaultLabel, labeled, if_tree, else_tree, behind_labels, block_tree, chain}
+use Rattle.c_tree.specs.Statements.{StatementTree, StatementTrees, BlockTree, BranchTree, LabelTree, CaseLabel, DefaultLabel, labeled, if_tree, else_tree, behind_labels, block_tree, chain_of_statements}
 use Rattle.c_tree.specs.Statements as tree
 use Rattle.c_parse_tokens.specs.declared.fault.Stuck.{Stuck}
 use Rattle.c_parse_tokens.specs.declared.mark.Mark.{Mark}
 use Rattle.c_parse_tokens.specs.declared.mark.Mark.TheVariants as mark
 use Rattle.c_parse_tokens.specs.Outcome.{◌>>=◌}
-use Rattle.c_parse_tokens.specs.Front.{stuck, is, is_at, behind, want, spot_at, last_before, extent_before}
+use Rattle.c_parse_tokens.specs.Front.{stuck, is, is_at, tokens_behind, want, spot_at, last_before, extent_before}
 use Rattle.c_parse_tokens.specs.Specifiers.{begins_type}
 use Rattle.c_parse_expressions.specs.declared.expression.Sort.TheVariants as sort
 use Rattle.c_parse_expressions.specs.Expressions.{nested, conditional, comma, nesting}
@@ -238,29 +238,29 @@ inner_found depth ts g = seen (InnerItem depth false) (InnerStatement depth) ts 
 -- ---- blocks
 
 pub data IsBlock (may_declare : Bool) : BlockTree → List Lexeme → List Lexeme → Type 0 where
-  a_block : {opening closing : Lexeme} {all : List StatementTree} {ts rest : List Lexeme} → IsPunctuator punctuator.OpenBrace opening → AreStatements may_declare (chain all) ts (closing ∷ rest)
+  a_block : {opening closing : Lexeme} {all : List StatementTree} {ts rest : List Lexeme} → IsPunctuator punctuator.OpenBrace opening → AreStatements may_declare (chain_of_statements all) ts (closing ∷ rest)
       → IsPunctuator punctuator.CloseBrace closing → IsBlock may_declare (record { opening = opening.spot; statements = all; closing = closing.spot }) (opening ∷ ts) rest
 
 abbrev pub Block : ℕ → Bool → Grammar BlockTree
-Block depth may_declare b ts rest = IsBlock may_declare b ts rest × StatementsNest (chain b.statements) depth
+Block depth may_declare b ts rest = IsBlock may_declare b ts rest × StatementsNest (chain_of_statements b.statements) depth
 
 -- with these statements before them, statements are some
 abbrev Before : ℕ → Bool → List StatementTree → (whole ts : List Lexeme) → Type 0
-Before depth may_declare done whole ts = (more : List StatementTree) (rest : List Lexeme) → AreStatements may_declare (chain more) ts rest → StatementsNest (chain more) depth
-    → AreStatements may_declare (chain (done ++ more)) whole rest × StatementsNest (chain (done ++ more)) depth
+Before depth may_declare done whole ts = (more : List StatementTree) (rest : List Lexeme) → AreStatements may_declare (chain_of_statements more) ts rest → StatementsNest (chain_of_statements more) depth
+    → AreStatements may_declare (chain_of_statements (done ++ more)) whole rest × StatementsNest (chain_of_statements (done ++ more)) depth
 
-one_item : {may_declare : Bool} {s : StatementTree} (more : List StatementTree) {ts mid rest : List Lexeme} → IsBlockItem may_declare s ts mid → AreStatements may_declare (chain more) mid rest → AreStatements may_declare (chain (s ∷ more)) ts rest
+one_item : {may_declare : Bool} {s : StatementTree} (more : List StatementTree) {ts mid rest : List Lexeme} → IsBlockItem may_declare s ts mid → AreStatements may_declare (chain_of_statements more) mid rest → AreStatements may_declare (chain_of_statements (s ∷ more)) ts rest
 one_item more (a_statement s) r = statement s r
 one_item more (a_declaration e d) r = declares e d r
 
 before_on : (depth : ℕ) (may_declare : Bool) (done : List StatementTree) (s : StatementTree) (whole ts mid : List Lexeme) → Before depth may_declare done whole ts → InnerItem depth may_declare s ts mid → Before depth may_declare (done ++ s ∷ []) whole mid
 before_on depth may_declare done s whole ts mid h g more rest r n =
-    subst (λ (l : List StatementTree). AreStatements may_declare (chain l) whole rest × StatementsNest (chain l) depth) (sym (append_assoc done (s ∷ []) more)) (h (s ∷ more) rest (one_item more g.0 r) (g.1, n))
+    subst (λ (l : List StatementTree). AreStatements may_declare (chain_of_statements l) whole rest × StatementsNest (chain_of_statements l) depth) (sym (append_assoc done (s ∷ []) more)) (h (s ∷ more) rest (one_item more g.0 r) (g.1, n))
 
 module _ (depth : ℕ) (good : Goods depth) (may_declare : Bool) where
   from_found : (n : ℕ) (opening : Lexeme) (done : List StatementTree) (ts its : List Lexeme) → IsPunctuator punctuator.OpenBrace opening → Before depth may_declare done its ts
       → Found (Block depth may_declare) (opening ∷ its) (statements_from n (reading.statements depth) may_declare opening.spot done ts)
-  unfolding behind
+  unfolding tokens_behind
   from_found zero opening done ts its o h = tt
   from_found (suc n) opening done [] its o h =
       next (InnerItem depth may_declare) (Block depth may_declare) [] (opening ∷ its) (nested_statement (reading.statements depth) may_declare []) _ (item_found depth may_declare [] good)
@@ -273,13 +273,13 @@ module _ (depth : ℕ) (good : Goods depth) (may_declare : Bool) where
     where
       closed : (u : Lexeme) (rest : List Lexeme) → IsPunctuator punctuator.CloseBrace u → u ∷ rest ≡ t ∷ ts → Block depth may_declare (record { opening = opening.spot; statements = done; closing = t.spot }) (opening ∷ its) rest
       closed u rest k same =
-          let x = h [] (u ∷ rest) (subst (λ (l : List Lexeme). AreStatements may_declare (chain []) l (u ∷ rest)) same no_statement) tt in
-          let y = subst (λ (l : List StatementTree). AreStatements may_declare (chain l) its (u ∷ rest) × StatementsNest (chain l) depth) (append-nil done) x in
+          let x = h [] (u ∷ rest) (subst (λ (l : List Lexeme). AreStatements may_declare (chain_of_statements []) l (u ∷ rest)) same no_statement) tt in
+          let y = subst (λ (l : List StatementTree). AreStatements may_declare (chain_of_statements l) its (u ∷ rest) × StatementsNest (chain_of_statements l) depth) (append-nil done) x in
           let spots : u.spot ≡ t.spot = ap (λ (l : List Lexeme). (spot_at l)) same in
           subst (λ (s : Spot). Block depth may_declare (record { opening = opening.spot; statements = done; closing = s }) (opening ∷ its) rest) spots (a_block o y.0 k, y.1)
 
   pub block_found : (ts : List Lexeme) → Found (Block depth may_declare) ts (block (reading.statements depth) may_declare ts)
-  unfolding block want behind
+  unfolding block want tokens_behind
   block_found ts = want_open ts
     where
       want_open : (l : List Lexeme) → Found (Block depth may_declare) l (want mark.OpenBrace l >>= λ its. statements_from (length its + 1) (reading.statements depth) may_declare (spot_at l) [] its)
@@ -361,7 +361,7 @@ no_else_there t ts e = other (λ k. let i : is mark.Else t.kind ≡ true = rw k 
 
 module _ (depth : ℕ) (good : Goods depth) where
   branch_found : (ts : List Lexeme) → Found (Branch depth) ts (branch (nesting depth) (reading.statements depth) ts)
-  unfolding branch want behind
+  unfolding branch want tokens_behind
   branch_found [] = tt
   branch_found (t ∷ ts) =
       want_next (Branch depth) mark.If (t ∷ ts) (t ∷ ts) _ (λ l. l ≡ t ∷ ts) refl
@@ -392,7 +392,7 @@ module _ (depth : ℕ) (good : Goods depth) where
       (λ s g. h (Some s.0) s.1 (an_else k g.0) (rw (no_if g.0 i) g.1)))
 
   else_found : (n : ℕ) (b : BranchTree) (done : List BranchTree) (ts whole : List Lexeme) → length ts ≤ n → Chain depth b done whole ts → Found (DeepStatement depth) whole (else_from n (nesting depth) (reading.statements depth) b done ts)
-  unfolding behind
+  unfolding tokens_behind
   else_found zero b done [] whole le h = h None [] (no_else at_end) tt
   else_found zero b done (t ∷ ts) whole le h = absurd (omega (arith, le))
   else_found (suc n) b done [] whole le h = h None [] (no_else at_end) tt
@@ -439,7 +439,7 @@ for_found (suc depth) t ts good k =
     (λ s g. (subst (λ (l : List Lexeme). IsStatement (tree.For t.spot h.0.start h.0.condition h.0.step s.0) (t ∷ l) s.1) same (for_there refl k is x it g.0), ((d.1, d.2, d.3), g.1))))))
 
 switch_there : {t : Lexeme} {e : ExpressionTree} {b : BlockTree} {ts mid rest : List Lexeme} → IsKeyword keyword.Switch t → IsCondition e ts mid → IsBlock false b mid rest
-    → IsStatement (tree.Switch t.spot e b.opening (chain b.statements) b.closing) (t ∷ ts) rest
+    → IsStatement (tree.Switch t.spot e b.opening (chain_of_statements b.statements) b.closing) (t ∷ ts) rest
 switch_there k c (a_block o all d) = grammar.switch k c o all d
 
 switch_found : (depth : ℕ) (t : Lexeme) (ts : List Lexeme) → Goods depth → IsKeyword keyword.Switch t → Found (DeepStatement depth) (t ∷ ts) (switch_statement (nesting depth) (reading.statements depth) t.spot ts)

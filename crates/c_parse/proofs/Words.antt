@@ -10,7 +10,7 @@ use Rattle.c_parse_tokens.specs.declared.mark.Mark.{Mark}
 use Rattle.c_parse_tokens.specs.declared.mark.Mark.TheVariants as mark
 use Rattle.c_parse_tokens.specs.Front.{is, is_punctuator, is_keyword}
 use Rattle.c_parse_tokens.specs.Operators.{punctuator_of}
-use Rattle.c_parse_tokens.specs.Specifiers.{keyword_of, is_parenthesis, is_star}
+use Rattle.c_parse_tokens.specs.Specifiers.{keyword_of_word, is_parenthesis, is_star}
 use Rattle.c_parse_expressions.specs.Expressions.{literal_of}
 pub use Rattle.base_laws.proofs.Numbers.{no}
 pub use Rattle.base_laws.proofs.Options.{same_some as some_same}
@@ -92,7 +92,7 @@ punctuator_there (word.Constant c) p e = never e
 punctuator_there (word.Literal bytes) p e = never e
 punctuator_there (word.Include i) p e = never e
 
-pub keyword_there : (w : Word) (k : Keyword) → keyword_of w ≡ Some k → w ≡ word.Keyword k
+pub keyword_there : (w : Word) (k : Keyword) → keyword_of_word w ≡ Some k → w ≡ word.Keyword k
 keyword_there (word.Keyword q) k e = ap (λ (x : Keyword). word.Keyword x) (some_same e)
 keyword_there (word.Punctuator p) k e = never e
 keyword_there (word.Name n) k e = never e

@@ -3,13 +3,14 @@ use Rattle.std.specs.Prelude.{ℕ, suc, max, Bool, true, false, List, [], ◌∷
 use Rattle.c_tree.specs.Expressions.{ExpressionTree, ExpressionTrees, none, first, Name, Constant, Literal, Parenthesized, Index, Call, PostIncrement, PostDecrement, Prefix, Cast, SizeofExpression, SizeofType, SizeofArray, Binary, Conditional, Assignment, Comma}
 use Rattle.c_tree.specs.Declarations.{BracketsTree, Absent, Empty, Sized, InitializerTree, InitializerTrees, Value, Braces, DeclaratorTree, DeclarationTree, ParameterTree}
 use Rattle.c_tree.specs.Declarations as initializer
-use Rattle.c_tree.specs.Statements.{StartTree, StatementTree, StatementTrees, BlockTree, Compound, Declare, Run, If, IfElse, While, DoWhile, For, Switch, Case, Default, Break, Continue, Return, chain}
+use Rattle.c_tree.specs.Statements.{StartTree, StatementTree, StatementTrees, BlockTree, Compound, Declare, Run, If, IfElse, While, DoWhile, For, Switch, Case, Default, Break, Continue, Return, chain_of_statements}
 use Rattle.c_tree.specs.Statements as statement
 use Rattle.c_tree.specs.Trees.{ItemTree, Include, Declares, Defines}
 
 abbrev mutual
-  -- how deep constructs nest in an expression: parentheses, an index, arguments, the operand of an operator before it, of a cast and of `sizeof`, what stands
-  -- behind `?`, behind `:` and behind an operator that assigns; in `sizeof ( type )` both the parentheses and the type nest, and a size within them
+  -- how deep constructs nest in an expression: parentheses, an index, arguments, the operand of an operator before it,
+  -- of a cast and of `sizeof`, what stands behind `?`, behind `:` and behind an operator that assigns; in `sizeof (
+  -- type )` both the parentheses and the type nest, and a size within them
   pub expression_depth : ExpressionTree → ℕ
   expression_depth (Name n) = 0
   expression_depth (Constant spot value type) = 0
@@ -25,7 +26,8 @@ abbrev mutual
   expression_depth (SizeofType extent type count) = suc (suc 0)
   expression_depth (SizeofArray extent type count e) = suc (suc (suc (expression_depth e)))
   expression_depth (Binary o left_side right_side) = max (expression_depth left_side) (expression_depth right_side)
-  expression_depth (Conditional c a b) = max (expression_depth c) (max (suc (expression_depth a)) (suc (expression_depth b)))
+  expression_depth (Conditional c a b) =
+      max (expression_depth c) (max (suc (expression_depth a)) (suc (expression_depth b)))
   expression_depth (Assignment o target value) = max (expression_depth target) (suc (expression_depth value))
   expression_depth (Comma left_side right_side) = max (expression_depth left_side) (expression_depth right_side)
 
@@ -92,18 +94,20 @@ else_depth true depth = depth
 else_depth false depth = suc depth
 
 abbrev mutual
-  -- how deep constructs nest in a statement: statements within others, conditions, the parentheses of a `for`; the block of a `switch` is a statement within it;
-  -- labels do not nest, nor does an `if` behind `else`
+  -- how deep constructs nest in a statement: statements within others, conditions, the parentheses of a `for`; the
+  -- block of a `switch` is a statement within it; labels do not nest, nor does an `if` behind `else`
   pub statement_depth : StatementTree → ℕ
   statement_depth (Compound opening all closing) = statements_depth all
   statement_depth (Declare d) = declaration_depth d
   statement_depth (statement.Empty spot) = 0
   statement_depth (Run e last) = expression_depth e
   statement_depth (If spot c s) = max (suc (expression_depth c)) (suc (statement_depth s))
-  statement_depth (IfElse spot c s r) = max (suc (expression_depth c)) (max (suc (statement_depth s)) (else_depth (is_if r) (statement_depth r)))
+  statement_depth (IfElse spot c s r) =
+      max (suc (expression_depth c)) (max (suc (statement_depth s)) (else_depth (is_if r) (statement_depth r)))
   statement_depth (While spot c s) = max (suc (expression_depth c)) (suc (statement_depth s))
   statement_depth (DoWhile extent s c) = max (suc (statement_depth s)) (suc (expression_depth c))
-  statement_depth (For spot start c step s) = max (suc (max (start_depth start) (max (optional_depth c) (optional_depth step)))) (suc (statement_depth s))
+  statement_depth (For spot start c step s) =
+      max (suc (max (start_depth start) (max (optional_depth c) (optional_depth step)))) (suc (statement_depth s))
   statement_depth (Switch spot e opening all closing) = max (suc (expression_depth e)) (suc (statements_depth all))
   statement_depth (Case extent e s) = max (expression_depth e) (statement_depth s)
   statement_depth (Default extent s) = statement_depth s
@@ -124,7 +128,7 @@ parameters_depth (p ∷ all) = max (brackets_depth p.brackets) (parameters_depth
 -- the body of a function, if it has one
 abbrev pub body_depth : Option BlockTree → ℕ
 body_depth None = 0
-body_depth (Some b) = statements_depth (chain b.statements)
+body_depth (Some b) = statements_depth (chain_of_statements b.statements)
 
 -- what stands at file scope; the parameters of a function nest
 abbrev pub item_depth : ItemTree → ℕ

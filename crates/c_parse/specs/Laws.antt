@@ -1,4 +1,5 @@
--- What the grammar says: one tree at most, the `else` of an `if`, operators one after the other (ISO/IEC 9899:2011, 6.8.4.1p3, 6.5).
+-- What the grammar says: one tree at most, the `else` of an `if`, operators one after the other (ISO/IEC 9899:2011,
+-- 6.8.4.1p3, 6.5).
 use Rattle.std.specs.Prelude.{◌≡◌, ℕ, ◌<◌, ◌≤◌, List, Err}
 use Rattle.debug_records.specs.declared.code.Code.{Code}
 use Rattle.debug_records.specs.declared.source.Spot.{Spot}
@@ -42,11 +43,15 @@ top_level e = 0
 
 -- No tokens spell `if (c) if (d) s else r` with the `else` at the outer `if`.
 abbrev pub ElseIsTheNearest : Type 0
-ElseIsTheNearest = (spot inner : Spot) (c d : ExpressionTree) (s r : StatementTree) (ts rest : List Lexeme) → IsStatement (IfElse spot c (If inner d s) r) ts rest → ⊥
+ElseIsTheNearest =
+    (spot inner : Spot) (c d : ExpressionTree) (s r : StatementTree) (ts rest : List Lexeme)
+    → IsStatement (IfElse spot c (If inner d s) r) ts rest → ⊥
 
 -- The right operand of an operator is an operation of a tighter level, the left one of no looser one.
 abbrev pub AssociateToTheLeft : Type 0
-AssociateToTheLeft = (level : ℕ) (o : BinaryOperator) (left right : ExpressionTree) (ts rest : List Lexeme) → IsLevel level (Binary o left right) ts rest
+AssociateToTheLeft =
+    (level : ℕ) (o : BinaryOperator) (left right : ExpressionTree) (ts rest : List Lexeme)
+    → IsLevel level (Binary o left right) ts rest
     → (top_level left ≤ level_of o) × (top_level right < level_of o)
 
 -- Tokens spell at most one tree, however deep it nests: the grammar is not ambiguous.
@@ -55,4 +60,6 @@ SpellAtMostOne = (ts : List Lexeme) (a b : List ItemTree) → Spells ts a → Sp
 
 -- Tokens that are refused spell no tree, or one in which constructs nest more than 64 deep.
 abbrev pub RefusedAreTooDeep : Type 0
-RefusedAreTooDeep = (ts : List Lexeme) (fault : Code × ℕ) (all : List ItemTree) → tree_of ts ≡ Err fault → Spells ts all → 64 < file_depth all
+RefusedAreTooDeep =
+    (ts : List Lexeme) (fault : Code × ℕ) (all : List ItemTree) → tree_of ts ≡ Err fault → Spells ts all
+    → 64 < file_depth all

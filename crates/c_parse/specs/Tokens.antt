@@ -29,6 +29,8 @@ from_to first last = record { first = first.spot; last = last.spot.at }
 
 -- one or more string literals side by side, their bytes joined (6.4.5p5), and the last of them
 pub data AreLiterals : (bytes : List ℕ) → (last : Lexeme) → (tokens rest : List Lexeme) → Type 0 where
-  one : {t : Lexeme} {bytes : List ℕ} {rest : List Lexeme} → t.kind ≡ word.Literal bytes → AreLiterals bytes t (t ∷ rest) rest
-  more : {t last : Lexeme} {bytes part : List ℕ} {ts rest : List Lexeme} → AreLiterals bytes last ts (t ∷ rest) → t.kind ≡ word.Literal part
+  one : {t : Lexeme} {bytes : List ℕ} {rest : List Lexeme} → t.kind ≡ word.Literal bytes
+      → AreLiterals bytes t (t ∷ rest) rest
+  more : {t last : Lexeme} {bytes part : List ℕ} {ts rest : List Lexeme} → AreLiterals bytes last ts (t ∷ rest)
+      → t.kind ≡ word.Literal part
       → AreLiterals (bytes ++ part) t ts rest

@@ -7,7 +7,7 @@ use Rattle.c_tree.specs.Expressions.{ExpressionTree, SuffixTree, suffixed, Binar
 use Rattle.c_parse_tokens.specs.declared.fault.Stuck.{Stuck}
 use Rattle.c_parse_tokens.specs.declared.mark.Mark.TheVariants as mark
 use Rattle.c_parse_tokens.specs.Outcome.{Parser}
-use Rattle.c_parse_tokens.specs.Front.{behind}
+use Rattle.c_parse_tokens.specs.Front.{tokens_behind}
 use Rattle.c_parse_tokens.specs.Operators.{operator_at}
 use Rattle.c_parse_expressions.specs.declared.expression.SuffixStart.{SuffixStart}
 use Rattle.c_parse_expressions.specs.Expressions.{Nesting, assignment, more_commas, levels, operations, suffix_at, suffix, suffixes}
@@ -29,7 +29,7 @@ operations_go_on zero j k level operand left right o ts after rest total lt le a
 operations_go_on (suc n) j k level operand left right o ts after rest total lt le at read e = (n, omega arith, e ∙ rw (at, read) refl)
 
 pub commas_go_on : (n j k : ℕ) (nest : Nesting) (left right : ExpressionTree) (ts after rest : List Lexeme) (total : Result (ExpressionTree × List Lexeme) Stuck)
-    → k < j → j ≤ n → behind mark.Comma ts ≡ Some after → assignment nest after ≡ Ok (right, rest) → total ≡ more_commas n nest left ts
+    → k < j → j ≤ n → tokens_behind mark.Comma ts ≡ Some after → assignment nest after ≡ Ok (right, rest) → total ≡ more_commas n nest left ts
     → (m : ℕ) × (k ≤ m) × (total ≡ more_commas m nest (Comma left right) rest)
 commas_go_on zero j k nest left right ts after rest total lt le at read e = absurd (omega arith)
 commas_go_on (suc n) j k nest left right ts after rest total lt le at read e = (n, omega arith, e ∙ rw (at, read) refl)

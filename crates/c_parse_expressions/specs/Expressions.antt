@@ -25,7 +25,7 @@ use Rattle.c_parse_expressions.specs.declared.expression.SuffixStart.TheVariants
 use Rattle.c_parse_tokens.specs.declared.mark.Mark.TheVariants as mark
 use Rattle.c_parse_tokens.specs.declared.specifier.Place.TheVariants as place
 use Rattle.c_parse_tokens.specs.Outcome.{Parser, ◌>>=◌}
-use Rattle.c_parse_tokens.specs.Front.{stuck, refusal, inside, is_at, behind, want, spot_at, last_before, extent_before, separated}
+use Rattle.c_parse_tokens.specs.Front.{stuck, refusal, inside, is_at, tokens_behind, want, spot_at, last_before, extent_before, separated}
 use Rattle.c_parse_tokens.specs.Operators.{punctuator_of, operator_at, assignment_at, prefix_operator, begins_expression}
 use Rattle.c_parse_tokens.specs.Specifiers.{specifiers, integer_type, base_of, begins_type, type_behind, stars}
 
@@ -55,17 +55,20 @@ literal_of (word.Literal bytes) = Some bytes
 literal_of w = None
 
 -- the bytes of literals with those of the literals at the front, and the tokens behind
-abbrev pub literals : List ℕ → List Lexeme → List ℕ × List Lexeme
-literals bytes [] = (bytes, [])
-literals bytes (t ∷ ts) = option_map_or (λ part. literals (bytes ++ part) ts) (literal_of t.kind) (bytes, t ∷ ts)
+abbrev pub literals_at_front : List ℕ → List Lexeme → List ℕ × List Lexeme
+literals_at_front bytes [] = (bytes, [])
+literals_at_front bytes (t ∷ ts) =
+    option_map_or (λ part. literals_at_front (bytes ++ part) ts) (literal_of t.kind) (bytes, t ∷ ts)
 
 -- a name, a constant, literals, or an expression in parentheses
 abbrev pub primary_of : Nesting → Word → Lexeme → Parser ExpressionTree
 primary_of nest (word.Name name) t ts = Ok (tree.Name (record { name = name; spot = t.spot }), ts)
 primary_of nest (word.Constant c) t ts = Ok (tree.Constant t.spot c.value (constant_type c.is_long c.is_unsigned), ts)
-primary_of nest (word.Literal bytes) t ts = let all = literals bytes ts in Ok (tree.Literal (extent_before (t ∷ ts) all.1) all.0, all.1)
+primary_of nest (word.Literal bytes) t ts =
+    let all = literals_at_front bytes ts in Ok (tree.Literal (extent_before (t ∷ ts) all.1) all.0, all.1)
 primary_of nest (word.Punctuator punctuator.OpenParenthesis) t ts =
-    nested nest sort.Comma ts >>= λ e. want mark.CloseParenthesis e.1 >>= λ rest. Ok (tree.Parenthesized (extent_before (t ∷ ts) rest) e.0, rest)
+    nested nest sort.Comma ts >>= λ e. want mark.CloseParenthesis e.1
+    >>= λ rest. Ok (tree.Parenthesized (extent_before (t ∷ ts) rest) e.0, rest)
 primary_of nest w t ts = Err (stuck (t ∷ ts))
 
 -- a primary expression (C11 6.5.1)
@@ -90,14 +93,17 @@ suffix_start p = None
 -- how a suffix at the front begins, and the tokens behind its first
 unfoldable pub suffix_at : List Lexeme → Option (SuffixStart × List Lexeme)
 suffix_at [] = None
-suffix_at (t ∷ ts) = option_map_or (λ p. option_map_or (λ s. Some (s, ts)) (suffix_start p) None) (punctuator_of t.kind) None
+suffix_at (t ∷ ts) =
+    option_map_or (λ p. option_map_or (λ s. Some (s, ts)) (suffix_start p) None) (punctuator_of t.kind) None
 
 -- one suffix, behind its first token: an index, the arguments of a call, `++` or `--`
 unfoldable pub suffix : Nesting → SuffixStart → (whole : List Lexeme) → Parser SuffixTree
 suffix nest start.Index whole ts =
-    nested nest sort.Comma ts >>= λ e. want mark.CloseBracket e.1 >>= λ rest. Ok (Indexes e.0 (last_before whole rest), rest)
+    nested nest sort.Comma ts >>= λ e. want mark.CloseBracket e.1
+    >>= λ rest. Ok (Indexes e.0 (last_before whole rest), rest)
 suffix nest start.Call whole ts =
-    arguments nest ts >>= λ es. want mark.CloseParenthesis es.1 >>= λ rest. Ok (Calls es.0 (last_before whole rest), rest)
+    arguments nest ts >>= λ es. want mark.CloseParenthesis es.1
+    >>= λ rest. Ok (Calls es.0 (last_before whole rest), rest)
 suffix nest start.Increment whole ts = Ok (Increments (last_before whole ts), ts)
 suffix nest start.Decrement whole ts = Ok (Decrements (last_before whole ts), ts)
 
@@ -105,7 +111,8 @@ suffix nest start.Decrement whole ts = Ok (Decrements (last_before whole ts), ts
 abbrev pub suffixes : ℕ → Nesting → ExpressionTree → Parser ExpressionTree
 suffixes zero nest operand ts = Ok (operand, ts)
 suffixes (suc n) nest operand ts =
-    option_map_or (λ a. suffix nest a.0 ts a.1 >>= λ s. suffixes n nest (suffixed operand s.0) s.1) (suffix_at ts) (Ok (operand, ts))
+    option_map_or (λ a. suffix nest a.0 ts a.1 >>= λ s. suffixes n nest (suffixed operand s.0) s.1) (suffix_at ts)
+    (Ok (operand, ts))
 
 -- an operand with its suffixes
 unfoldable pub postfix : Nesting → Parser ExpressionTree
@@ -126,9 +133,11 @@ unfoldable pub sizeof_expression : Nesting → Spot → Parser ExpressionTree
 sizeof_expression nest spot ts = nested nest sort.Unary ts >>= λ e. Ok (tree.SizeofExpression spot e.0, e.1)
 
 -- a size in brackets, if brackets stand at the front
-unfoldable pub size : Nesting → Parser (Option ExpressionTree)
-size nest ts =
-    option_map_or (λ its. nested nest sort.Assignment its >>= λ e. want mark.CloseBracket e.1 >>= λ rest. Ok (Some e.0, rest)) (behind mark.OpenBracket ts) (Ok (None, ts))
+unfoldable pub array_size : Nesting → Parser (Option ExpressionTree)
+array_size nest ts =
+    option_map_or
+    (λ its. nested nest sort.Assignment its >>= λ e. want mark.CloseBracket e.1 >>= λ rest. Ok (Some e.0, rest))
+    (tokens_behind mark.OpenBracket ts) (Ok (None, ts))
 
 -- `sizeof` of a type, or of an array where a size stands
 abbrev pub sizeof_tree : Extent → IntegerType → (stars : ℕ) → Option ExpressionTree → ExpressionTree
@@ -139,13 +148,16 @@ sizeof_tree extent t count (Some e) = tree.SizeofArray extent t count e
 unfoldable pub sizeof_type : Nesting → (word parenthesis : List Lexeme) → Parser ExpressionTree
 sizeof_type nest whole parenthesis its =
     inside nest true parenthesis >>= λ around. inside around (begins_type its) its >>= λ within.
-    specifiers place.Object its >>= λ found. size within (stars found.1).1 >>= λ e. want mark.CloseParenthesis e.1 >>= λ rest.
+    specifiers place.Object its >>= λ found. array_size within (stars found.1).1 >>= λ e. want mark.CloseParenthesis e.1
+    >>= λ rest.
     Ok (sizeof_tree (extent_before whole rest) (integer_type found.0) (stars found.1).0 e.0, rest)
 
 -- an operator before its operand, `sizeof`, or an operand with its suffixes
 abbrev pub unary_of : Nesting → Word → Lexeme → Parser ExpressionTree
-unary_of nest (word.Keyword keyword.Sizeof) t ts = option_map_or (sizeof_type nest (t ∷ ts) ts) (type_behind ts) (sizeof_expression nest t.spot ts)
-unary_of nest (word.Punctuator p) t ts = option_map_or (λ o. prefix nest t.spot o ts) (prefix_operator p) (postfix nest (t ∷ ts))
+unary_of nest (word.Keyword keyword.Sizeof) t ts =
+    option_map_or (sizeof_type nest (t ∷ ts) ts) (type_behind ts) (sizeof_expression nest t.spot ts)
+unary_of nest (word.Punctuator p) t ts =
+    option_map_or (λ o. prefix nest t.spot o ts) (prefix_operator p) (postfix nest (t ∷ ts))
 unary_of nest w t ts = postfix nest (t ∷ ts)
 
 -- a unary expression (C11 6.5.3)
@@ -162,13 +174,20 @@ pointed (base.Integer t) ts = stars ts
 unfoldable pub type_name : Parser TypeName
 type_name ts =
     specifiers place.Cast ts >>= λ found.
-    Ok (record { base = base_of found.0; stars = (pointed (base_of found.0) found.1).0 }, (pointed (base_of found.0) found.1).1)
+    Ok (
+      record {
+        base = base_of found.0;
+        stars = (pointed (base_of found.0) found.1).0;
+      },
+      (pointed (base_of found.0) found.1).1,
+    )
 
 -- a cast, or a unary expression
 unfoldable pub cast : Nesting → Parser ExpressionTree
 cast nest ts =
     option_map_or
-    (λ its. inside nest true its >>= λ _. type_name its >>= λ n. want mark.CloseParenthesis n.1 >>= λ rest. nested nest sort.Cast rest >>= λ e.
+    (λ its. inside nest true its >>= λ _. type_name its >>= λ n. want mark.CloseParenthesis n.1
+    >>= λ rest. nested nest sort.Cast rest >>= λ e.
     Ok (tree.Cast (spot_at ts) n.0 e.0, e.1))
     (type_behind ts)
     (unary nest ts)
@@ -177,33 +196,38 @@ cast nest ts =
 abbrev pub operations : ℕ → (level : ℕ) → Parser ExpressionTree → ExpressionTree → Parser ExpressionTree
 operations zero level operand left ts = Ok (left, ts)
 operations (suc n) level operand left ts =
-    option_map_or (λ o. operand o.1 >>= λ right. operations n level operand (tree.Binary o.0 left right.0) right.1) (operator_at level ts) (Ok (left, ts))
+    option_map_or (λ o. operand o.1 >>= λ right. operations n level operand (tree.Binary o.0 left right.0) right.1)
+    (operator_at level ts) (Ok (left, ts))
 
 -- operators of the first levels between operands, the first of which binds tightest
 unfoldable pub levels : ℕ → Parser ExpressionTree → Parser ExpressionTree
 levels zero operand ts = operand ts
-levels (suc level) operand ts = levels level operand ts >>= λ left. operations (length left.1) (suc level) (levels level operand) left.0 left.1
+levels (suc level) operand ts =
+    levels level operand ts >>= λ left. operations (length left.1) (suc level) (levels level operand) left.0 left.1
 
 -- a conditional expression, or operators between operands
 unfoldable pub conditional : Nesting → Parser ExpressionTree
 conditional nest ts =
     levels 10 (cast nest) ts >>= λ c.
     option_map_or
-    (λ after. nested nest sort.Comma after >>= λ a. want mark.Colon a.1 >>= λ rest. nested nest sort.Conditional rest >>= λ b. Ok (tree.Conditional c.0 a.0 b.0, b.1))
-    (behind mark.Question c.1)
+    (λ after. nested nest sort.Comma after >>= λ a. want mark.Colon a.1 >>= λ rest. nested nest sort.Conditional rest
+    >>= λ b. Ok (tree.Conditional c.0 a.0 b.0, b.1))
+    (tokens_behind mark.Question c.1)
     (Ok c)
 
 -- an assignment, or a conditional expression
 unfoldable pub assignment : Nesting → Parser ExpressionTree
 assignment nest ts =
     conditional nest ts >>= λ target.
-    option_map_or (λ o. nested nest sort.Assignment o.1 >>= λ value. Ok (tree.Assignment o.0 target.0 value.0, value.1)) (assignment_at target.1) (Ok target)
+    option_map_or (λ o. nested nest sort.Assignment o.1 >>= λ value. Ok (tree.Assignment o.0 target.0 value.0, value.1))
+    (assignment_at target.1) (Ok target)
 
 -- more expressions, each behind a comma; as many as there are tokens are enough
 abbrev pub more_commas : ℕ → Nesting → ExpressionTree → Parser ExpressionTree
 more_commas zero nest left ts = Ok (left, ts)
 more_commas (suc n) nest left ts =
-    option_map_or (λ after. assignment nest after >>= λ right. more_commas n nest (tree.Comma left right.0) right.1) (behind mark.Comma ts) (Ok (left, ts))
+    option_map_or (λ after. assignment nest after >>= λ right. more_commas n nest (tree.Comma left right.0) right.1)
+    (tokens_behind mark.Comma ts) (Ok (left, ts))
 
 -- expressions with commas between them
 unfoldable pub comma : Nesting → Parser ExpressionTree

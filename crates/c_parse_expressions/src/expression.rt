@@ -7,7 +7,7 @@ ghost use Rattle.c_tree.specs.Expressions.{expression_view, operation, suffix_vi
 ghost use Rattle.c_parse_tokens.specs.declared.fault.ParseErr.TheVariants.{NoMemory};
 ghost use Rattle.c_parse_tokens.specs.Outcome.{Gives};
 ghost use Rattle.c_parse_tokens.specs.Front.{inside};
-ghost use Rattle.c_parse_expressions.specs.Expressions.{nested, comma, assignment, conditional, levels, type_name, cast, operand_of, unary, prefix, sizeof_expression, sizeof_type, size, suffix_start, suffix_at, postfix, suffix, arguments, constant_type, literals, primary, nesting};
+ghost use Rattle.c_parse_expressions.specs.Expressions.{nested, comma, assignment, conditional, levels, type_name, cast, operand_of, unary, prefix, sizeof_expression, sizeof_type, array_size, suffix_start, suffix_at, postfix, suffix, arguments, constant_type, literals_at_front, primary, nesting};
 
 use crate::nodes::{node, push, push_operation};
 use c_parse_tokens::{
@@ -355,14 +355,14 @@ fn sizeof_type<'t>(
 
 /// A size in brackets, if brackets stand at the front.
 #[cycle(expression)]
-#[tactic(auto, unfolding(crate::specs::Expressions::size))]
+#[tactic(auto, unfolding(crate::specs::Expressions::array_size))]
 fn size(
     alloc: Global,
     depth: u32,
     tokens: &[Token],
 ) -> Result<(Option<Box<Expression>>, &[Token]), ParseErr>
     ensures reads { Gives (λ x.
-        (option_map (λ e. expression_view e.value) x.0, lexemes x.1.now)) result (size (nesting depth)
+        (option_map (λ e. expression_view e.value) x.0, lexemes x.1.now)) result (array_size (nesting depth)
         (lexemes tokens.now)) }
     ensures not_longer { IfOk result (λ x. length x.1.now ≤ length tokens.now) }
 {
@@ -533,7 +533,7 @@ fn literals<'t>(
     tokens: &'t [Token],
 ) -> Result<(Vec<u8>, &'t [Token]), ParseErr>
     ensures reads { Gives (λ x. (x.0.items, lexemes x.1.now)) result
-        (Ok (literals first.now (lexemes tokens.now))) }
+        (Ok (literals_at_front first.now (lexemes tokens.now))) }
     ensures not_longer { IfOk result (λ x. length x.1.now ≤ length tokens.now) }
 {
     let mut bytes = Vec::new(alloc);

@@ -11,7 +11,7 @@ use Rattle.c_tree.specs.declared.statement.Statement.TheVariants as statement
 use Rattle.c_tree.specs.Statements.{StatementTree, BlockTree, BranchTree, if_tree, else_tree, statement_step, block_step, branch_step, statement_view, branch_view}
 use Rattle.c_parse_tokens.specs.declared.fault.Stuck.{Stuck}
 use Rattle.c_parse_tokens.specs.declared.mark.Mark.TheVariants as mark
-use Rattle.c_parse_tokens.specs.Front.{behind, is_at}
+use Rattle.c_parse_tokens.specs.Front.{tokens_behind, is_at}
 use Rattle.c_parse_expressions.specs.Expressions.{Nesting}
 use Rattle.c_parse_statements.specs.Statements.{StatementLevel, nested_statement, branch, else_from, if_statement}
 
@@ -23,14 +23,14 @@ if_begins nest within ts b rest e = rw e refl
 
 -- it ends with an `else` that is no `else if`
 pub else_ends : (n : ℕ) (nest : Nesting) (within : List StatementLevel) (b : BranchTree) (done : List BranchTree) (s : StatementTree) (ts after rest : List Lexeme) (total : Result (StatementTree × List Lexeme) Stuck)
-    → 0 < n → behind mark.Else ts ≡ Some after → is_at mark.If after ≡ false → nested_statement within false after ≡ Ok (s, rest) → total ≡ else_from n nest within b done ts
+    → 0 < n → tokens_behind mark.Else ts ≡ Some after → is_at mark.If after ≡ false → nested_statement within false after ≡ Ok (s, rest) → total ≡ else_from n nest within b done ts
     → total ≡ Ok (if_tree b (else_tree done (Some s)), rest)
 else_ends zero nest within b done s ts after rest total some at last read e = absurd (omega arith)
 else_ends (suc n) nest within b done s ts after rest total some at last read e = e ∙ rw (at, last, read) refl
 
 -- or without one
 pub else_lacks : (n : ℕ) (nest : Nesting) (within : List StatementLevel) (b : BranchTree) (done : List BranchTree) (ts : List Lexeme) (total : Result (StatementTree × List Lexeme) Stuck)
-    → behind mark.Else ts ≡ None → total ≡ else_from n nest within b done ts → total ≡ Ok (if_tree b (else_tree done None), ts)
+    → tokens_behind mark.Else ts ≡ None → total ≡ else_from n nest within b done ts → total ≡ Ok (if_tree b (else_tree done None), ts)
 else_lacks zero nest within b done ts total at e = e
 else_lacks (suc n) nest within b done ts total at e = e ∙ rw at refl
 

@@ -43,7 +43,8 @@ begins_statement (t ∷ ts) = is_statement_word t.kind || begins_expression (t �
 -- an expression in parentheses
 unfoldable pub condition : Nesting → Parser ExpressionTree
 condition nest ts =
-    want mark.OpenParenthesis ts >>= λ its. nested nest sort.Comma its >>= λ e. want mark.CloseParenthesis e.1 >>= λ rest. Ok (e.0, rest)
+    want mark.OpenParenthesis ts >>= λ its. nested nest sort.Comma its >>= λ e. want mark.CloseParenthesis e.1
+    >>= λ rest. Ok (e.0, rest)
 
 -- an expression, if the mark that ends it does not stand at the front
 unfoldable pub optional : Nesting → (end : Mark) → Parser (Option ExpressionTree)
@@ -58,7 +59,9 @@ start_of (Some e) = tree.Value e
 unfoldable pub for_start : ℕ → Parser StartTree
 for_start depth ts =
     if begins_type ts then (declaration depth ts >>= λ d. Ok (tree.Declares d.0, d.1))
-    else (optional (nesting depth) mark.Semicolon ts >>= λ e. want mark.Semicolon e.1 >>= λ rest. Ok (start_of e.0, rest))
+    else
+    (optional (nesting depth) mark.Semicolon ts >>= λ e. want mark.Semicolon e.1
+    >>= λ rest. Ok (start_of e.0, rest))
 
 -- the three parts of a `for`
 pub record HeaderTree : Type 0 where
@@ -69,8 +72,16 @@ pub record HeaderTree : Type 0 where
 -- the three parts of a `for`, up to its closing parenthesis
 unfoldable pub for_header : ℕ → Parser HeaderTree
 for_header depth ts =
-    for_start depth ts >>= λ start. optional (nesting depth) mark.Semicolon start.1 >>= λ c. want mark.Semicolon c.1 >>= λ rest.
-    optional (nesting depth) mark.CloseParenthesis rest >>= λ step. Ok (record { start = start.0; condition = c.0; step = step.0 }, step.1)
+    for_start depth ts >>= λ start. optional (nesting depth) mark.Semicolon start.1 >>= λ c. want mark.Semicolon c.1
+    >>= λ rest.
+    optional (nesting depth) mark.CloseParenthesis rest >>= λ step. Ok (
+      record {
+        start = start.0;
+        condition = c.0;
+        step = step.0;
+      },
+      step.1,
+    )
 
 -- the first token begins the first part of a `for`
 unfoldable pub begins_header : List Lexeme → Bool
@@ -78,12 +89,14 @@ begins_header ts = is_at mark.Semicolon ts || (begins_type ts || begins_expressi
 
 -- an expression and its semicolon
 unfoldable pub expression_statement : Nesting → Parser StatementTree
-expression_statement nest ts = comma nest ts >>= λ e. want mark.Semicolon e.1 >>= λ rest. Ok (tree.Run e.0 (last_before ts rest), rest)
+expression_statement nest ts =
+    comma nest ts >>= λ e. want mark.Semicolon e.1 >>= λ rest. Ok (tree.Run e.0 (last_before ts rest), rest)
 
 -- a `return` that begins at the start, behind its word
 unfoldable pub return_statement : Nesting → (start : List Lexeme) → Parser StatementTree
 return_statement nest start ts =
-    optional nest mark.Semicolon ts >>= λ e. want mark.Semicolon e.1 >>= λ rest. Ok (tree.Return (extent_before start rest) e.0, rest)
+    optional nest mark.Semicolon ts >>= λ e. want mark.Semicolon e.1
+    >>= λ rest. Ok (tree.Return (extent_before start rest) e.0, rest)
 
 -- a `break` that begins at the start, behind its word
 abbrev pub break_statement : (start : List Lexeme) → Parser StatementTree
@@ -96,8 +109,10 @@ continue_statement start ts = want mark.Semicolon ts >>= λ rest. Ok (tree.Conti
 -- a label, if one stands at the front
 abbrev pub label_of : Nesting → Word → Lexeme → List Lexeme → Result (Option (LabelTree × List Lexeme)) Stuck
 label_of nest (word.Keyword keyword.Case) t ts =
-    conditional nest ts >>= λ e. want mark.Colon e.1 >>= λ rest. Ok (Some (CaseLabel (extent_before (t ∷ ts) rest) e.0, rest))
-label_of nest (word.Keyword keyword.Default) t ts = want mark.Colon ts >>= λ rest. Ok (Some (DefaultLabel (extent_before (t ∷ ts) rest), rest))
+    conditional nest ts >>= λ e. want mark.Colon e.1
+    >>= λ rest. Ok (Some (CaseLabel (extent_before (t ∷ ts) rest) e.0, rest))
+label_of nest (word.Keyword keyword.Default) t ts =
+    want mark.Colon ts >>= λ rest. Ok (Some (DefaultLabel (extent_before (t ∷ ts) rest), rest))
 label_of nest w t ts = Ok None
 
 -- a case or default label, if one stands in front (C11 6.8.1)
@@ -108,4 +123,5 @@ label nest (t ∷ ts) = label_of nest t.kind t ts
 -- more labels, behind those that were read; more than there are tokens are enough
 abbrev pub labels : ℕ → Nesting → List LabelTree → Parser (List LabelTree)
 labels zero nest done ts = Ok (done, ts)
-labels (suc n) nest done ts = label nest ts >>= λ l. option_map_or (λ x. labels n nest (done ++ x.0 ∷ []) x.1) l (Ok (done, ts))
+labels (suc n) nest done ts =
+    label nest ts >>= λ l. option_map_or (λ x. labels n nest (done ++ x.0 ∷ []) x.1) l (Ok (done, ts))

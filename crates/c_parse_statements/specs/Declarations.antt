@@ -5,12 +5,12 @@ use Rattle.c_token.specs.Lexemes.{Lexeme, Word}
 use Rattle.c_token.specs.Lexemes as word
 use Rattle.c_tree.specs.declared.types.IntegerType.{IntegerType}
 use Rattle.c_tree.specs.Expressions.{NameTree}
-use Rattle.c_tree.specs.Declarations.{BracketsTree, Absent, Empty, Sized, InitializerTree, Value, Braces, chain, DeclaratorTree, DeclarationTree}
+use Rattle.c_tree.specs.Declarations.{BracketsTree, Absent, Empty, Sized, InitializerTree, Value, Braces, chain_of_initializers, DeclaratorTree, DeclarationTree}
 use Rattle.c_parse_expressions.specs.declared.expression.Sort.TheVariants as sort
 use Rattle.c_parse_tokens.specs.declared.mark.Mark.TheVariants as mark
 use Rattle.c_parse_tokens.specs.declared.specifier.Place.TheVariants as place
 use Rattle.c_parse_tokens.specs.Outcome.{Parser, ◌>>=◌}
-use Rattle.c_parse_tokens.specs.Front.{stuck, refusal, is_at, behind, want, extent_before, separated}
+use Rattle.c_parse_tokens.specs.Front.{stuck, refusal, is_at, tokens_behind, want, extent_before, separated}
 use Rattle.c_parse_tokens.specs.Operators.{begins_expression}
 use Rattle.c_parse_tokens.specs.Specifiers.{specifiers, integer_type, stars}
 use Rattle.c_parse_expressions.specs.Expressions.{Nesting, nested, assignment, nesting}
@@ -29,9 +29,9 @@ identifier (t ∷ ts) = identifier_of t.kind t ts
 unfoldable pub brackets : Nesting → Parser BracketsTree
 brackets nest ts =
     option_map_or
-    (λ its. option_map_or (λ rest. Ok (Empty, rest)) (behind mark.CloseBracket its)
+    (λ its. option_map_or (λ rest. Ok (Empty, rest)) (tokens_behind mark.CloseBracket its)
     (nested nest sort.Assignment its >>= λ e. want mark.CloseBracket e.1 >>= λ rest. Ok (Sized e.0, rest)))
-    (behind mark.OpenBracket ts)
+    (tokens_behind mark.OpenBracket ts)
     (Ok (Absent, ts))
 
 -- an initializer within braces, where the nesting allows one more
@@ -39,13 +39,15 @@ unfoldable pub nested_initializer : Option (Parser InitializerTree) → Parser I
 nested_initializer None ts = Err (refusal (is_at mark.OpenBrace ts || begins_expression ts) ts)
 nested_initializer (Some read) ts = read ts
 
--- more initializers, each behind a comma, and a comma that may stand before the brace; as many as there are tokens are enough
+-- more initializers, each behind a comma, and a comma that may stand before the brace; as many as there are tokens are
+-- enough
 abbrev pub more_in_braces : ℕ → Option (Parser InitializerTree) → List InitializerTree → Parser (List InitializerTree)
 more_in_braces zero within done ts = Ok (done, ts)
 more_in_braces (suc n) within done ts =
     option_map_or
-    (λ after. if is_at mark.CloseBrace after then Ok (done, after) else (nested_initializer within after >>= λ i. more_in_braces n within (done ++ i.0 ∷ []) i.1))
-    (behind mark.Comma ts)
+    (λ after. if is_at mark.CloseBrace after then Ok (done, after)
+    else (nested_initializer within after >>= λ i. more_in_braces n within (done ++ i.0 ∷ []) i.1))
+    (tokens_behind mark.Comma ts)
     (Ok (done, ts))
 
 -- the initializers in braces, up to the closing brace
@@ -55,7 +57,10 @@ in_braces within ts = nested_initializer within ts >>= λ i. more_in_braces (len
 -- an expression, or initializers in braces
 unfoldable pub initializer_in : Nesting → Option (Parser InitializerTree) → Parser InitializerTree
 initializer_in nest within ts =
-    option_map_or (λ its. in_braces within its >>= λ all. want mark.CloseBrace all.1 >>= λ rest. Ok (Braces (chain all.0), rest)) (behind mark.OpenBrace ts)
+    option_map_or
+    (λ its. in_braces within its >>= λ all. want mark.CloseBrace all.1
+    >>= λ rest. Ok (Braces (chain_of_initializers all.0), rest))
+    (tokens_behind mark.OpenBrace ts)
     (assignment nest ts >>= λ e. Ok (Value e.0, e.1))
 
 -- what may stand in braces where so many levels are left
@@ -75,7 +80,8 @@ are_empty b = false
 -- the initializer behind `=`, if one stands at the front; behind empty brackets one has to stand
 unfoldable pub initialized : ℕ → BracketsTree → Parser (Option InitializerTree)
 initialized depth b ts =
-    option_map_or (λ rest. initializer depth rest >>= λ i. Ok (Some i.0, i.1)) (behind mark.Equal ts) (if are_empty b then Err (stuck ts) else Ok (None, ts))
+    option_map_or (λ rest. initializer depth rest >>= λ i. Ok (Some i.0, i.1)) (tokens_behind mark.Equal ts)
+    (if are_empty b then Err (stuck ts) else Ok (None, ts))
 
 -- the declarator of an object that begins at the start, behind its name
 unfoldable pub named_declarator : ℕ → (start : List Lexeme) → (stars : ℕ) → NameTree → Parser DeclaratorTree
@@ -96,4 +102,5 @@ begun_declaration depth start type d ts =
 -- a declaration of objects in a block
 unfoldable pub declaration : ℕ → Parser DeclarationTree
 declaration depth ts =
-    specifiers place.Object ts >>= λ found. declarator depth found.1 >>= λ d. begun_declaration depth ts (integer_type found.0) d.0 d.1
+    specifiers place.Object ts >>= λ found. declarator depth found.1
+    >>= λ d. begun_declaration depth ts (integer_type found.0) d.0 d.1

@@ -77,13 +77,13 @@ is_at m [] = false
 is_at m (t ∷ ts) = is m t.kind
 
 -- the tokens behind a mark, if it stands at the front
-unfoldable pub behind : Mark → List Lexeme → Option (List Lexeme)
-behind m [] = None
-behind m (t ∷ ts) = if is m t.kind then Some ts else None
+unfoldable pub tokens_behind : Mark → List Lexeme → Option (List Lexeme)
+tokens_behind m [] = None
+tokens_behind m (t ∷ ts) = if is m t.kind then Some ts else None
 
 -- the tokens behind a mark, which has to stand at the front
 unfoldable pub want : Mark → List Lexeme → Result (List Lexeme) Stuck
-want m ts = option_map_or (λ rest. Ok rest) (behind m ts) (Err (stuck ts))
+want m ts = option_map_or (λ rest. Ok rest) (tokens_behind m ts) (Err (stuck ts))
 
 -- where the first token stands; at the end of the tokens the beginning of the text
 abbrev pub spot_at : List Lexeme → Spot
@@ -102,4 +102,5 @@ extent_before ts rest = record { first = spot_at ts; last = last_before ts rest 
 abbrev pub separated : {A : Type 0} → ℕ → Parser A → List A → Parser (List A)
 separated zero item done ts = Ok (done, ts)
 separated (suc n) item done ts =
-    option_map_or (λ after. item after >>= λ x. separated n item (done ++ x.0 ∷ []) x.1) (behind mark.Comma ts) (Ok (done, ts))
+    option_map_or (λ after. item after >>= λ x. separated n item (done ++ x.0 ∷ []) x.1) (tokens_behind mark.Comma ts)
+    (Ok (done, ts))

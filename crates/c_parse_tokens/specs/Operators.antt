@@ -45,7 +45,8 @@ punctuator_of w = None
 unfoldable pub operator_at : ℕ → List Lexeme → Option (BinaryOperator × List Lexeme)
 operator_at level [] = None
 operator_at level (t ∷ ts) =
-    option_map_or (λ p. option_map_or (λ o. if nat_eq o.0 level then Some (o.1, ts) else None) (binary_operator p) None) (punctuator_of t.kind) None
+    option_map_or (λ p. option_map_or (λ o. if nat_eq o.0 level then Some (o.1, ts) else None) (binary_operator p) None)
+    (punctuator_of t.kind) None
 
 -- an operator that assigns
 unfoldable pub assignment_operator : Punctuator → Option AssignmentOperator
@@ -80,7 +81,8 @@ prefix_operator punctuator.Increment = Some prefix.Increment
 prefix_operator punctuator.Decrement = Some prefix.Decrement
 prefix_operator p = None
 
--- a token that begins an expression: a name, a constant, a literal, `sizeof`, a parenthesis, or an operator before its operand
+-- a token that begins an expression: a name, a constant, a literal, `sizeof`, a parenthesis, or an operator before its
+-- operand
 abbrev pub is_beginning : Word → Bool
 is_beginning (word.Name n) = true
 is_beginning (word.Constant c) = true

@@ -22,7 +22,8 @@ use Rattle.c_parse_tokens.specs.Front.{stuck}
 
 -- no specifier
 abbrev pub no_specifiers : SpecifierList
-no_specifiers = record { is_static = false; is_void = false; is_int = false; sign = sign.Unstated; width = width.Unstated }
+no_specifiers =
+    record { is_static = false; is_void = false; is_int = false; sign = sign.Unstated; width = width.Unstated }
 
 -- neither signed nor unsigned was said
 abbrev pub is_signless : Sign → Bool
@@ -35,9 +36,9 @@ is_widthless width.Unstated = true
 is_widthless w = false
 
 -- the word char was said
-abbrev pub is_char : Width → Bool
-is_char width.Char = true
-is_char w = false
+abbrev pub is_char_word : Width → Bool
+is_char_word width.Char = true
+is_char_word w = false
 
 -- a word of a type stood
 unfoldable pub is_type : SpecifierList → Bool
@@ -68,7 +69,7 @@ with_void p s = unless (is_type s || bars_void p) (record s { is_void = true })
 
 -- `int` stands once, and not beside `char`
 unfoldable pub with_int : SpecifierList → Option SpecifierList
-with_int s = unless (s.is_void || (s.is_int || is_char s.width)) (record s { is_int = true })
+with_int s = unless (s.is_void || (s.is_int || is_char_word s.width)) (record s { is_int = true })
 
 -- one of `signed` and `unsigned` stands once
 unfoldable pub with_sign : Sign → SpecifierList → Option SpecifierList
@@ -83,16 +84,16 @@ unfoldable pub with_char : SpecifierList → Option SpecifierList
 with_char s = if s.is_int then None else with_width width.Char s
 
 -- the specifiers with one word more, if it may stand behind them
-unfoldable pub with_word : Place → Keyword → SpecifierList → Option SpecifierList
-with_word p keyword.Static s = with_static p s
-with_word p keyword.Void s = with_void p s
-with_word p keyword.Int s = with_int s
-with_word p keyword.Signed s = with_sign sign.Signed s
-with_word p keyword.Unsigned s = with_sign sign.Unsigned s
-with_word p keyword.Char s = with_char s
-with_word p keyword.Short s = with_width width.Short s
-with_word p keyword.Long s = with_width width.Long s
-with_word p k s = None
+unfoldable pub with_specifier : Place → Keyword → SpecifierList → Option SpecifierList
+with_specifier p keyword.Static s = with_static p s
+with_specifier p keyword.Void s = with_void p s
+with_specifier p keyword.Int s = with_int s
+with_specifier p keyword.Signed s = with_sign sign.Signed s
+with_specifier p keyword.Unsigned s = with_sign sign.Unsigned s
+with_specifier p keyword.Char s = with_char s
+with_specifier p keyword.Short s = with_width width.Short s
+with_specifier p keyword.Long s = with_width width.Long s
+with_specifier p k s = None
 
 -- the integer type that a width and a sign name
 abbrev pub type_of : Width → Sign → IntegerType
@@ -115,9 +116,9 @@ unfoldable pub base_of : SpecifierList → Base
 base_of s = if s.is_void then base.Void else base.Integer (integer_type s)
 
 -- the keyword that a token is
-abbrev pub keyword_of : Word → Option Keyword
-keyword_of (word.Keyword k) = Some k
-keyword_of w = None
+abbrev pub keyword_of_word : Word → Option Keyword
+keyword_of_word (word.Keyword k) = Some k
+keyword_of_word w = None
 
 -- specifiers end before a token that is no keyword; a word of a type must be among them
 abbrev pub ended : SpecifierList → Parser SpecifierList
@@ -127,7 +128,9 @@ ended found ts = if is_type found then Ok (found, ts) else Err (stuck ts)
 abbrev pub specifiers_from : Place → SpecifierList → Parser SpecifierList
 specifiers_from p found [] = ended found []
 specifiers_from p found (t ∷ ts) =
-    option_map_or (λ k. option_map_or (λ more. specifiers_from p more ts) (with_word p k found) (Err (stuck (t ∷ ts)))) (keyword_of t.kind) (ended found (t ∷ ts))
+    option_map_or
+    (λ k. option_map_or (λ more. specifiers_from p more ts) (with_specifier p k found) (Err (stuck (t ∷ ts))))
+    (keyword_of_word t.kind) (ended found (t ∷ ts))
 
 -- the specifiers at the front
 unfoldable pub specifiers : Place → Parser SpecifierList

@@ -4,7 +4,7 @@ ghost use Rattle.std.specs.Prelude.{◌≡◌, ◌<◌, length, IfOk, IfSome};
 ghost use Rattle.std.specs.Option.{option_map};
 ghost use Rattle.c_token.specs.Lexemes.{word_view, lexemes};
 ghost use Rattle.c_parse_tokens.specs.Outcome.{Gives};
-ghost use Rattle.c_parse_tokens.specs.Front.{unexpected, stuck, refusal, one_less, is_at, behind, want, spot_at, last_before, extent_before};
+ghost use Rattle.c_parse_tokens.specs.Front.{unexpected, stuck, refusal, one_less, is_at, tokens_behind, want, spot_at, last_before, extent_before};
 
 use crate::fault::{ParseErr, Stuck};
 use crate::mark::Mark;
@@ -61,9 +61,9 @@ pub fn one_less(depth: u32, is_taken: bool, tokens: &[Token]) -> Result<u32, Par
 }
 
 /// The tokens behind a mark, if it stands at the front.
-#[tactic(auto, unfolding(crate::specs::Front::behind))]
+#[tactic(auto, unfolding(crate::specs::Front::tokens_behind))]
 pub fn behind(mark: Mark, tokens: &[Token]) -> Option<&[Token]>
-    ensures reads { option_map (λ x. lexemes x.now) result ≡ behind mark (lexemes tokens.now) }
+    ensures reads { option_map (λ x. lexemes x.now) result ≡ tokens_behind mark (lexemes tokens.now) }
     ensures shorter { IfSome result (λ x. length x.now < length tokens.now) }
 {
     let [first, rest @ ..] = tokens else {

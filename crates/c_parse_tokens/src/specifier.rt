@@ -4,7 +4,7 @@ ghost use Rattle.std.specs.Prelude.{◌≡◌, ◌<◌, ◌≤◌, length, IfOk,
 ghost use Rattle.std.specs.Option.{option_map};
 ghost use Rattle.c_token.specs.Lexemes.{word_view, lexemes};
 ghost use Rattle.c_parse_tokens.specs.Outcome.{Gives};
-ghost use Rattle.c_parse_tokens.specs.Specifiers.{no_specifiers, is_type, with_word, with_static, with_void, with_int, with_sign, with_char, with_width, integer_type, base_of, specifiers, is_type_word, begins_type, is_void_word, names_type, is_parenthesis, type_behind, stars};
+ghost use Rattle.c_parse_tokens.specs.Specifiers.{no_specifiers, is_type, with_specifier, with_static, with_void, with_int, with_sign, with_char, with_width, integer_type, base_of, specifiers, is_type_word, begins_type, is_void_word, names_type, is_parenthesis, type_behind, stars};
 
 use crate::fault::ParseErr;
 use crate::front::stuck;
@@ -76,9 +76,9 @@ impl SpecifierList {
     }
 
     /// With one word more, if it may stand behind these.
-    #[tactic(auto, unfolding(crate::specs::Specifiers::with_word))]
+    #[tactic(auto, unfolding(crate::specs::Specifiers::with_specifier))]
     fn with(&self, place: Place, word: Keyword) -> Option<SpecifierList>
-        ensures { result ≡ with_word place word self.now }
+        ensures { result ≡ with_specifier place word self.now }
     {
         match word {
             Keyword::Static => self.with_static(place),

@@ -1,5 +1,6 @@
--- Which automatic variables are kept in memory: those whose address is taken, and those that are assigned, incremented or decremented where that may be skipped,
--- within the right operand of `&&` or `||` or an arm of `?:`. Each definition puts the variables that a construct keeps behind others.
+-- Which automatic variables are kept in memory: those whose address is taken, and those that are assigned, incremented
+-- or decremented where that may be skipped, within the right operand of `&&` or `||` or an arm of `?:`. Each definition
+-- puts the variables that a construct keeps behind others.
 use Rattle.std.specs.Prelude.{ℕ, List, [], ◌∷◌, ◌++◌, Bool, true, false, Option, Some, None, if◌then◌else◌}
 use Rattle.c_tree.specs.declared.object_type.Object.TheVariants.{Automatic}
 use Rattle.c_tree.specs.TypedExpressions.{RvalueTree, LvalueTree, ArgumentTrees, Constant, Null, Load, Decay, AddressOf, Convert, Discard, Signed, Not, Arithmetic, Compare, ComparePointers, Move, MoveFrom, Difference, And, Or, Conditional, Comma, Assign, Update, UpdatePointer, Step, StepPointer, Call, Named, Target, Element, ElementFrom}
@@ -8,13 +9,13 @@ use Rattle.c_tree.specs.TypedStatements.{InitialTree, Zero, Scalar, Elements, Li
 use Rattle.c_tree.specs.TypedStatements as statement
 
 -- an automatic variable that an lvalue names
-abbrev pub named : LvalueTree → List ℕ → List ℕ
-named (Named (Automatic i) of) ks = ks ++ i ∷ []
-named _ ks = ks
+abbrev pub with_named_variable : LvalueTree → List ℕ → List ℕ
+with_named_variable (Named (Automatic i) of) ks = ks ++ i ∷ []
+with_named_variable _ ks = ks
 
 -- one that is written, where that may be skipped
 abbrev pub named_if : Bool → LvalueTree → List ℕ → List ℕ
-named_if skipped l ks = if skipped then named l ks else ks
+named_if skipped l ks = if skipped then with_named_variable l ks else ks
 
 abbrev mutual
   -- of an expression; the flag says that it may be skipped
@@ -23,7 +24,7 @@ abbrev mutual
   keeps q Null ks = ks
   keeps q (Load scalar l) ks = kept_in q l ks
   keeps q (Decay l) ks = kept_in q l ks
-  keeps q (AddressOf l) ks = kept_in q l (named l ks)
+  keeps q (AddressOf l) ks = kept_in q l (with_named_variable l ks)
   keeps q (Convert to a) ks = keeps q a ks
   keeps q (Discard a) ks = keeps q a ks
   keeps q (Signed sign type a) ks = keeps q a ks
@@ -43,7 +44,7 @@ abbrev mutual
   keeps q (UpdatePointer direction element l n) ks = keeps q n (kept_in q l (named_if q l ks))
   keeps q (Step direction given target type l) ks = kept_in q l (named_if q l ks)
   keeps q (StepPointer direction given element l) ks = kept_in q l (named_if q l ks)
-  keeps q (Call callee all) ks = kept_all q all ks
+  keeps q (Call callee all) ks = kept_in_arguments q all ks
 
   -- of an lvalue
   pub kept_in : Bool → LvalueTree → List ℕ → List ℕ
@@ -53,9 +54,9 @@ abbrev mutual
   kept_in q (ElementFrom of i p) ks = keeps q p (keeps q i ks)
 
   -- of arguments
-  pub kept_all : Bool → ArgumentTrees → List ℕ → List ℕ
-  kept_all q expression.none ks = ks
-  kept_all q (expression.first a rest) ks = kept_all q rest (keeps q a ks)
+  pub kept_in_arguments : Bool → ArgumentTrees → List ℕ → List ℕ
+  kept_in_arguments q expression.none ks = ks
+  kept_in_arguments q (expression.first a rest) ks = kept_in_arguments q rest (keeps q a ks)
 
 -- of a left side that is written
 abbrev pub written : Bool → LvalueTree → List ℕ → List ℕ

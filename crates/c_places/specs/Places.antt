@@ -1,4 +1,5 @@
--- The places of a program: the points at which its execution may be stopped, and the entries of its functions (ISO/IEC 9899:2011, 5.1.2.3, 6.2.1, 6.8).
+-- The places of a program: the points at which its execution may be stopped, and the entries of its functions (ISO/IEC
+-- 9899:2011, 5.1.2.3, 6.2.1, 6.8).
 use Rattle.std.specs.Prelude.{ℕ, zero, suc, ◌+◌, nat_lt, ◌==◌, Bool, true, false, ◌&&◌, ◌||◌, slice_get, if◌then◌else◌, Option, Some, None, List, [], ◌∷◌, ◌++◌, map}
 use Rattle.std.specs.Option.{option_map_or}
 use Rattle.debug_records.specs.declared.source.Spot.{Spot}
@@ -8,7 +9,8 @@ use Rattle.c_tree.specs.Programs.{AutomaticTree, TypedFunctionTree, ProgramTree}
 use Rattle.c_places.specs.Flow.{reaches_end}
 use Rattle.c_places.specs.declared.place.Place as declared-place
 
--- A place: where it stands, in which function, whether it is the function's entry, which is no stop, and the automatic variables in scope there, by position.
+-- A place: where it stands, in which function, whether it is the function's entry, which is no stop, and the automatic
+-- variables in scope there, by position.
 pub record Place : Type 0 where
   pub spot : Spot
   pub function : ℕ
@@ -39,7 +41,8 @@ module _ (function : ℕ) where
   abbrev pub stop : List ℕ → Spot → Place
   stop scope spot = record { spot = spot; function = function; is_entry = false; scope = scope }
 
-  -- Each declarator of automatic objects is a place at its name. It does not see its own variable, but those of the declarators before it.
+  -- Each declarator of automatic objects is a place at its name. It does not see its own variable, but those of the
+  -- declarators before it.
   abbrev pub places_of_declarators : List ℕ → List DeclaredTree → List Place
   places_of_declarators scope [] = []
   places_of_declarators scope (d ∷ all) = stop scope d.spot ∷ places_of_declarators (scope ++ d.variable ∷ []) all
@@ -50,11 +53,12 @@ module _ (function : ℕ) where
   places_of_start scope (Value spot e) = stop scope spot ∷ []
   places_of_start scope (Declares all) = places_of_declarators scope all
 
-  -- Of a `for` the places before its step, in text order: its first part and its condition, which sees what the first part declares, or without a condition
-  -- the `for` itself, which stands before its first part.
+  -- Of a `for` the places before its step, in text order: its first part and its condition, which sees what the first
+  -- part declares, or without a condition the `for` itself, which stands before its first part.
   abbrev pub places_of_head : List ℕ → TypedStartTree → Spot → Option RvalueTree → List Place
   places_of_head scope start spot None = stop scope spot ∷ places_of_start scope start
-  places_of_head scope start spot (Some c) = places_of_start scope start ++ stop (scope ++ brought_by_start start) spot ∷ []
+  places_of_head scope start spot (Some c) =
+      places_of_start scope start ++ stop (scope ++ brought_by_start start) spot ∷ []
 
   -- the step of a `for`
   abbrev pub places_of_step : List ℕ → Option StepTree → List Place
@@ -62,8 +66,9 @@ module _ (function : ℕ) where
   places_of_step scope (Some s) = stop scope s.spot ∷ []
 
   abbrev mutual
-    -- The places of a statement, in text order: of a simple one its first token, of `if`, `while`, `do` and `switch` the condition, of `for` its first part,
-    -- its condition or else the `for`, and its step; and those of the statements within.
+    -- The places of a statement, in text order: of a simple one its first token, of `if`, `while`, `do` and `switch`
+    -- the condition, of `for` its first part, its condition or else the `for`, and its step; and those of the
+    -- statements within.
     pub places_of : List ℕ → TypedStatementTree → List Place
     places_of scope (Block all) = places_of_all scope all
     places_of scope (Declaration all) = places_of_declarators scope all
@@ -74,7 +79,8 @@ module _ (function : ℕ) where
     places_of scope (While spot c body) = stop scope spot ∷ places_of scope body
     places_of scope (DoWhile body spot c) = places_of scope body ++ stop scope spot ∷ []
     places_of scope (For start spot c step body) =
-        places_of_head scope start spot c ++ places_of_step (scope ++ brought_by_start start) step ++ places_of (scope ++ brought_by_start start) body
+        places_of_head scope start spot c ++ places_of_step (scope ++ brought_by_start start) step
+        ++ places_of (scope ++ brought_by_start start) body
     places_of scope (Switch spot e all) = stop scope spot ∷ places_of_all scope all
     places_of scope (Break spot) = stop scope spot ∷ []
     places_of scope (Continue spot) = stop scope spot ∷ []
@@ -98,17 +104,21 @@ brought_by_body (default rest) = brought_by_body rest
 abbrev pub parameters_of : TypedFunctionTree → List ℕ
 parameters_of f = numbers_from f.first_variable f.parameters
 
--- The entry of a function is a place at its name. Its parameters, which are declared behind the name, are not in scope there (6.2.1p7).
+-- The entry of a function is a place at its name. Its parameters, which are declared behind the name, are not in scope
+-- there (6.2.1p7).
 abbrev pub entry_of : ℕ → TypedFunctionTree → Place
 entry_of function f = record { spot = f.spot; function = function; is_entry = true; scope = [] }
 
--- The closing brace of a function is a place where flow reaches it. The variables of the outermost block are in scope there.
+-- The closing brace of a function is a place where flow reaches it. The variables of the outermost block are in scope
+-- there.
 abbrev pub close_of : ℕ → TypedFunctionTree → List Place
-close_of function f = if reaches_end f.body then stop function (parameters_of f ++ brought_by_body f.body) f.close ∷ [] else []
+close_of function f =
+    if reaches_end f.body then stop function (parameters_of f ++ brought_by_body f.body) f.close ∷ [] else []
 
 -- the places of a function
 abbrev pub places_of_function : ℕ → TypedFunctionTree → List Place
-places_of_function function f = entry_of function f ∷ places_of_all function (parameters_of f) f.body ++ close_of function f
+places_of_function function f =
+    entry_of function f ∷ places_of_all function (parameters_of f) f.body ++ close_of function f
 
 -- the places of functions, the first of which has this number
 abbrev pub places_of_functions : ℕ → List TypedFunctionTree → List Place
@@ -125,8 +135,8 @@ count_before at [] = 0
 count_before at (p ∷ places) = if nat_lt p.spot.at at then count_before at places + 1 else count_before at places
 
 -- The number of the place at a position: places are numbered from 1 in the order of the text.
-abbrev pub number_at : List Place → ℕ → ℕ
-number_at places at = count_before at places + 1
+abbrev pub place_number_at : List Place → ℕ → ℕ
+place_number_at places at = count_before at places + 1
 
 -- the variables in scope at the place at a position
 abbrev pub scope_at : List Place → ℕ → List ℕ

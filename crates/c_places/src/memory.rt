@@ -5,7 +5,7 @@ ghost use Rattle.std.specs.Prelude.{◌≡◌, [], IfOk, OnOk, map};
 ghost use Rattle.std.specs.Option.{option_map};
 ghost use Rattle.c_tree.specs.TypedExpressions.{arguments_view, lvalue_view, rvalue_view};
 ghost use Rattle.c_tree.specs.TypedStatements.{declared_view, initial_view, start_view, statement_view, statements_view, step_view};
-ghost use Rattle.c_places.specs.Memory.{keeps, kept_all, kept_by, kept_by_all, kept_declared, kept_in, kept_initial, kept_option, kept_start, kept_step, kept_values, named, written};
+ghost use Rattle.c_places.specs.Memory.{keeps, kept_in_arguments, kept_by, kept_by_all, kept_declared, kept_in, kept_initial, kept_option, kept_start, kept_step, kept_values, with_named_variable, written};
 
 use c_tree::{
     Arguments, Declared, Initial, Lvalue, Object, Rvalue, TypedStart, TypedStatement,
@@ -25,7 +25,7 @@ macro_rules! given {
 
 /// An object that is named.
 fn named(target: &Lvalue, kept: &mut Vec<u32>) -> Result<(), AllocError>
-    ensures { OnOk result (kept.new.items ≡ named (lvalue_view target.now) kept.old.items) }
+    ensures { OnOk result (kept.new.items ≡ with_named_variable (lvalue_view target.now) kept.old.items) }
 {
     if let Lvalue::Named { object, .. } = target {
         if let Object::Automatic(number) = object {
@@ -70,7 +70,7 @@ fn of_lvalue(l: &Lvalue, skipped: bool, kept: &mut Vec<u32>) -> Result<(), Alloc
 
 #[cycle(kept)]
 fn of_arguments(all: &Arguments, skipped: bool, kept: &mut Vec<u32>) -> Result<(), AllocError>
-    ensures { OnOk result (kept.new.items ≡ kept_all skipped (arguments_view all.now) kept.old.items) }
+    ensures { OnOk result (kept.new.items ≡ kept_in_arguments skipped (arguments_view all.now) kept.old.items) }
 {
     match all {
         Arguments::End => Ok(()),

@@ -3,7 +3,7 @@
 ghost use Rattle.std.specs.Prelude.{◌≡◌, IfOk, map, string_bytes};
 ghost use Rattle.c_tree.specs.Programs.{automatic_view};
 ghost use Rattle.c_places.specs.Places.{place_view};
-ghost use Rattle.c_places.specs.Places.{count_before, is_hidden, is_same_name, name_of, number_at, scope_at, visible};
+ghost use Rattle.c_places.specs.Places.{count_before, is_hidden, is_same_name, name_of, place_number_at, scope_at, visible};
 
 use c_tree::AutomaticVariable;
 use debug_records::Spot;
@@ -23,7 +23,7 @@ pub struct Place {
 
 /// The number of the place at a position.
 pub fn number_at(places: &[Place], at: u32) -> usize
-    ensures { result ≡ number_at (map place_view places.now) at }
+    ensures { result ≡ place_number_at (map place_view places.now) at }
 {
     let mut count = 0usize;
     for place in places {

@@ -3,7 +3,7 @@ use Rattle.std.proofs.Common.{◌≡◌, ℕ, ◌<◌, ◌≤◌, true, nat_le, 
 use Rattle.std.specs.Prelude.{nat_lt}
 use Rattle.debug_records.specs.declared.source.Spot.{Spot}
 use Rattle.c_token.specs.declared.context.Context.{Context}
-use Rattle.c_token.specs.Includes.{start}
+use Rattle.c_token.specs.Includes.{context_at_start}
 use Rattle.c_token.specs.Items.{Piece, LineFeed, Blank, Token}
 use Rattle.c_token.specs.Lexemes.{Lexeme}
 use Rattle.c_token.specs.Spells.{SpellsFrom, nothing, piece}
@@ -60,7 +60,7 @@ all_lines {text = text} {at = at} low h (piece {end = end} {p = p} {tokens = mor
     let on : line_of text at ≤ line_of text end = omega (arith, line_on text at end (omega (arith, t.some))) in
     piece_lines text low at p more h (λ last le. all_lines last (omega (arith, on)) rest)
 
-spelled : (text : List ℕ) (tokens : List Lexeme) → tokens_of text ≡ Ok tokens → SpellsFrom text 0 start tokens
+spelled : (text : List ℕ) (tokens : List Lexeme) → tokens_of text ≡ Ok tokens → SpellsFrom text 0 context_at_start tokens
 spelled text tokens e = ((spells_reads text tokens).1 e).from_start
 
 -- The tokens of a text stand one behind the other.

@@ -8,14 +8,14 @@ use Rattle.c_tree.specs.declared.object_type.Object.TheVariants as object
 use Rattle.c_tree.specs.declared.typed_expression.Callee.{Callee}
 use Rattle.c_tree.specs.Expressions.{NameTree}
 use Rattle.c_tree.specs.Declarations.{ParameterTree}
-use Rattle.c_tree.specs.Statements.{BlockTree, chain}
+use Rattle.c_tree.specs.Statements.{BlockTree, chain_of_statements}
 use Rattle.c_tree.specs.Trees.{FunctionTree}
 use Rattle.c_tree.specs.TypedStatements.{TypedStatementTrees}
 use Rattle.c_tree.specs.Programs.{TypedFunctionTree, ProgramTree}
 use Rattle.c_type_expressions.specs.declared.names.Meaning.TheVariants.{Variable}
 use Rattle.c_type_expressions.specs.Names.{SignatureTree}
 use Rattle.c_type_declarations.specs.Scopes.{empty_scope}
-use Rattle.c_type_declarations.specs.Progress.{ProgressTree, Met, means, next_met, opened, closed}
+use Rattle.c_type_declarations.specs.Progress.{ProgressTree, Met, means, next_met, opened, scope_left}
 use Rattle.c_type_bounds.specs.Counts.{capped}
 use Rattle.c_type_bounds.specs.Weights.{definition_weight}
 use Rattle.c_type_statements.specs.Statements.{statements_met}
@@ -72,7 +72,7 @@ module _ (p : ProgramTree) (f : FunctionTree) (g : SignatureTree) (b : BlockTree
   made ts t =
       record { name = f.name.name; spot = f.name.spot; result = g.result; first_variable = length q.automatics; parameters = length f.parameters; variables = length t.automatics - length q.automatics; body = ts; close = b.closing; weight = capped (definition_weight f.parameters b) }
 
-  block_defines : (ts : TypedStatementTrees) (t : ProgressTree) → HaveNames f.parameters → AreNamesFormed f.parameters → StatesAll p (made ts t) (setting_of g) begun ts t → Defined p q (made ts t ∷ []) (closed t)
+  block_defines : (ts : TypedStatementTrees) (t : ProgressTree) → HaveNames f.parameters → AreNamesFormed f.parameters → StatesAll p (made ts t) (setting_of g) begun ts t → Defined p q (made ts t ∷ []) (scope_left t)
   block_defines ts t named names states =
       let fun = made ts t in
       let come = parameters_come p fun f.parameters (opened q) names in
@@ -109,9 +109,9 @@ module _ (p : ProgramTree) (f : FunctionTree) (g : SignatureTree) (b : BlockTree
       }
 
   -- a function's block defines it
-  pub body_defines : HaveNames f.parameters → AreNamesFormed f.parameters → AreFormed (chain b.statements) → Ensures (Defined p q) (body_met f g b q)
+  pub body_defines : HaveNames f.parameters → AreNamesFormed f.parameters → AreFormed (chain_of_statements b.statements) → Ensures (Defined p q) (body_met f g b q)
   unfolding next_met
-  body_defines named names formed = by (statements_met (setting_of g) (chain b.statements) begun) (λ fun e. all_states p fun (setting_of g) (chain b.statements) begun formed e)
+  body_defines named names formed = by (statements_met (setting_of g) (chain_of_statements b.statements) begun) (λ fun e. all_states p fun (setting_of g) (chain_of_statements b.statements) begun formed e)
     where
       by : (m : Met TypedStatementTrees) → ((fun : TypedFunctionTree) → g.result ≡ fun.result → Ensures (StatesAll p fun (setting_of g) begun) m) → Ensures (Defined p q) (next_met m (function_made f g b (length q.automatics)))
       by (means ts t) h = block_defines ts t named names (h (made ts t) refl)

@@ -8,8 +8,8 @@ use Rattle.debug_records.specs.declared.code.Code.{Code}
 use Rattle.debug_records.specs.declared.code.TheConstants.Code.{MALFORMED_CONSTANT, UNKNOWN_ESCAPE}
 use Rattle.c_token.specs.declared.fault.Fault.{Fault}
 use Rattle.c_token.specs.declared.token.Constant.{Constant}
-use Rattle.c_token.specs.Bytes.{stands, is_replaced}
-use Rattle.c_token.specs.Constants.{is_digit_in, value_of, suffix_of, typed, constant_in, constant_of, is_number_byte, constant_at}
+use Rattle.c_token.specs.Bytes.{text_has, is_replaced}
+use Rattle.c_token.specs.Constants.{is_digit_in, value_of, suffix_of, typed_constant, constant_in, constant_of, is_number_byte, constant_at}
 use Rattle.c_token.specs.Literals.{simple_escapes, find_byte, simple_escape, byte_of, octal_escape, hexadecimal_escape, escape_at, unit_at, with_bytes, literal_from, literal_at, character, only_byte, character_at}
 use Rattle.c_token.specs.Reading.{◌>>=◌, fault, fault_at}
 use Rattle.c_type_rules.specs.Integers.{fits}
@@ -41,8 +41,8 @@ no_larger v most h = grind (arith, nat_tests, h)
 never_less : (v : ℕ) → nat_le 0 v ≡ true
 never_less v = grind (arith, nat_tests)
 
-typed_number : (is_decimal : Bool) (value : ℕ) (suffix : Bool × Bool) → nat_lt 4294967295 value ≡ false → MayBeNumber (typed is_decimal value suffix)
-unfolding typed
+typed_number : (is_decimal : Bool) (value : ℕ) (suffix : Bool × Bool) → nat_lt 4294967295 value ≡ false → MayBeNumber (typed_constant is_decimal value suffix)
+unfolding typed_constant
 typed_number is_decimal value suffix le = by is_decimal (nat_lt 2147483647 value) suffix.0 suffix.1 refl
   where
     unsigned : (long : Bool) → fits (constant_type long true) (pos value) ≡ true
@@ -63,7 +63,7 @@ typed_number is_decimal value suffix le = by is_decimal (nat_lt 2147483647 value
     by false false true long e = unsigned long
     by false false false long e = signed long e
 
-chosen_number : (is_decimal : Bool) (value : ℕ) (o : Option (Bool × Bool)) → nat_lt 4294967295 value ≡ false → MayBeNumber (option_and_then (typed is_decimal value) o)
+chosen_number : (is_decimal : Bool) (value : ℕ) (o : Option (Bool × Bool)) → nat_lt 4294967295 value ≡ false → MayBeNumber (option_and_then (typed_constant is_decimal value) o)
 chosen_number is_decimal value None le = tt
 chosen_number is_decimal value (Some suffix) le = typed_number is_decimal value suffix le
 
@@ -78,8 +78,8 @@ number_in base word =
 number_of : (word : List ℕ) → MayBeNumber (constant_of word)
 unfolding constant_of
 number_of word =
-    by_test MayBeNumber (stands word 0 (codes "0x") || stands word 0 (codes "0X")) _ _ (λ _. number_in 16 (drop 2 word))
-    (λ _. by_test MayBeNumber (stands word 0 (codes "0")) _ _ (λ _. number_in 8 word) (λ _. number_in 10 word))
+    by_test MayBeNumber (text_has word 0 (codes "0x") || text_has word 0 (codes "0X")) _ _ (λ _. number_in 16 (drop 2 word))
+    (λ _. by_test MayBeNumber (text_has word 0 (codes "0")) _ _ (λ _. number_in 8 word) (λ _. number_in 10 word))
 
 -- what is read has a property, where something is read
 abbrev pub Reads : {A : Type 0} → (A → Type 0) → Result (A × ℕ) Fault → Type 0

@@ -9,20 +9,20 @@ use Rattle.c_tree.specs.declared.operator.PrefixOperator.{PrefixOperator}
 use Rattle.c_tree.specs.declared.types.Base.{Base}
 use Rattle.c_tree.specs.declared.types.Base.TheVariants as base
 use Rattle.c_tree.specs.declared.types.IntegerType.{IntegerType}
-use Rattle.c_tree.specs.Expressions.{ExpressionTree, SuffixTree, suffixed, Indexes, Calls, Increments, Decrements, chain}
+use Rattle.c_tree.specs.Expressions.{ExpressionTree, SuffixTree, suffixed, Indexes, Calls, Increments, Decrements, chain_of_arguments}
 use Rattle.c_tree.specs.Expressions as tree
 use Rattle.c_parse_tokens.specs.declared.fault.Stuck.{Stuck}
 use Rattle.c_parse_tokens.specs.declared.mark.Mark.TheVariants as mark
 use Rattle.c_parse_tokens.specs.declared.specifier.Place.TheVariants as place
 use Rattle.c_parse_tokens.specs.Outcome.{Parser, ◌>>=◌}
-use Rattle.c_parse_tokens.specs.Front.{inside, is_at, behind, last_before, extent_before}
+use Rattle.c_parse_tokens.specs.Front.{inside, is_at, tokens_behind, last_before, extent_before}
 use Rattle.c_parse_tokens.specs.Operators.{punctuator_of, operator_at, assignment_at, prefix_operator}
 use Rattle.c_parse_tokens.specs.Specifiers.{specifiers, integer_type, base_of, type_behind, stars}
 use Rattle.c_parse_expressions.specs.declared.expression.Sort.{Sort}
 use Rattle.c_parse_expressions.specs.declared.expression.Sort.TheVariants as sort
 use Rattle.c_parse_expressions.specs.declared.expression.SuffixStart.{SuffixStart}
 use Rattle.c_parse_expressions.specs.declared.expression.SuffixStart.TheVariants as start
-use Rattle.c_parse_expressions.specs.Expressions.{Nesting, nested, literal_of, literals, primary_of, primary, arguments, suffix_start, suffix_at, suffix, suffixes, postfix, operand_of, prefix, sizeof_expression, size, sizeof_tree, sizeof_type, unary_of, unary, pointed, type_name, cast, operations, levels, conditional, assignment, more_commas, comma, expression_of, nesting}
+use Rattle.c_parse_expressions.specs.Expressions.{Nesting, nested, literal_of, literals_at_front, primary_of, primary, arguments, suffix_start, suffix_at, suffix, suffixes, postfix, operand_of, prefix, sizeof_expression, array_size, sizeof_tree, sizeof_type, unary_of, unary, pointed, type_name, cast, operations, levels, conditional, assignment, more_commas, comma, expression_of, nesting}
 use Rattle.c_type_laws.specs.Statics.{are_bytes}
 use Rattle.c_source.specs.Constants.{HasNumbers, HaveNumbers}
 use Rattle.c_source.specs.Formed.{HasNumbersIfAny}
@@ -63,7 +63,7 @@ literal_sound (word.Constant c) h o e part is = absurd cc
 literal_sound (word.Punctuator p) h o e part is = absurd cc
 literal_sound (word.Include i) h o e part is = absurd cc
 
-literals_join : (bytes : List ℕ) (ts whole : List Lexeme) → are_bytes bytes ≡ true → Stand [] whole ts → AreSound ts → Joins whole (literals bytes ts)
+literals_join : (bytes : List ℕ) (ts whole : List Lexeme) → are_bytes bytes ≡ true → Stand [] whole ts → AreSound ts → Joins whole (literals_at_front bytes ts)
 literals_join bytes [] whole b s h = (b, s, h)
 literals_join bytes (t ∷ ts) whole b s h =
     by_option (Joins whole) _ (literal_of t.kind) _
@@ -90,11 +90,11 @@ module _ (nest : Nesting) (good : AreGood nest) where
 
   -- ---- suffixes
 
-  as_arguments : (es : List ExpressionTree) → spots_of_many expressions es ≡ spots_of_all (chain es)
+  as_arguments : (es : List ExpressionTree) → spots_of_many expressions es ≡ spots_of_all (chain_of_arguments es)
   as_arguments [] = refl
   as_arguments (e ∷ es) = ap (λ (l : List Spot). spots_of e ++ l) (as_arguments es)
 
-  have_numbers : (es : List ExpressionTree) → AreAllFormed expressions es → HaveNumbers (chain es)
+  have_numbers : (es : List ExpressionTree) → AreAllFormed expressions es → HaveNumbers (chain_of_arguments es)
   have_numbers [] h = tt
   have_numbers (e ∷ es) h = (h.0, have_numbers es h.1)
 
@@ -156,10 +156,10 @@ module _ (nest : Nesting) (good : AreGood nest) where
   unfolding sizeof_expression
   sizeof_found t ts h = next expressions expressions ts (t ∷ ts) (nested nest sort.Unary ts) _ (nested_found nest sort.Unary ts good h) (λ e s f u. (told t s, f, u))
 
-size_found : (nest : Nesting) (ts : List Lexeme) → AreGood nest → AreSound ts → Found optional_expressions ts (size nest ts)
-unfolding size
+size_found : (nest : Nesting) (ts : List Lexeme) → AreGood nest → AreSound ts → Found optional_expressions ts (array_size nest ts)
+unfolding array_size
 size_found nest ts good h =
-    option_next optional_expressions ts ts (behind mark.OpenBracket ts) _ _ (behind_leads mark.OpenBracket ts h)
+    option_next optional_expressions ts ts (tokens_behind mark.OpenBracket ts) _ _ (behind_leads mark.OpenBracket ts h)
     (λ its r u. next expressions optional_expressions its ts (nested nest sort.Assignment its) _ (nested_found nest sort.Assignment its good u)
     (λ e s f v. want_next optional_expressions mark.CloseBracket e.1 ts _ v (λ rest q w. (join (silent r) (trail s (silent q)), f, w))))
     (none, tt, h)
@@ -177,7 +177,7 @@ module _ (nest : Nesting) (good : AreGood nest) where
       (λ around ga. inside_next expressions around _ its (t ∷ ts) _ ga
       (λ within gw. next plain expressions its (t ∷ ts) (specifiers place.Object its) _ (specifiers_found place.Object its h)
       (λ found r f u. let p = stars_pass found.1 u in
-      next optional_expressions expressions (stars found.1).1 (t ∷ ts) (size within (stars found.1).1) _ (size_found within (stars found.1).1 gw p.1)
+      next optional_expressions expressions (stars found.1).1 (t ∷ ts) (array_size within (stars found.1).1) _ (size_found within (stars found.1).1 gw p.1)
       (λ e q g v. want_next expressions mark.CloseParenthesis e.1 (t ∷ ts) _ v
       (λ rest z w. sizeof_there t (last_before (t ∷ ts) rest) (integer_type found.0) (stars found.1).0 e.0 ts rest (join s (join r (join p.0 (trail q (silent z))))) g w)))))
 
@@ -241,7 +241,7 @@ module _ (nest : Nesting) (good : AreGood nest) where
   unfolding conditional
   conditional_found ts h =
       next expressions expressions ts ts (levels 10 (cast nest) ts) _ (levels_found 10 (cast nest) (λ us v. cast_found nest good us v) ts h)
-      (λ c s f u. option_next expressions c.1 ts (behind mark.Question c.1) _ _ (behind_leads mark.Question c.1 u)
+      (λ c s f u. option_next expressions c.1 ts (tokens_behind mark.Question c.1) _ _ (behind_leads mark.Question c.1 u)
       (λ after r v. next expressions expressions after ts (nested nest sort.Comma after) _ (nested_found nest sort.Comma after good v)
       (λ a q g w. want_next expressions mark.Colon a.1 ts _ w
       (λ rest z x. next expressions expressions rest ts (nested nest sort.Conditional rest) _ (nested_found nest sort.Conditional rest good x)
@@ -260,7 +260,7 @@ module _ (nest : Nesting) (good : AreGood nest) where
   more_found : (n : ℕ) (left : ExpressionTree) (ts whole : List Lexeme) → Stand (spots_of left) whole ts → HasNumbers left → AreSound ts → Found expressions whole (more_commas n nest left ts)
   more_found zero left ts whole s f h = (s, f, h)
   more_found (suc n) left ts whole s f h =
-      option_next expressions ts whole (behind mark.Comma ts) _ _ (behind_leads mark.Comma ts h)
+      option_next expressions ts whole (tokens_behind mark.Comma ts) _ _ (behind_leads mark.Comma ts h)
       (λ after r u. next expressions expressions after whole (assignment nest after) _ (assignment_found after u)
       (λ right q g v. more_found n (tree.Comma left right.0) right.1 whole (join (trail s (silent r)) q) (f, g) v))
       (s, f, h)

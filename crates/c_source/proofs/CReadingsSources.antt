@@ -13,13 +13,13 @@ use Rattle.c_parse_tokens.specs.declared.mark.Mark.TheVariants as mark
 use Rattle.c_parse_tokens.specs.declared.specifier.Place.TheVariants as place
 use Rattle.c_parse_tokens.specs.declared.specifier.SpecifierList.{SpecifierList}
 use Rattle.c_parse_tokens.specs.Outcome.{◌>>=◌}
-use Rattle.c_parse_tokens.specs.Front.{is_at, behind}
+use Rattle.c_parse_tokens.specs.Front.{is_at, tokens_behind}
 use Rattle.c_parse_tokens.specs.Specifiers.{specifiers, integer_type, stars}
 use Rattle.c_parse_expressions.specs.Expressions.{nesting}
 use Rattle.c_parse_statements.specs.Declarations.{identifier, brackets, named_declarator, begun_declaration}
 use Rattle.c_parse_statements.specs.Statements as reading
 use Rattle.c_parse_statements.specs.Statements.{block}
-use Rattle.c_parse.specs.Reading.{begins_name, parameter_name, parameter, parameters, are_named, body, function, result_stars, objects, external, item_of, item, items_from, items, answer, tree_of}
+use Rattle.c_parse.specs.Reading.{begins_with_name, parameter_name, parameter, parameters, are_named, body, function, result_stars, objects, external, item_of, item, items_from, items, answer, tree_of}
 use Rattle.c_type_laws.specs.Names.{is_name}
 use Rattle.c_type_laws.specs.Statics.{are_bytes}
 use Rattle.c_source.specs.Files.{has_name, AreSizesFormed, HaveNames, AreNamesFormed, AreItemsFormed}
@@ -41,7 +41,7 @@ use Rattle.c_source.proofs.CReadingsStatements.{statements_good, block_found}
 name_found : (ts : List Lexeme) → AreSound ts → Found trees.optional_names ts (parameter_name ts)
 unfolding parameter_name
 name_found ts h =
-    by_test (Found trees.optional_names ts) (begins_name ts) _ _
+    by_test (Found trees.optional_names ts) (begins_with_name ts) _ _
     (λ _. next trees.names trees.optional_names ts ts (identifier ts) _ (identifier_found ts h) (λ n s f u. (s, f, u)))
     (λ _. (none, tt, h))
 
@@ -66,7 +66,7 @@ parameters_found : (depth : ℕ) (ts : List Lexeme) → AreSound ts → Found tr
 unfolding parameters
 parameters_found depth ts h =
     by_test (Found trees.parameter_lists ts) (is_at mark.CloseParenthesis ts) _ _ (λ _. (none, (tt, tt), h))
-    (λ _. option_next trees.parameter_lists ts ts (behind mark.Void ts) _ _ (behind_leads mark.Void ts h) (λ rest r u. (silent r, (tt, tt), u))
+    (λ _. option_next trees.parameter_lists ts ts (tokens_behind mark.Void ts) _ _ (behind_leads mark.Void ts h) (λ rest r u. (silent r, (tt, tt), u))
     (seen (many trees.parameters) trees.parameter_lists ts _ as_parameters formed_parameters
     (next trees.parameters (many trees.parameters) ts ts (parameter depth ts) _ (parameter_found depth ts h)
     (λ p s f u. separated_found trees.parameters (length p.1) (parameter depth) (λ us v. parameter_found depth us v) (p.0 ∷ []) p.1 ts (only_one trees.parameters p.0 ts p.1 s) (f, tt) u))))
@@ -88,7 +88,7 @@ have_names (d ∷ ps) h = by (is_some d.name) refl h (have_names ps)
 body_found : (depth : ℕ) (ps : List ParameterTree) (ts : List Lexeme) → AreNamesFormed ps → AreSound ts → Found (trees.bodies ps) ts (body depth ps ts)
 unfolding body
 body_found depth ps ts named h =
-    option_next (trees.bodies ps) ts ts (behind mark.Semicolon ts) _ _ (behind_leads mark.Semicolon ts h) (λ rest r u. (silent r, named, u))
+    option_next (trees.bodies ps) ts ts (tokens_behind mark.Semicolon ts) _ _ (behind_leads mark.Semicolon ts h) (λ rest r u. (silent r, named, u))
     (by_test (Found (trees.bodies ps) ts) (are_named ps) _ _
     (λ e. next (trees.blocks true) (trees.bodies ps) ts ts (block (reading.statements depth) true ts) _ (block_found (reading.statements depth) (statements_good depth) true ts h)
     (λ b s f u. (s, (have_names ps e, f.0, named), u)))
@@ -124,7 +124,7 @@ external_found depth ts h =
     next plain trees.items ts ts (specifiers place.File ts) _ (specifiers_found place.File ts h)
     (λ found r _ u. let p = result_pass found.0 found.1 u in
     next trees.names trees.items (result_stars found.0 found.1).1 ts (identifier (result_stars found.0 found.1).1) _ (identifier_found (result_stars found.0 found.1).1 p.1)
-    (λ name s n v. option_next trees.items name.1 ts (behind mark.OpenParenthesis name.1) _ _ (behind_leads mark.OpenParenthesis name.1 v)
+    (λ name s n v. option_next trees.items name.1 ts (tokens_behind mark.OpenParenthesis name.1) _ _ (behind_leads mark.OpenParenthesis name.1 v)
     (λ its q w. next trees.functions trees.items ts ts (function depth found.0 found.1 (result_stars found.0 found.1).0 name.0 its) _
     (function_found depth found.0 found.1 (result_stars found.0 found.1).0 name.0 its ts (join r (join p.0 (trail s (silent q)))) n w) (λ x z g y. (z, g, y)))
     (objects_found depth found.0 ts found.1 (result_stars found.0 found.1).0 name.0 name.1 ts (join r (join p.0 s)) n v)))

@@ -5,12 +5,12 @@ use Rattle.c_token.specs.declared.token.Keyword.TheVariants as keyword
 use Rattle.c_token.specs.declared.token.Punctuator.TheVariants as punctuator
 use Rattle.c_token.specs.Lexemes.{Lexeme, Word}
 use Rattle.c_token.specs.Lexemes as word
-use Rattle.c_tree.specs.Statements.{StatementTree, BranchTree, LabelTree, CaseLabel, DefaultLabel, if_tree, else_tree, behind_labels, block_tree, chain}
+use Rattle.c_tree.specs.Statements.{StatementTree, BranchTree, LabelTree, CaseLabel, DefaultLabel, if_tree, else_tree, behind_labels, block_tree, chain_of_statements}
 use Rattle.c_tree.specs.Statements as tree
 use Rattle.c_parse_tokens.specs.declared.fault.Stuck.{Stuck}
 use Rattle.c_parse_tokens.specs.declared.mark.Mark.TheVariants as mark
 use Rattle.c_parse_tokens.specs.Outcome.{◌>>=◌}
-use Rattle.c_parse_tokens.specs.Front.{inside, is_at, behind, want, spot_at, extent_before}
+use Rattle.c_parse_tokens.specs.Front.{inside, is_at, tokens_behind, want, spot_at, extent_before}
 use Rattle.c_parse_tokens.specs.Specifiers.{begins_type}
 use Rattle.c_parse_expressions.specs.Expressions.{nesting}
 use Rattle.c_parse_statements.specs.Declarations.{declaration}
@@ -46,15 +46,15 @@ deeper_next T (level ∷ deeper) is_taken ts whole f g k = k deeper g.1
 
 -- ---- blocks
 
-as_statements : (may_declare : Bool) (all : List StatementTree) → spots_of_many (statements may_declare) all ≡ spots_of_statements (chain all)
+as_statements : (may_declare : Bool) (all : List StatementTree) → spots_of_many (statements may_declare) all ≡ spots_of_statements (chain_of_statements all)
 as_statements may_declare [] = refl
 as_statements may_declare (s ∷ all) = ap (λ (l : List Spot). spots_of_statement s ++ l) (as_statements may_declare all)
 
-are_formed : (may_declare : Bool) (all : List StatementTree) → AreAllFormed (statements may_declare) all → AreFormed (chain all)
+are_formed : (may_declare : Bool) (all : List StatementTree) → AreAllFormed (statements may_declare) all → AreFormed (chain_of_statements all)
 are_formed may_declare [] h = tt
 are_formed may_declare (s ∷ all) h = (h.0.0, are_formed may_declare all h.1)
 
-none_declared : (may_declare : Bool) (all : List StatementTree) → AreAllFormed (statements may_declare) all → may_declare ≡ false → declare_nothing (chain all)
+none_declared : (may_declare : Bool) (all : List StatementTree) → AreAllFormed (statements may_declare) all → may_declare ≡ false → declare_nothing (chain_of_statements all)
 none_declared may_declare [] h e = tt
 none_declared may_declare (s ∷ all) h e = (h.0.1 e, none_declared may_declare all h.1 e)
 
@@ -67,7 +67,7 @@ module _ (within : List StatementLevel) (good : AreGood within) (may_declare : B
       → Found (blocks may_declare) whole (statements_from n within may_declare opening done ts)
   from_found zero opening done ts whole s f h = tt
   from_found (suc n) opening done ts whole s f h =
-      option_next (blocks may_declare) ts whole (behind mark.CloseBrace ts) _ _ (behind_leads mark.CloseBrace ts h)
+      option_next (blocks may_declare) ts whole (tokens_behind mark.CloseBrace ts) _ _ (behind_leads mark.CloseBrace ts h)
       (λ rest r u. (same_spots (ap (λ (l : List Spot). opening ∷ l ++ spot_at ts ∷ []) (as_statements may_declare done)) (join s r), (are_formed may_declare done f, none_declared may_declare done f), u))
       (next (statements may_declare) (blocks may_declare) ts whole (nested_statement within may_declare ts) _ (nested_found within may_declare ts good h)
       (λ x q g v. from_found n opening (done ++ x.0 ∷ []) x.1 whole (further opening done x.0 ts x.1 whole s q) (formed_on (statements may_declare) done x.0 f g) v))
@@ -129,7 +129,7 @@ module _ (depth : ℕ) (within : List StatementLevel) (good : AreGood within) wh
       → Found (statements false) whole (else_from n (nesting depth) within b done ts)
   else_found zero b done ts whole s h f u = ended b done ts whole s h f u
   else_found (suc n) b done ts whole s h f u =
-      option_next (statements false) ts whole (behind mark.Else ts) _ _ (behind_leads mark.Else ts u)
+      option_next (statements false) ts whole (tokens_behind mark.Else ts) _ _ (behind_leads mark.Else ts u)
       (λ after r v. by_test (Found (statements false) whole) (is_at mark.If after) _ _
       (λ _. next branches (statements false) after whole (branch (nesting depth) within after) _ (branch_found after v)
       (λ x q g w. else_found n b (done ++ x.0 ∷ []) x.1 whole (another b done x.0 after x.1 whole (trail s (silent r)) q) h (formed_on branches done x.0 f g) w))
@@ -177,7 +177,7 @@ module _ (depth : ℕ) (within : List StatementLevel) (good : AreGood within) wh
       next expressions (statements false) ts (t ∷ ts) (condition (nesting depth) ts) _ (condition_found (nesting depth) ts (nesting_good depth) h)
       (λ e r f u. deeper_next (statements false) within _ e.1 (t ∷ ts) _ good
       (λ deeper gd. next (blocks false) (statements false) e.1 (t ∷ ts) (block deeper false e.1) _ (block_found deeper gd false e.1 u)
-      (λ b q g v. (told t (same_spots (sym (append_assoc (spots_of e.0) (b.0.opening ∷ spots_of_statements (chain b.0.statements)) (b.0.closing ∷ []))) (join r q)), ((f, g.0, g.1 refl), λ _. refl), v))))
+      (λ b q g v. (told t (same_spots (sym (append_assoc (spots_of e.0) (b.0.opening ∷ spots_of_statements (chain_of_statements b.0.statements)) (b.0.closing ∷ []))) (join r q)), ((f, g.0, g.1 refl), λ _. refl), v))))
 
   -- ---- statements without labels
 

@@ -10,7 +10,7 @@ use Rattle.c_tree.specs.declared.typed_expression.Callee.TheVariants as callee
 use Rattle.c_tree.specs.Statements.{BlockTree}
 use Rattle.c_tree.specs.Trees.{ItemTree, Include, Declares, Defines}
 use Rattle.c_tree.specs.Programs.{AutomaticTree, TypedFunctionTree, ProgramTree}
-use Rattle.c_type_rules.specs.Types.{loaded}
+use Rattle.c_type_rules.specs.Types.{loaded_type}
 use Rattle.c_type_rules.specs.ValueTypes.{results_of}
 use Rattle.c_type_laws.specs.Kinds.{parameters_in, types_of}
 use Rattle.c_type_expressions.specs.declared.names.Meaning.TheVariants.{Function}
@@ -118,7 +118,7 @@ module _ (items : List ItemTree) (p : ProgramTree) (a : Accepted items p) (forme
       let parameters : g.parameters ≡ d.0.parameters = ap (λ z. z.parameters) (sym same) ∙ met.parameters in
       record {
         there = ap is_some f.1;
-        takes = ap (λ o. types_of (parameters_in p.automatics o)) f.1 ∙ as_types f.2 ∙ ap (map loaded) (sym parameters);
+        takes = ap (λ o. types_of (parameters_in p.automatics o)) f.1 ∙ as_types f.2 ∙ ap (map loaded_type) (sym parameters);
         gives = result_at p.functions j f.0 f.1 ∙ f.2.result ∙ sym result;
         elements = ap leads_to_elements result ∙ d.3;
       }

@@ -10,7 +10,7 @@ use Rattle.c_parse_tokens.specs.declared.fault.Stuck.{Stuck}
 use Rattle.c_parse_tokens.specs.declared.mark.Mark.{Mark}
 use Rattle.c_parse_tokens.specs.declared.mark.Mark.TheVariants as mark
 use Rattle.c_parse_tokens.specs.Outcome.{◌>>=◌}
-use Rattle.c_parse_tokens.specs.Front.{stuck, is_at, behind, want, extent_before}
+use Rattle.c_parse_tokens.specs.Front.{stuck, is_at, tokens_behind, want, extent_before}
 use Rattle.c_parse_tokens.specs.Specifiers.{begins_type}
 use Rattle.c_parse_expressions.specs.declared.expression.Sort.TheVariants as sort
 use Rattle.c_parse_expressions.specs.Expressions.{Nesting, nested, conditional, comma, nesting}
@@ -72,7 +72,7 @@ PassedTo ts (Err s) = Unit {0}
 
 colon_passes : (ts : List Lexeme) → AreSound ts → PassedTo ts (want mark.Colon ts)
 unfolding want
-colon_passes ts h = by (behind mark.Colon ts) (behind_leads mark.Colon ts h)
+colon_passes ts h = by (tokens_behind mark.Colon ts) (behind_leads mark.Colon ts h)
   where
     by : (o : Option (List Lexeme)) → Leads ts o → PassedTo ts (option_map_or (λ rest. Ok rest) o (Err (stuck ts)))
     by None l = tt

@@ -9,10 +9,10 @@ use Rattle.c_tree.specs.declared.object_type.ObjectType.{ObjectType}
 use Rattle.c_tree.specs.Programs.{TypedFunctionTree, ProgramTree}
 use Rattle.c_type_expressions.specs.declared.names.Meaning.{Meaning}
 use Rattle.c_type_expressions.specs.declared.names.Meaning.TheVariants.{Variable}
-use Rattle.c_type_expressions.specs.Names.{Scope, Names, or_else, found_in}
+use Rattle.c_type_expressions.specs.Names.{Scope, Names, meaning_or_else, found_in}
 use Rattle.c_type_expressions.specs.Findings.{FoundTree}
 use Rattle.c_type_declarations.specs.Scopes.{empty_scope, with_meaning, innermost, declared}
-use Rattle.c_type_declarations.specs.Progress.{ProgressTree, Met, means, next_met, breaks, breaks_if, opened, closed}
+use Rattle.c_type_declarations.specs.Progress.{ProgressTree, Met, means, next_met, breaks, breaks_if, opened, scope_left}
 use Rattle.c_source.specs.Findings.{Begins, Grows}
 use Rattle.c_source.specs.Known.{IsKnown, Knows}
 use Rattle.c_source.specs.Progress.{KeepsOuter, Advances, Stands, IsScopeKnown, AreScopesKnown, Inside, Comes, Ensures}
@@ -70,7 +70,7 @@ ensures_more R S (means a t) h k = k a t h
 
 module _ (p : ProgramTree) (f : TypedFunctionTree) where
   -- names in scopes that are known
-  either_known : (m n : Option Meaning) (o : Object) (of : ObjectType) → or_else m n ≡ Some (Variable o of) → (m ≡ Some (Variable o of) → IsKnown p f o of) → (n ≡ Some (Variable o of) → IsKnown p f o of) → IsKnown p f o of
+  either_known : (m n : Option Meaning) (o : Object) (of : ObjectType) → meaning_or_else m n ≡ Some (Variable o of) → (m ≡ Some (Variable o of) → IsKnown p f o of) → (n ≡ Some (Variable o of) → IsKnown p f o of) → IsKnown p f o of
   either_known (Some m) n o of h k j = k h
   either_known None n o of h k j = j h
 
@@ -140,5 +140,5 @@ pub declared_outer : (name : List ℕ) (m : Meaning) (names : Names) → KeepsOu
 declared_outer name m names = λ outer inner e. (_, ap (λ q. q ++ with_meaning name m (innermost names.scopes) ∷ []) (ap (λ q. take (length q - 1) q) e ∙ take_all_but_one outer inner))
 
 -- behind the end of a scope that was opened, the scopes are those of before
-pub closed_scopes : (q t : ProgressTree) → Advances (opened q) t → (closed t).names.scopes ≡ q.names.scopes
+pub closed_scopes : (q t : ProgressTree) → Advances (opened q) t → (scope_left t).names.scopes ≡ q.names.scopes
 closed_scopes q t a = let c = a.scopes q.names.scopes empty_scope refl in ap (λ l. take (length l - 1) l) c.1 ∙ take_all_but_one q.names.scopes c.0

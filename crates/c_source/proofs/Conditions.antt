@@ -6,7 +6,7 @@ use Rattle.debug_records.specs.declared.code.TheConstants.Code.{OPERAND_TYPES, R
 use Rattle.c_tree.specs.declared.extent.Extent.{Extent}
 use Rattle.c_tree.specs.declared.object_type.ValueType.{ValueType}
 use Rattle.c_tree.specs.declared.object_type.ValueType.TheVariants.{Void, Integer, Pointer}
-use Rattle.c_tree.specs.Ends.{first_of}
+use Rattle.c_tree.specs.Ends.{first_spot}
 use Rattle.c_tree.specs.Expressions.{ExpressionTree}
 use Rattle.c_tree.specs.Statements.{StartTree}
 use Rattle.c_tree.specs.Statements as tree
@@ -18,11 +18,11 @@ use Rattle.c_type_values.specs.Values.{ValueTree}
 use Rattle.c_type_values.specs.Operations as operation
 use Rattle.c_type_expressions.specs.Expressions.{is_zero}
 use Rattle.c_type_declarations.specs.Scopes.{empty_scope}
-use Rattle.c_type_declarations.specs.Progress.{ProgressTree, Met, value_met, breaks, opened, closed}
-use Rattle.c_type_declarations.specs.Initials.{tree_of}
+use Rattle.c_type_declarations.specs.Progress.{ProgressTree, Met, value_met, breaks, opened, scope_left}
+use Rattle.c_type_declarations.specs.Initials.{computed_tree}
 use Rattle.c_type_declarations.specs.Declarations.{declaration_met}
 use Rattle.c_type_statements.specs.Settings as setting
-use Rattle.c_type_statements.specs.Settings.{unless, run_met, tested, condition_met, condition_if_any, start_met, step_met, returnable, given, returns, return_met}
+use Rattle.c_type_statements.specs.Settings.{rule_unless, run_met, checked_condition, condition_met, condition_if_any, start_met, step_met, returnable, returned_value as given, returns, return_met}
 use Rattle.c_type_statements.specs.Statements.{in_scope}
 use Rattle.c_type_laws.specs.Kinds.{is_of, is_typed, is_scalar}
 use Rattle.c_type_laws.specs.Expressions.{kind_of}
@@ -50,16 +50,16 @@ same_void (Pointer o) = refl
 
 module _ (p : ProgramTree) (f : TypedFunctionTree) (low : ℕ) where
   -- a rule
-  pub unless_looks : (fine : Bool) (code : Code) (extent : Extent) (q : ProgressTree) → Looks p f low q (unless fine code extent q)
+  pub unless_looks : (fine : Bool) (code : Code) (extent : Extent) (q : ProgressTree) → Looks p f low q (rule_unless fine code extent q)
   unless_looks true code extent q = looks_itself p f low q
   unless_looks false code extent q = breaks_looks p f low code extent q
 
-  pub unless_fine : (fine : Bool) (code : Code) (extent : Extent) (q : ProgressTree) → (unless fine code extent q).found.faults ≡ [] → fine ≡ true
+  pub unless_fine : (fine : Bool) (code : Code) (extent : Extent) (q : ProgressTree) → (rule_unless fine code extent q).found.faults ≡ [] → fine ≡ true
   unless_fine true code extent q h = refl
   unless_fine false code extent q h = breaks_never p f low code extent q h
 
   -- an expression that is a statement or a part of a `for`
-  run_typed : (v : Option ValueTree) → IsThere v → HoldsOf (IsTyped p f) v → is_typed (kind_of p f (tree_of v)) ≡ true
+  run_typed : (v : Option ValueTree) → IsThere v → HoldsOf (IsTyped p f) v → is_typed (kind_of p f (computed_tree v)) ≡ true
   run_typed (Some v) there h = typed_kind (kind_of p f v.tree) v.of h.is
   run_typed None there h = absurd there
 
@@ -69,7 +69,7 @@ module _ (p : ProgramTree) (f : TypedFunctionTree) (low : ℕ) where
       (λ v t made. record { looks = made.looks; holds = λ i s. run_typed v (made.there s.accepts.faults) (made.holds i s) })
 
   -- a condition
-  tested_makes : (extent : Extent) (q : ProgressTree) (v : Option ValueTree) (t : ProgressTree) → MakesIfAny p f low (IsTyped p f) q v t → Ensures (Makes p f low (λ (r : RvalueTree). is_scalar (kind_of p f r) ≡ true) q) (tested extent v t)
+  tested_makes : (extent : Extent) (q : ProgressTree) (v : Option ValueTree) (t : ProgressTree) → MakesIfAny p f low (IsTyped p f) q v t → Ensures (Makes p f low (λ (r : RvalueTree). is_scalar (kind_of p f r) ≡ true) q) (checked_condition extent v t)
   tested_makes extent q (Some v) t made =
       let rule = unless_looks (operation.is_scalar v.of) OPERAND_TYPES extent t in
       record {
@@ -130,7 +130,7 @@ module _ (p : ProgramTree) (f : TypedFunctionTree) (low : ℕ) where
         }
 
   -- a scope of its own
-  closed_comes : (q t : ProgressTree) → Comes p f low (opened q) t → Comes p f low q (closed t)
+  closed_comes : (q t : ProgressTree) → Comes p f low (opened q) t → Comes p f low q (scope_left t)
   closed_comes q t c =
       let a = c.advances in
       let same = closed_scopes q t a in
@@ -163,7 +163,7 @@ module _ (p : ProgramTree) (f : TypedFunctionTree) where
   start_states tree.Nothing q h = record { comes = comes_itself p f (f.first_variable + f.parameters) q; numbers = nothing_numbered q q (declared_by_start typed-tree.Nothing) refl (λ vs. refl); holds = λ i s. refl }
   start_states (tree.Value e) q h =
       next_ensures (Makes p f (f.first_variable + f.parameters) (λ (r : RvalueTree). is_typed (kind_of p f r) ≡ true) q) (Starts q) (run_met e q) _ (run_makes p f (f.first_variable + f.parameters) e q h)
-      (λ r t made. record { comes = made.looks.comes; numbers = nothing_numbered q t (declared_by_start (typed-tree.Value (first_of e) r)) made.looks.same (λ vs. refl); holds = made.holds })
+      (λ r t made. record { comes = made.looks.comes; numbers = nothing_numbered q t (declared_by_start (typed-tree.Value (first_spot e) r)) made.looks.same (λ vs. refl); holds = made.holds })
   start_states (tree.Declares d) q h =
       next_ensures (DeclaresAll p f (f.first_variable + f.parameters) declared_by (λ (all : List DeclaredTree). are_declared p f all ≡ true) q) (Starts q) (declaration_met d q) _ (declaration_declares p f d q h)
       (λ all t made. record { comes = made.comes; numbers = same_numbered (declared_by all) (declared_by_start (typed-tree.Declares all)) (λ vs. refl) made.numbers; holds = made.holds })

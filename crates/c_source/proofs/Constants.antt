@@ -19,12 +19,12 @@ use Rattle.c_tree.specs.TypedExpressions.{RvalueTree, Decay, Named}
 use Rattle.c_tree.specs.Programs.{LiteralTree, StaticTree, TypedFunctionTree, ProgramTree}
 use Rattle.c_type_rules.specs.declared.constancy.Constancy.{Constancy}
 use Rattle.c_type_rules.specs.declared.constancy.Constancy.TheVariants.{Varies, Formed, Known, Address}
-use Rattle.c_type_rules.specs.Integers.{size, scalar_size}
+use Rattle.c_type_rules.specs.Integers.{integer_size, scalar_size}
 use Rattle.c_type_rules.specs.Types.{same_scalar, same_value}
-use Rattle.c_type_rules.specs.Constants.{calculated, signed}
+use Rattle.c_type_rules.specs.Constants.{calculated, constant_with_sign}
 use Rattle.c_type_rules.specs.Constancies.{is_formed, only_formed, or_formed, converted_constant, sign_constant, not_constant, arithmetic_constant, comparison_constant, and_constant, or_constant, chosen_constant, conditional_constant}
 use Rattle.c_type_values.specs.Pointers.{named_array, element_address}
-use Rattle.c_type_expressions.specs.Judgements.{address_of}
+use Rattle.c_type_expressions.specs.Judgements.{constant_address}
 use Rattle.c_type_laws.specs.Kinds.{of_if, is_of, is_array, static_is, literal_is, is_object}
 use Rattle.c_type_laws.specs.Expressions.{kind_of}
 use Rattle.c_type_laws.specs.Objects.{element_of}
@@ -55,7 +55,7 @@ converted_number t Formed h = refl
 converted_number t (Address o offset) h = h
 
 pub sign_number : (o : Sign) (t : IntegerType) (k : Constancy) → is_number k ≡ true → is_number (sign_constant o t k) ≡ true
-sign_number o t (Known z) h = or_formed_number (signed o t z)
+sign_number o t (Known z) h = or_formed_number (constant_with_sign o t z)
 sign_number o t Varies h = refl
 sign_number o t Formed h = refl
 sign_number o t (Address r offset) h = h
@@ -127,7 +127,7 @@ conditional_number c k l = by (is_formed k && is_formed l) refl
 pub of_size : (P : ℕ → Type 0) (s : Scalar) → P 1 → P 2 → P 4 → P (scalar_size s)
 of_size P s one two four = by (s.stars == 0)
   where
-    of_type : (t : IntegerType) → P (size t)
+    of_type : (t : IntegerType) → P (integer_size t)
     of_type Char = one
     of_type SignedChar = one
     of_type UnsignedChar = one
@@ -138,7 +138,7 @@ of_size P s one two four = by (s.stars == 0)
     of_type Long = four
     of_type UnsignedLong = four
 
-    by : (b : Bool) → P (if b then size s.base else 4)
+    by : (b : Bool) → P (if b then integer_size s.base else 4)
     by true = of_type s.base
     by false = four
 
@@ -185,7 +185,7 @@ module _ (p : ProgramTree) (f : TypedFunctionTree) where
   literal_begins of (Some l) h = ap (λ t. same_scalar (element_of t) (record { base = Char; stars = 0 })) (sym (object_is (object.Array (record { base = Char; stars = 0 }) (length l.bytes)) of h))
 
   -- the address of an object that is named
-  pub address_leads : (o : Object) (of : ObjectType) → is_object p f o of ≡ true → leads_to p (element_of of) (address_of o) ≡ true
+  pub address_leads : (o : Object) (of : ObjectType) → is_object p f o of ≡ true → leads_to p (element_of of) (constant_address o) ≡ true
   address_leads (designator.Static n) of h = static_begins of (slice_get p.statics n) h
   address_leads (designator.Literal n) of h = literal_begins of (slice_get p.literals n) h
   address_leads (designator.Automatic x) of h = refl

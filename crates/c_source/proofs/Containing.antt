@@ -13,10 +13,10 @@ use Rattle.c_tree.specs.Declarations.{InitializerTree, InitializerTrees, Value, 
 use Rattle.c_tree.specs.Programs.{TypedFunctionTree, ProgramTree}
 use Rattle.c_type_rules.specs.declared.constancy.Constancy.{Constancy}
 use Rattle.c_type_rules.specs.declared.constancy.Constancy.TheVariants.{Varies, Formed, Known, Address}
-use Rattle.c_type_rules.specs.Types.{loaded}
+use Rattle.c_type_rules.specs.Types.{loaded_type}
 use Rattle.c_type_values.specs.Values.{ValueTree}
 use Rattle.c_type_declarations.specs.Progress.{ProgressTree, means}
-use Rattle.c_type_declarations.specs.Objects.{is_char, literal_in, only_in, literal_if_any, only_literal, literal_for, count}
+use Rattle.c_type_declarations.specs.Objects.{is_plain_char, literal_in, only_in, literal_if_any, only_literal, literal_for, count}
 use Rattle.c_type_declarations.specs.Initials.{scalar_met, within_count}
 use Rattle.c_type_declarations.specs.Statics.{Contents, nothing, literal_bytes, constant_met, filled, fills_met, list_contents, put_met, contents_met}
 use Rattle.c_type_laws.specs.Statics.{are_bytes}
@@ -64,7 +64,7 @@ module _ (p : ProgramTree) (f : TypedFunctionTree) (low : ℕ) where
   filled_makes s extent (Some v) c q t n l h k =
       let on = constant_looks extent v.constant t in
       record { looks = looks_on p f low l on; holds = λ i e. let before = stands_before on.comes.advances e in let held = h i before in constant_fills p s n v.constant c (k i before) held.1 }
-  filled_makes s extent None c q t n l h k = record { looks = l; holds = λ i e. constant_fills p s n Varies c (k i e) (varies_is p f (loaded s)) }
+  filled_makes s extent None c q t n l h k = record { looks = l; holds = λ i e. constant_fills p s n Varies c (k i e) (varies_is p f (loaded_type s)) }
 
   -- initializers behind contents
   fills_make : (s : Scalar) (extent : Extent) (all : InitializerTrees) (c : Contents) (q t : ProgressTree) (n : ℕ) → AreInitializersFormed all → Looks p f low q t → (Inside p f low q → Stands p f t → Fills p s n c)
@@ -107,7 +107,7 @@ module _ (p : ProgramTree) (f : TypedFunctionTree) (low : ℕ) where
       by : (o : Option (Spot × List ℕ)) → literal_for s i ≡ o
           → Ensures (Makes p f low (Fits p (object.Array s size)) q) (option_map_or (λ l. means (record { bytes = literal_bytes size l.1; relocations = [] }) (within_count (length l.1) size extent q)) o (list_contents s size extent i q))
       by (Some l) is =
-          let c = char_by (is_char s) (only_literal i) l is in
+          let c = char_by (is_plain_char s) (only_literal i) l is in
           record { looks = within_looks p f low (length l.1) size extent q; holds = λ a e. literal_fits p s size l.1 c.0 (only_literal_formed i l c.1 h) }
       by None is = list_makes s size extent i q h
 

@@ -22,15 +22,15 @@ use Rattle.c_type_rules.specs.Integers.{integer, promoted, unsigned_of, rank, is
 use Rattle.c_type_rules.specs.Constancies.{converted_constant, not_constant, and_constant, or_constant}
 use Rattle.c_type_rules.specs.Types.{same_object, same_value, pointed_to}
 use Rattle.c_type_rules.specs.declared.constancy.Constancy.TheVariants.{Varies}
-use Rattle.c_type_values.specs.Values.{ValueTree, MeantTree, IsObject, IsValue, as_value, is_of, to_integer, null, converted_from, converted}
-use Rattle.c_type_values.specs.Pointers.{address, target_of, dereferenced, elements, element_of}
+use Rattle.c_type_values.specs.Values.{ValueTree, MeantTree, IsObject, IsValue, as_value, is_integer_of, to_integer, null, converted_from, converted_value}
+use Rattle.c_type_values.specs.Pointers.{address, target_of, dereferenced, elements, subscript}
 use Rattle.c_type_values.specs.Operations as operation
-use Rattle.c_type_values.specs.Operations.{is_shift, is_equality, signed_as, signed_value, negated, in_types, arithmetic_value, moved_by, moved_behind, difference_by, calculated_as, calculated_value, pointers_compared, compared_as, compared_value, combined, chosen, chosen_as, conditional}
+use Rattle.c_type_values.specs.Operations.{is_shift, is_equality, signed_as, signed_value, negated, in_types, arithmetic_value, pointer_sum, moved_behind, difference_by, calculated_as, calculated_value, comparison_of_pointers, compared_as, compared_value, combined, conditional_value, chosen_as, conditional_meaning}
 use Rattle.c_type_values.specs.declared.operation.Operation as declared-operation
 use Rattle.c_type_values.specs.declared.operation.Operation.TheVariants.{Calculates, Compares, Both, Either}
-use Rattle.c_type_values.specs.Writing.{stepped, assigned, integer_updated, pointer_updated, update_tree, updated_by, updated}
+use Rattle.c_type_values.specs.Writing.{stepped, simple_assignment, integer_updated, pointer_updated, update_tree, updated_by, compound_assignment}
 use Rattle.c_type_laws.specs.Weighing.{weighed, weighed_place, conversion}
-use Rattle.c_type_expressions.specs.Findings.{FoundTree, Checked, gives, next, with_one, with_two, with_three, judged}
+use Rattle.c_type_expressions.specs.Findings.{FoundTree, Checked, gives, check_next, with_one, with_two, with_three, judged}
 use Rattle.c_type_expressions.specs.Judgements.{Meant, valued}
 
 -- what the tree of what is meant weighs at least, and that of a value: where no conversion is implied, and where one is
@@ -99,7 +99,7 @@ abbrev pub GivesFew : {A : Type 0} → (A → ℕ) → ℕ → Checked (Option A
 GivesFew size n (gives m s) = Few size n m
 
 module _ {A B C D : Type 0} (sa : A → ℕ) (sb : B → ℕ) (sc : C → ℕ) (sd : D → ℕ) where
-  pub next_few : (n k : ℕ) (c : Checked (Option A)) (g : Option A → FoundTree → Checked (Option D)) → GivesFew sa n c → ((m : Option A) (t : FoundTree) → Few sa n m → GivesFew sd k (g m t)) → GivesFew sd k (next c g)
+  pub next_few : (n k : ℕ) (c : Checked (Option A)) (g : Option A → FoundTree → Checked (Option D)) → GivesFew sa n c → ((m : Option A) (t : FoundTree) → Few sa n m → GivesFew sd k (g m t)) → GivesFew sd k (check_next c g)
   next_few n k (gives m t) g h f = f m t h
 
   pub one_few : (n k : ℕ) (m : Option A) (g : A → FoundTree → Checked (Option D)) (s : FoundTree) → Few sa n m → ((a : A) → sa a ≤ n → GivesFew sd k (g a s)) → GivesFew sd k (with_one m g s)
@@ -144,7 +144,7 @@ option_few n (Some v) h = h
 -- a conversion to a type that is not narrow weighs nothing, nor does one that is implied
 to_wide : (t : IntegerType) (v : ValueTree) → is_narrow t ≡ false → weighed false (to_integer t v).tree ≡ weighed false v.tree
 unfolding to_integer
-to_wide t v h = by (is_of v.of t)
+to_wide t v h = by (is_integer_of v.of t)
   where
     by : (b : Bool) → weighed false (if b then v else record { of = Integer t; tree = Convert t v.tree; constant = converted_constant t v.constant }).tree ≡ weighed false v.tree
     by true = refl
@@ -158,14 +158,14 @@ to_common t u v = to_wide (common t u) v (common_wide t u)
 
 to_implied : (t : IntegerType) (v : ValueTree) → weighed true (to_integer t v).tree ≤ weighed false v.tree
 unfolding to_integer
-to_implied t v = by (is_of v.of t)
+to_implied t v = by (is_integer_of v.of t)
   where
     by : (b : Bool) → weighed true (if b then v else record { of = Integer t; tree = Convert t v.tree; constant = converted_constant t v.constant }).tree ≤ weighed false v.tree
     by true = implied_less v.tree
     by false = omega arith
 
 -- a value as if assigned
-pub converted_few : (v : ValueTree) (to : ValueType) (zero : Bool) (n : ℕ) → 1 ≤ n → weighed false v.tree ≤ n → Few implied_weight n (converted v to zero)
+pub converted_few : (v : ValueTree) (to : ValueType) (zero : Bool) (n : ℕ) → 1 ≤ n → weighed false v.tree ≤ n → Few implied_weight n (converted_value v to zero)
 converted_few v to zero n one h = by to v.of
   where
     same : (b : Bool) → Few implied_weight n (if b then Some v else None)
@@ -198,7 +198,7 @@ dereferenced_few v n h = by v.of
     by (Integer t) = tt
     by (Pointer of) = omega (arith, h)
 
-pub element_few : (a b : ValueTree) (n m : ℕ) → weighed false a.tree ≤ n → weighed false b.tree ≤ m → Few meant_weight (1 + n + m) (element_of a b)
+pub element_few : (a b : ValueTree) (n m : ℕ) → weighed false a.tree ≤ n → weighed false b.tree ≤ m → Few meant_weight (1 + n + m) (subscript a b)
 element_few a b n m h g = by a.of b.of
   where
     by : (t u : ValueType) → Few meant_weight (1 + n + m) (elements t u a b)
@@ -236,7 +236,7 @@ module _ (a b : ValueTree) (n m : ℕ) (first : 1 ≤ n) (second : 1 ≤ m) (h :
       by true = let e = to_promoted t a in let d = to_promoted u b in omega (arith, h, g, e, d)
       by false = let e = to_common t u a in let d = to_common t u b in omega (arith, h, g, e, d)
 
-  moved_few : (o : declared-arithmetic.Arithmetic) (of : ObjectType) (t : IntegerType) → Few value_weight (1 + n + m) (moved_by o of t a b)
+  moved_few : (o : declared-arithmetic.Arithmetic) (of : ObjectType) (t : IntegerType) → Few value_weight (1 + n + m) (pointer_sum o of t a b)
   moved_few arithmetic.Add of t = let e = to_promoted t b in omega (arith, h, g, e)
   moved_few arithmetic.Subtract of t = let e = to_promoted t b in omega (arith, h, g, e)
   moved_few _ of t = tt
@@ -248,7 +248,7 @@ module _ (a b : ValueTree) (n m : ℕ) (first : 1 ≤ n) (second : 1 ≤ m) (h :
   difference_few : (o : declared-arithmetic.Arithmetic) (r q : ObjectType) → Few value_weight (1 + n + m) (difference_by o r q a b)
   difference_few arithmetic.Subtract r q = by (same_object r q)
     where
-      by : (s : Bool) → Few value_weight (1 + n + m) (if s then Some (operation.difference r a b) else None)
+      by : (s : Bool) → Few value_weight (1 + n + m) (if s then Some (operation.element_difference r a b) else None)
       by true = omega (arith, h, g)
       by false = tt
   difference_few _ r q = tt
@@ -268,15 +268,15 @@ module _ (a b : ValueTree) (n m : ℕ) (first : 1 ≤ n) (second : 1 ≤ m) (h :
   compared_few : (o : Comparison) (az bz : Bool) → Few value_weight (1 + n + m) (compared_value o a b az bz)
   compared_few o az bz = by a.of b.of
     where
-      two : (s : Bool) → Few value_weight (1 + n + m) (if s then Some (pointers_compared o a b) else None)
+      two : (s : Bool) → Few value_weight (1 + n + m) (if s then Some (comparison_of_pointers o a b) else None)
       two true = omega (arith, h, g)
       two false = tt
 
-      right : (s : Bool) → Few value_weight (1 + n + m) (if s then Some (pointers_compared o a (null a.of)) else None)
+      right : (s : Bool) → Few value_weight (1 + n + m) (if s then Some (comparison_of_pointers o a (null a.of)) else None)
       right true = omega (arith, h, second)
       right false = tt
 
-      left : (s : Bool) → Few value_weight (1 + n + m) (if s then Some (pointers_compared o (null b.of) b) else None)
+      left : (s : Bool) → Few value_weight (1 + n + m) (if s then Some (comparison_of_pointers o (null b.of) b) else None)
       left true = omega (arith, first, g)
       left false = tt
 
@@ -289,14 +289,14 @@ module _ (a b : ValueTree) (n m : ℕ) (first : 1 ≤ n) (second : 1 ≤ m) (h :
       by (Integer t) Void = tt
       by (Pointer r) Void = tt
 
-  both_few : Few value_weight (1 + n + m) (operation.both a b)
+  both_few : Few value_weight (1 + n + m) (operation.logical_and a b)
   both_few = by (operation.is_scalar a.of && operation.is_scalar b.of)
     where
       by : (s : Bool) → Few value_weight (1 + n + m) (if s then Some (record { of = Integer Int; tree = And a.tree b.tree; constant = and_constant a.constant b.constant }) else None)
       by true = omega (arith, h, g)
       by false = tt
 
-  either_few : Few value_weight (1 + n + m) (operation.either a b)
+  either_few : Few value_weight (1 + n + m) (operation.logical_or a b)
   either_few = by (operation.is_scalar a.of && operation.is_scalar b.of)
     where
       by : (s : Bool) → Few value_weight (1 + n + m) (if s then Some (record { of = Integer Int; tree = Or a.tree b.tree; constant = or_constant a.constant b.constant }) else None)
@@ -310,18 +310,18 @@ module _ (a b : ValueTree) (n m : ℕ) (first : 1 ≤ n) (second : 1 ≤ m) (h :
   combined_few Either az bz = either_few
 
   -- `a?b:c`
-  pub conditional_few : (c : ValueTree) (k : ℕ) (az bz : Bool) → weighed false c.tree ≤ k → Few value_weight (1 + k + n + m) (conditional c a b az bz)
+  pub conditional_few : (c : ValueTree) (k : ℕ) (az bz : Bool) → weighed false c.tree ≤ k → Few value_weight (1 + k + n + m) (conditional_meaning c a b az bz)
   conditional_few c k az bz i = by (operation.is_scalar c.of)
     where
-      right : (s : Bool) → Few value_weight (1 + k + n + m) (if s then Some (chosen a.of c a (null a.of) Varies) else None)
+      right : (s : Bool) → Few value_weight (1 + k + n + m) (if s then Some (conditional_value a.of c a (null a.of) Varies) else None)
       right true = omega (arith, i, h, second)
       right false = tt
 
-      left : (s : Bool) → Few value_weight (1 + k + n + m) (if s then Some (chosen b.of c (null b.of) b Varies) else None)
+      left : (s : Bool) → Few value_weight (1 + k + n + m) (if s then Some (conditional_value b.of c (null b.of) b Varies) else None)
       left true = omega (arith, i, first, g)
       left false = tt
 
-      same : (t : ValueType) (s : Bool) → Few value_weight (1 + k + n + m) (if s then Some (chosen t c a b Varies) else None)
+      same : (t : ValueType) (s : Bool) → Few value_weight (1 + k + n + m) (if s then Some (conditional_value t c a b Varies) else None)
       same t true = omega (arith, i, h, g)
       same t false = tt
 
@@ -348,7 +348,7 @@ stepped_few d g (IsObject (object.Scalar s) l k) n h = by (s.stars == 0)
 stepped_few d g (IsObject (object.Array e c) l k) n h = omega (arith, h)
 stepped_few d g (IsValue v) n h = omega (arith, h)
 
-pub assigned_few : (m : MeantTree) (o : Option ValueTree) (n k : ℕ) → meant_weight m ≤ n → Few implied_weight k o → weighed false (assigned m o).tree ≤ 1 + n + k
+pub assigned_few : (m : MeantTree) (o : Option ValueTree) (n k : ℕ) → meant_weight m ≤ n → Few implied_weight k o → weighed false (simple_assignment m o).tree ≤ 1 + n + k
 assigned_few (IsObject (object.Scalar s) l c) (Some v) n k h g = omega (arith, h, g)
 assigned_few (IsObject (object.Scalar s) l c) None n k h g = omega (arith, h)
 assigned_few (IsObject (object.Array e j) l c) (Some v) n k h g = omega (arith, h)
@@ -368,7 +368,7 @@ update_few o s u l v = by (s.stars == 0)
     by true = let e = to_wide (if is_shift o then promoted u else common s.base u) v (wide (is_shift o)) in omega (arith, e)
     by false = let e = to_promoted u v in omega (arith, e)
 
-pub updated_few : (o : declared-arithmetic.Arithmetic) (m : MeantTree) (v : ValueTree) (n k : ℕ) → meant_weight m ≤ n → weighed false v.tree ≤ k → weighed false (updated o m v).tree ≤ 1 + n + k
+pub updated_few : (o : declared-arithmetic.Arithmetic) (m : MeantTree) (v : ValueTree) (n k : ℕ) → meant_weight m ≤ n → weighed false v.tree ≤ k → weighed false (compound_assignment o m v).tree ≤ 1 + n + k
 updated_few o m v n k h g = by m v.of h
   where
     by : (m : MeantTree) (t : ValueType) → meant_weight m ≤ n → weighed false (updated_by o m t v).tree ≤ 1 + n + k

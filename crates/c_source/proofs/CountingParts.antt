@@ -12,15 +12,15 @@ use Rattle.c_tree.specs.Expressions.{ExpressionTree}
 use Rattle.c_tree.specs.Declarations.{InitializerTree, InitializerTrees, Value, Braces, DeclaratorTree}
 use Rattle.c_tree.specs.Declarations as declaration
 use Rattle.c_tree.specs.TypedStatements.{DeclaredTree}
-use Rattle.c_type_rules.specs.Types.{loaded}
+use Rattle.c_type_rules.specs.Types.{loaded_type}
 use Rattle.c_type_bounds.specs.Weights.{weight_of, initializer_weight, initializers_weight, initial_weight, declarator_weight, declarators_weight}
-use Rattle.c_type_values.specs.Values.{ValueTree, converted}
+use Rattle.c_type_values.specs.Values.{ValueTree, converted_value}
 use Rattle.c_type_expressions.specs.Findings.{Checked, gives}
 use Rattle.c_type_expressions.specs.Judgements.{valued}
 use Rattle.c_type_expressions.specs.Expressions.{typed, is_zero}
-use Rattle.c_type_declarations.specs.Progress.{ProgressTree, within, value_met}
+use Rattle.c_type_declarations.specs.Progress.{ProgressTree, check_within, value_met}
 use Rattle.c_type_declarations.specs.Objects.{literal_for, only_in, type_met}
-use Rattle.c_type_declarations.specs.Initials.{or_misfit, fitted, fitting, braces_met, scalar_met, tree_of, elements_met, array_literal_met, list_met, written_met, initial_met}
+use Rattle.c_type_declarations.specs.Initials.{or_misfit, fitted, fitting, braces_met, scalar_met, computed_tree, elements_met, array_literal_met, list_met, written_met, initial_met}
 use Rattle.c_type_declarations.specs.Declarations.{automatic_of_type, automatic_met, automatics_met}
 use Rattle.c_type_laws.specs.Weighing.{weighed, weighed_elements, weighed_initial, weighed_declared}
 use Rattle.c_source.specs.Progress.{Ensures}
@@ -41,11 +41,11 @@ pub value_few : (e : ExpressionTree) (q : ProgressTree) → Ensures (HasFew (wei
 unfolding value_met
 value_few e q = by (valued (typed q.names e q.found)) (valued_few (weight_of e) (typed q.names e q.found) (typed_few q.names e q.found))
   where
-    by : (c : Checked (Option ValueTree)) → GivesFew value_weight (weight_of e) c → Ensures (HasFew (weight_of e)) (within q c)
+    by : (c : Checked (Option ValueTree)) → GivesFew value_weight (weight_of e) c → Ensures (HasFew (weight_of e)) (check_within q c)
     by (gives v s) h = h
 
 -- what there is where nothing is
-pub tree_few : (v : Option ValueTree) (n : ℕ) → 1 ≤ n → Few value_weight n v → weighed false (tree_of v) ≤ n
+pub tree_few : (v : Option ValueTree) (n : ℕ) → 1 ≤ n → Few value_weight n v → weighed false (computed_tree v) ≤ n
 tree_few (Some v) n one h = h
 tree_few None n one h = omega (arith, one)
 
@@ -53,7 +53,7 @@ tree_few None n one h = omega (arith, one)
 abbrev HasImplied : ℕ → Option ValueTree → ProgressTree → Type 0
 HasImplied n v t = Few implied_weight n v
 
-implied_few : (v : Option ValueTree) (n : ℕ) → 1 ≤ n → Few implied_weight n v → weighed true (tree_of v) ≤ n
+implied_few : (v : Option ValueTree) (n : ℕ) → 1 ≤ n → Few implied_weight n v → weighed true (computed_tree v) ≤ n
 implied_few (Some v) n one h = h
 implied_few None n one h = omega (arith, one)
 
@@ -63,7 +63,7 @@ or_misfit_few n (Some v) extent q h = h
 or_misfit_few n None extent q h = tt
 
 fitted_few : (n : ℕ) (s : Scalar) (extent : Extent) (z : Bool) (v : Option ValueTree) (q : ProgressTree) → 1 ≤ n → Few value_weight n v → Ensures (HasImplied n) (fitted s extent z v q)
-fitted_few n s extent z (Some v) q one h = or_misfit_few n (converted v (loaded s) z) extent q (converted_few v (loaded s) z n one h)
+fitted_few n s extent z (Some v) q one h = or_misfit_few n (converted_value v (loaded_type s) z) extent q (converted_few v (loaded_type s) z n one h)
 fitted_few n s extent z None q one h = tt
 
 fitting_few : (s : Scalar) (extent : Extent) (e : ExpressionTree) (q : ProgressTree) → Ensures (HasImplied (weight_of e)) (fitting s extent e q)

@@ -14,9 +14,9 @@ use Rattle.c_type_values.specs.Values.{ValueTree}
 use Rattle.c_type_expressions.specs.Expressions.{is_zero}
 use Rattle.c_type_declarations.specs.Progress.{ProgressTree, Met, means, opened, value_met}
 use Rattle.c_type_statements.specs.declared.setting.Setting.{Setting}
-use Rattle.c_type_statements.specs.Settings.{in_loop, in_switch, run_met, tested, condition_met, condition_if_any, start_met, step_met, returnable, given, returns, return_met}
-use Rattle.c_type_statements.specs.Switches.{Chosen, chosen_by, chosen, chosen_met, case_value, case_numbered, case_by, Labels, no_labels, Place, Outside, Inside, labels_at, behind_label, label_at, Labeled, Parts, PartTree, Case, Default, Statement, unlabeled, bare, put_all}
-use Rattle.c_type_statements.specs.Statements.{in_scope, met, statements_met, items_met}
+use Rattle.c_type_statements.specs.Settings.{in_loop, in_switch, run_met, checked_condition, condition_met, condition_if_any, start_met, step_met, returnable, returned_value, returns, return_met}
+use Rattle.c_type_statements.specs.Switches.{Chosen, chosen_by, controlling_value, chosen_met, case_value, case_numbered, case_by, Labels, no_labels, StatementPlace, Outside, Inside, labels_at, behind_label, label_at, Labeled, Parts, PartTree, Case, Default, Statement, without_label, bare, put_all}
+use Rattle.c_type_statements.specs.Statements.{in_scope, met, statements_met, block_items_met}
 use Rattle.c_type_laws.specs.Weighing.{weighed, weighed_declared, weighed_start, weighed_option, weighed_step, weighed_statement, weighed_statements}
 use Rattle.c_source.specs.Progress.{Ensures}
 use Rattle.c_source.proofs.Coming.{next_ensures}
@@ -32,7 +32,7 @@ run_few e q = next_ensures (HasFew (weight_of e)) (AtMost (weighed false) (weigh
 condition_few : (extent : Extent) (e : ExpressionTree) (q : ProgressTree) → Ensures (AtMost (weighed false) (weight_of e)) (condition_met extent e q)
 condition_few extent e q = next_ensures (HasFew (weight_of e)) (AtMost (weighed false) (weight_of e)) (value_met e q) _ (value_few e q) (λ v t h. by v t h)
   where
-    by : (v : Option ValueTree) (t : ProgressTree) → Few value_weight (weight_of e) v → Ensures (AtMost (weighed false) (weight_of e)) (tested extent v t)
+    by : (v : Option ValueTree) (t : ProgressTree) → Few value_weight (weight_of e) v → Ensures (AtMost (weighed false) (weight_of e)) (checked_condition extent v t)
     by (Some v) t h = h
     by None t h = weighs e
 
@@ -58,7 +58,7 @@ return_few : (of : ValueType) (extent : Extent) (e : Option ExpressionTree) (q :
 return_few of extent None q = omega arith
 return_few of extent (Some e) q = next_ensures (HasFew (weight_of e)) (AtMost (weighed_option true) (weight_of e)) (value_met e q) _ (value_few e q) (λ v t h. by v t h)
   where
-    what : (o : Option ValueTree) (t : ProgressTree) → Few implied_weight (weight_of e) o → Ensures (AtMost (weighed_option true) (weight_of e)) (given o extent t)
+    what : (o : Option ValueTree) (t : ProgressTree) → Few implied_weight (weight_of e) o → Ensures (AtMost (weighed_option true) (weight_of e)) (returned_value o extent t)
     what (Some v) t h = h
     what None t h = omega arith
 
@@ -77,7 +77,7 @@ chosen_few extent e q = next_ensures (HasFew (weight_of e)) (AtMost chosen_weigh
     of_type Void v t h = h
     of_type (Pointer o) v t h = h
 
-    by : (v : Option ValueTree) (t : ProgressTree) → Few value_weight (weight_of e) v → Ensures (AtMost chosen_weight (weight_of e)) (chosen extent v t)
+    by : (v : Option ValueTree) (t : ProgressTree) → Few value_weight (weight_of e) v → Ensures (AtMost chosen_weight (weight_of e)) (controlling_value extent v t)
     by (Some v) t h = of_type v.of v t h
     by None t h = weighs e
 
@@ -114,16 +114,16 @@ case_by_few : (kind : Option IntegerType) (extent : Extent) (ls : Labels) (v : O
 case_by_few kind extent ls (Some v) q = case_few (case_value kind v.of v.constant) extent ls q
 case_by_few kind extent ls None q = omega arith
 
-case_label_few : (place : Place) (extent : Extent) (e : ExpressionTree) (q : ProgressTree) → Ensures (AtMost label_weight 2) (label_at place (CaseLabel extent e) q)
+case_label_few : (place : StatementPlace) (extent : Extent) (e : ExpressionTree) (q : ProgressTree) → Ensures (AtMost label_weight 2) (label_at place (CaseLabel extent e) q)
 case_label_few Outside extent e q = omega arith
 case_label_few (Inside kind ls) extent e q = next_any (AtMost label_weight 2) (value_met e q) _ (λ v t. case_by_few kind extent ls v t)
 
-default_label_few : (place : Place) (extent : Extent) (q : ProgressTree) → Ensures (AtMost label_weight 1) (label_at place (DefaultLabel extent) q)
+default_label_few : (place : StatementPlace) (extent : Extent) (q : ProgressTree) → Ensures (AtMost label_weight 1) (label_at place (DefaultLabel extent) q)
 default_label_few Outside extent q = omega arith
 default_label_few (Inside kind ls) extent q = omega arith
 
-unlabeled_few : (ls : Labels) (n : ℕ) (m : Met TypedStatementTree) → Ensures (AtMost weighed_statement n) m → Ensures (AtMost labeled_weight n) (unlabeled ls m)
-unfolding unlabeled
+unlabeled_few : (ls : Labels) (n : ℕ) (m : Met TypedStatementTree) → Ensures (AtMost weighed_statement n) m → Ensures (AtMost labeled_weight n) (without_label ls m)
+unfolding without_label
 unlabeled_few ls n m h = next_ensures (AtMost weighed_statement n) (AtMost labeled_weight n) m _ h (λ s t c. omega (arith, c))
 
 bare_few : (n : ℕ) (m : Met Labeled) → Ensures (AtMost labeled_weight n) m → Ensures (AtMost weighed_statement n) (bare m)
@@ -135,7 +135,7 @@ scope_few size n f q h = next_ensures (AtMost size n) (AtMost size n) (f (opened
 
 mutual
   -- a statement with its labels
-  met_few : (place : Place) (g : Setting) (s : StatementTree) (q : ProgressTree) → Ensures (AtMost labeled_weight (statement_weight s)) (met place g s q)
+  met_few : (place : StatementPlace) (g : Setting) (s : StatementTree) (q : ProgressTree) → Ensures (AtMost labeled_weight (statement_weight s)) (met place g s q)
   met_few place g (tree.Compound opening all closing) q =
       let n = 1 + statements_weight all in
       unlabeled_few (labels_at place) n _
@@ -185,8 +185,8 @@ mutual
       unlabeled_few (labels_at place) n _
       (next_ensures (AtMost chosen_weight (weight_of e)) (AtMost weighed_statement n) _ _ (chosen_few _ e q)
       (λ ch t h.
-      next_ensures (AtMost weighed_statements (statements_weight all)) (AtMost weighed_statement n) (in_scope (items_met (in_switch g) ch.kind all no_labels) t) _
-      (scope_few weighed_statements (statements_weight all) (items_met (in_switch g) ch.kind all no_labels) t (parts_few (in_switch g) ch.kind all no_labels (opened t))) (λ ts u k. omega (arith, h, k))))
+      next_ensures (AtMost weighed_statements (statements_weight all)) (AtMost weighed_statement n) (in_scope (block_items_met (in_switch g) ch.kind all no_labels) t) _
+      (scope_few weighed_statements (statements_weight all) (block_items_met (in_switch g) ch.kind all no_labels) t (parts_few (in_switch g) ch.kind all no_labels (opened t))) (λ ts u k. omega (arith, h, k))))
   met_few place g (tree.Case extent e s) q =
       let n = 1 + weight_of e + statement_weight s in
       next_ensures (AtMost label_weight 2) (AtMost labeled_weight n) (label_at place (CaseLabel extent e) q) _ (case_label_few place extent e q)
@@ -213,11 +213,11 @@ mutual
       (λ a t h. next_ensures (AtMost weighed_statements (statements_weight rest)) (AtMost weighed_statements n) (statements_met g rest t) _ (all_few g rest t) (λ ts u k. omega (arith, h, k)))
 
   -- those of the block of a `switch`
-  parts_few : (g : Setting) (kind : Option IntegerType) (all : StatementTrees) (ls : Labels) (q : ProgressTree) → Ensures (AtMost weighed_statements (statements_weight all)) (items_met g kind all ls q)
+  parts_few : (g : Setting) (kind : Option IntegerType) (all : StatementTrees) (ls : Labels) (q : ProgressTree) → Ensures (AtMost weighed_statements (statements_weight all)) (block_items_met g kind all ls q)
   parts_few g kind tree.none ls q = omega arith
   parts_few g kind (tree.first s rest) ls q =
       let n = statement_weight s + statements_weight rest in
       next_ensures (AtMost labeled_weight (statement_weight s)) (AtMost weighed_statements n) (met (Inside kind ls) g s q) _ (met_few (Inside kind ls) g s q)
       (λ x t h.
-      next_ensures (AtMost weighed_statements (statements_weight rest)) (AtMost weighed_statements n) (items_met g kind rest x.labels t) _ (parts_few g kind rest x.labels t)
+      next_ensures (AtMost weighed_statements (statements_weight rest)) (AtMost weighed_statements n) (block_items_met g kind rest x.labels t) _ (parts_few g kind rest x.labels t)
       (λ ts u k. let c = put_weight (x.before ++ Statement x.statement ∷ []) ts in let d = parts_on x.before (Statement x.statement ∷ []) in omega (arith, h, k, c, d)))

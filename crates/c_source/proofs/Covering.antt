@@ -8,7 +8,7 @@ use Rattle.c_tree.specs.declared.extent.Extent.{Extent}
 use Rattle.c_tree.specs.declared.types.IntegerType.{IntegerType}
 use Rattle.c_tree.specs.declared.object_type.Object.TheVariants as designator
 use Rattle.c_tree.specs.declared.object_type.ObjectType.{ObjectType}
-use Rattle.c_tree.specs.Ends.{first_of}
+use Rattle.c_tree.specs.Ends.{first_spot}
 use Rattle.c_tree.specs.Expressions.{ExpressionTree}
 use Rattle.c_tree.specs.Declarations.{DeclaratorTree, DeclarationTree}
 use Rattle.c_tree.specs.Statements.{StartTree, CaseLabel, DefaultLabel, StatementTree, StatementTrees}
@@ -24,10 +24,10 @@ use Rattle.c_type_declarations.specs.Objects.{type_met}
 use Rattle.c_type_declarations.specs.Initials.{initial_met}
 use Rattle.c_type_declarations.specs.Declarations.{is_array, with_automatic, automatic_of_type, automatic_met, automatics_met, declaration_met}
 use Rattle.c_type_statements.specs.declared.setting.Setting.{Setting}
-use Rattle.c_type_statements.specs.Settings.{in_loop, in_switch, unless, run_met, condition_met, condition_if_any, start_met, step_met, return_met}
-use Rattle.c_type_statements.specs.Switches.{PartTree, Case, Default, Statement, chosen_met, Labels, no_labels, Place, Outside, labels_at, behind_label, label_at, Labeled, unlabeled, bare, put_all}
+use Rattle.c_type_statements.specs.Settings.{in_loop, in_switch, rule_unless, run_met, condition_met, condition_if_any, start_met, step_met, return_met}
+use Rattle.c_type_statements.specs.Switches.{PartTree, Case, Default, Statement, chosen_met, Labels, no_labels, StatementPlace, Outside, labels_at, behind_label, label_at, Labeled, without_label, bare, put_all}
 use Rattle.c_type_statements.specs.Switches as switch
-use Rattle.c_type_statements.specs.Statements.{to_end, head_of, in_scope, met, statements_met, items_met}
+use Rattle.c_type_statements.specs.Statements.{to_end, head_of, in_scope, met, statements_met, block_items_met}
 use Rattle.c_source.specs.TextOrder.{spots_of, spots_if_any, spots_of_brackets, spots_of_initial, spots_of_declarator, spots_of_declarators, spots_of_start, spots_of_statement, spots_of_statements}
 use Rattle.c_source.specs.Progress.{Ensures}
 use Rattle.c_source.specs.Stating.{are_labels}
@@ -118,13 +118,13 @@ declaration_covers d q = declarators_cover d.type d.declarators q
 start_covers : (s : StartTree) (q : ProgressTree) → CoversBy stops_of_start (spots_of_start s) q (start_met s q)
 start_covers tree.Nothing q = covers_read [] [] q q refl (reads_itself [] q)
 start_covers (tree.Value e) q =
-    behind_read stops_of_start (spots_of e) (spots_of e) q q (run_met e q) _ (run_reads e q) (λ r t one. covers_read (spots_of e) (first_of e ∷ []) q t (begins_with e) one)
+    behind_read stops_of_start (spots_of e) (spots_of e) q q (run_met e q) _ (run_reads e q) (λ r t one. covers_read (spots_of e) (first_spot e ∷ []) q t (begins_with e) one)
 start_covers (tree.Declares d) q =
     behind stops_of_declarators stops_of_start (spots_of_declarators d.declarators) (spots_of_declarators d.declarators) q q (declaration_met d q) _ (declaration_covers d q) (λ all t c. c)
 
 step_covers : (s : Option ExpressionTree) (q : ProgressTree) → CoversBy stops_of_step (spots_if_any s) q (step_met s q)
 step_covers (Some e) q =
-    behind_read stops_of_step (spots_of e) (spots_of e) q q (run_met e q) _ (run_reads e q) (λ r t one. covers_read (spots_of e) (first_of e ∷ []) q t (begins_with e) one)
+    behind_read stops_of_step (spots_of e) (spots_of e) q q (run_met e q) _ (run_reads e q) (λ r t one. covers_read (spots_of e) (first_spot e ∷ []) q t (begins_with e) one)
 step_covers None q = covers_read [] [] q q refl (reads_itself [] q)
 
 -- a `for`, by its parts
@@ -139,7 +139,7 @@ for_covers spot None None A C D before step body q t u v w same one two three fo
 for_covers spot (Some e) (Some r) A C D before step body q t u v w same one two three four =
     let B = spots_of e in
     let W = A ++ B ++ C ++ D in
-    let here = first_of e ∷ [] in
+    let here = first_spot e ∷ [] in
     let first_two = covers_on A B before here q t u one (covers_read B here t u (begins_with e) two) in
     let whole = covers_on (A ++ B ++ C) D (before ++ here ++ step) body q v w (covers_on (A ++ B) C (before ++ here) step q u v first_two three) four in
     covers_more W (spot ∷ W) (before ++ here ++ step ++ body) q w (inl (part_all W)) whole
@@ -151,8 +151,8 @@ pub record CoversLabeled (whole : List Spot) (q : ProgressTree) (x : Labeled) (t
   pub covers : Covers whole q (stops_of x.statement) t
   pub labels : are_labels x.before ≡ true
 
-unlabeled_covers : (place : Place) (whole : List Spot) (q : ProgressTree) (m : Met TypedStatementTree) → CoversBy stops_of whole q m → Ensures (CoversLabeled whole q) (unlabeled (labels_at place) m)
-unfolding unlabeled
+unlabeled_covers : (place : StatementPlace) (whole : List Spot) (q : ProgressTree) (m : Met TypedStatementTree) → CoversBy stops_of whole q m → Ensures (CoversLabeled whole q) (without_label (labels_at place) m)
+unfolding without_label
 unlabeled_covers place whole q m h = next_ensures (λ (s : TypedStatementTree) (t : ProgressTree). Covers whole q (stops_of s) t) (CoversLabeled whole q) m _ h (λ s t c. record { covers = c; labels = refl })
 
 bare_covers : (whole : List Spot) (q : ProgressTree) (m : Met Labeled) → Ensures (CoversLabeled whole q) m → CoversBy stops_of whole q (bare m)
@@ -173,7 +173,7 @@ behind_condition spot first C S stops q t u h one two =
 
 mutual
   -- The check of a statement covers it.
-  pub met_covers : (place : Place) (g : Setting) (s : StatementTree) (q : ProgressTree) → Ensures (CoversLabeled (spots_of_statement s) q) (met place g s q)
+  pub met_covers : (place : StatementPlace) (g : Setting) (s : StatementTree) (q : ProgressTree) → Ensures (CoversLabeled (spots_of_statement s) q) (met place g s q)
   met_covers place g (tree.Compound opening all closing) q =
       let S = spots_of_statements all in
       let W = opening ∷ S ++ closing ∷ [] in
@@ -185,14 +185,14 @@ mutual
       unlabeled_covers place W q _ (behind stops_of_declarators stops_of W W q q (declaration_met d q) _ (declaration_covers d q) (λ all t c. c))
   met_covers place g (tree.Empty spot) q = unlabeled_covers place (spot ∷ []) q _ (covers_read (spot ∷ []) (spot ∷ []) q q (part_all (spot ∷ [])) (reads_itself (spot ∷ []) q))
   met_covers place g (tree.Run e last) q =
-      unlabeled_covers place (spots_of e) q _ (behind_read stops_of (spots_of e) (spots_of e) q q (run_met e q) _ (run_reads e q) (λ v t one. covers_read (spots_of e) (first_of e ∷ []) q t (begins_with e) one))
+      unlabeled_covers place (spots_of e) q _ (behind_read stops_of (spots_of e) (spots_of e) q q (run_met e q) _ (run_reads e q) (λ v t one. covers_read (spots_of e) (first_spot e ∷ []) q t (begins_with e) one))
   met_covers place g (tree.If spot c s) q =
       let C = spots_of c in
       let S = spots_of_statement s in
       let W = spot ∷ C ++ S in
       unlabeled_covers place W q _
       (behind_read stops_of C W q q (condition_met (to_end spot s) c q) _ (condition_reads (to_end spot s) c q)
-      (λ v t one. behind stops_of stops_of S W q t (bare (met Outside g s t)) _ (bare_covers S t (met Outside g s t) (met_covers Outside g s t)) (λ a u two. behind_condition spot (first_of c) C S (stops_of a) q t u (begins_with c) one two)))
+      (λ v t one. behind stops_of stops_of S W q t (bare (met Outside g s t)) _ (bare_covers S t (met Outside g s t) (met_covers Outside g s t)) (λ a u two. behind_condition spot (first_spot c) C S (stops_of a) q t u (begins_with c) one two)))
   met_covers place g (tree.IfElse spot c s o) q =
       let C = spots_of c in
       let S = spots_of_statement s in
@@ -205,8 +205,8 @@ mutual
       (λ a u two.
       behind stops_of stops_of O W q u (bare (met Outside g o u)) _ (bare_covers O u (met Outside g o u) (met_covers Outside g o u))
       (λ b w three.
-      subst (λ z. Covers (spot ∷ z) q (first_of c ∷ stops_of a ++ stops_of b) w) (sym (append_assoc C S O))
-      (behind_condition spot (first_of c) C (S ++ O) (stops_of a ++ stops_of b) q t w (begins_with c) one (covers_on S O (stops_of a) (stops_of b) t u w two three))))))
+      subst (λ z. Covers (spot ∷ z) q (first_spot c ∷ stops_of a ++ stops_of b) w) (sym (append_assoc C S O))
+      (behind_condition spot (first_spot c) C (S ++ O) (stops_of a ++ stops_of b) q t w (begins_with c) one (covers_on S O (stops_of a) (stops_of b) t u w two three))))))
   met_covers place g (tree.While spot c s) q =
       let C = spots_of c in
       let S = spots_of_statement s in
@@ -215,7 +215,7 @@ mutual
       (behind_read stops_of C W q q (condition_met (to_end spot s) c q) _ (condition_reads (to_end spot s) c q)
       (λ v t one.
       behind stops_of stops_of S W q t (bare (met Outside (in_loop g) s t)) _ (bare_covers S t (met Outside (in_loop g) s t) (met_covers Outside (in_loop g) s t))
-      (λ a u two. behind_condition spot (first_of c) C S (stops_of a) q t u (begins_with c) one two)))
+      (λ a u two. behind_condition spot (first_spot c) C S (stops_of a) q t u (begins_with c) one two)))
   met_covers place g (tree.DoWhile extent s c) q =
       let C = spots_of c in
       let S = spots_of_statement s in
@@ -225,7 +225,7 @@ mutual
       (λ a t one.
       behind_read stops_of C W q t (condition_met extent c t) _ (condition_reads extent c t)
       (λ v u two.
-      covers_more (S ++ C) W (stops_of a ++ first_of c ∷ []) q u (inl (part_all (S ++ C))) (covers_on S C (stops_of a) (first_of c ∷ []) q t u one (covers_read C (first_of c ∷ []) t u (begins_with c) two)))))
+      covers_more (S ++ C) W (stops_of a ++ first_spot c ∷ []) q u (inl (part_all (S ++ C))) (covers_on S C (stops_of a) (first_spot c ∷ []) q t u one (covers_read C (first_spot c ∷ []) t u (begins_with c) two)))))
   met_covers place g (tree.For spot start c step s) q =
       let A = spots_of_start start in
       let S = spots_of_statement s in
@@ -250,11 +250,11 @@ mutual
       unlabeled_covers place W q _
       (behind_read stops_of C W q q (chosen_met (record { first = spot; last = closing.at }) e q) _ (chosen_reads (record { first = spot; last = closing.at }) e q)
       (λ ch t one.
-      behind stops_of_all stops_of I W q t (in_scope (items_met (in_switch g) ch.kind all no_labels) t) _
-      (covers_scope I stops_of_all (items_met (in_switch g) ch.kind all no_labels) t
-      (covers_wider stops_of_all S I (opened t) (items_met (in_switch g) ch.kind all no_labels (opened t)) (inl (part_first S S (closing ∷ []) (part_all S))) (parts_cover (in_switch g) ch.kind all no_labels (opened t))))
+      behind stops_of_all stops_of I W q t (in_scope (block_items_met (in_switch g) ch.kind all no_labels) t) _
+      (covers_scope I stops_of_all (block_items_met (in_switch g) ch.kind all no_labels) t
+      (covers_wider stops_of_all S I (opened t) (block_items_met (in_switch g) ch.kind all no_labels (opened t)) (inl (part_first S S (closing ∷ []) (part_all S))) (parts_cover (in_switch g) ch.kind all no_labels (opened t))))
       (λ ts u two.
-      subst (λ z. Covers (spot ∷ z) q (first_of e ∷ stops_of_all ts) u) (sym (append_assoc C (opening ∷ S) (closing ∷ []))) (behind_condition spot (first_of e) C I (stops_of_all ts) q t u (begins_with e) one two))))
+      subst (λ z. Covers (spot ∷ z) q (first_spot e ∷ stops_of_all ts) u) (sym (append_assoc C (opening ∷ S) (closing ∷ []))) (behind_condition spot (first_spot e) C I (stops_of_all ts) q t u (begins_with e) one two))))
   met_covers place g (tree.Case extent e s) q =
       let C = spots_of e in
       let S = spots_of_statement s in
@@ -279,9 +279,9 @@ mutual
         labels = labels_on l.parts x.before made.1 two.labels;
       }))
   met_covers place g (tree.Break extent) q =
-      let W = extent.first ∷ [] in unlabeled_covers place W q _ (covers_read W W q (unless g.may_break MISPLACED_JUMP extent q) (part_all W) (unless_reads W g.may_break MISPLACED_JUMP extent q))
+      let W = extent.first ∷ [] in unlabeled_covers place W q _ (covers_read W W q (rule_unless g.may_break MISPLACED_JUMP extent q) (part_all W) (unless_reads W g.may_break MISPLACED_JUMP extent q))
   met_covers place g (tree.Continue extent) q =
-      let W = extent.first ∷ [] in unlabeled_covers place W q _ (covers_read W W q (unless g.may_continue MISPLACED_JUMP extent q) (part_all W) (unless_reads W g.may_continue MISPLACED_JUMP extent q))
+      let W = extent.first ∷ [] in unlabeled_covers place W q _ (covers_read W W q (rule_unless g.may_continue MISPLACED_JUMP extent q) (part_all W) (unless_reads W g.may_continue MISPLACED_JUMP extent q))
   met_covers place g (tree.Return extent e) q =
       let E = spots_if_any e in
       let W = extent.first ∷ E in
@@ -299,12 +299,12 @@ mutual
       (λ a t one. behind stops_of_all stops_of_all R (S ++ R) q t (statements_met g rest t) _ (all_cover g rest t) (λ ts u more. covers_on S R (stops_of a) (stops_of_all ts) q t u one more))
 
   -- those of the block of a `switch`
-  parts_cover : (g : Setting) (kind : Option IntegerType) (all : StatementTrees) (ls : Labels) (q : ProgressTree) → CoversBy stops_of_all (spots_of_statements all) q (items_met g kind all ls q)
+  parts_cover : (g : Setting) (kind : Option IntegerType) (all : StatementTrees) (ls : Labels) (q : ProgressTree) → CoversBy stops_of_all (spots_of_statements all) q (block_items_met g kind all ls q)
   parts_cover g kind tree.none ls q = covers_read [] [] q q refl (reads_itself [] q)
   parts_cover g kind (tree.first s rest) ls q =
       let S = spots_of_statement s in
       let R = spots_of_statements rest in
       next_ensures (CoversLabeled S q) (λ (ts : TypedStatementTrees) (u : ProgressTree). Covers (S ++ R) q (stops_of_all ts) u) (met (switch.Inside kind ls) g s q) _ (met_covers (switch.Inside kind ls) g s q)
       (λ x t one.
-      behind stops_of_all stops_of_all R (S ++ R) q t (items_met g kind rest x.labels t) _ (parts_cover g kind rest x.labels t)
+      behind stops_of_all stops_of_all R (S ++ R) q t (block_items_met g kind rest x.labels t) _ (parts_cover g kind rest x.labels t)
       (λ ts u more. subst (λ z. Covers (S ++ R) q z u) (put_stops x.before x.statement ts one.labels) (covers_on S R (stops_of x.statement) (stops_of_all ts) q t u one.covers more)))

@@ -15,7 +15,7 @@ use Rattle.c_tree.specs.declared.typed_expression.Callee.{Callee}
 use Rattle.c_tree.specs.declared.typed_expression.Callee.TheVariants as callee
 use Rattle.c_tree.specs.Expressions.{NameTree}
 use Rattle.c_tree.specs.Declarations.{BracketsTree, Absent, Empty, Sized, ParameterTree, DeclaratorTree}
-use Rattle.c_tree.specs.Statements.{BlockTree, chain}
+use Rattle.c_tree.specs.Statements.{BlockTree, chain_of_statements}
 use Rattle.c_tree.specs.Trees.{FunctionTree, ItemTree, Include, Declares, Defines}
 use Rattle.c_tree.specs.TypedStatements.{TypedStatementTrees}
 use Rattle.c_tree.specs.Programs.{AutomaticTree, TypedFunctionTree}
@@ -27,9 +27,9 @@ use Rattle.c_type_declarations.specs.Scopes.{declared_here}
 use Rattle.c_type_declarations.specs.Progress.{ProgressTree, Met, means, reached_by, breaks, declares, opened}
 use Rattle.c_type_declarations.specs.Objects.{size_met, type_met}
 use Rattle.c_type_declarations.specs.Statics.{Contents, contents_met}
-use Rattle.c_type_declarations.specs.Declarations.{with_static, static_of_type, static_met, statics_met}
+use Rattle.c_type_declarations.specs.Declarations.{with_static_object, static_of_type, static_met, statics_met}
 use Rattle.c_type_statements.specs.Statements.{statements_met}
-use Rattle.c_type.specs.Headers.{is_library, library, same_type, stands_with, stands, placed, library_met, end_beside, at_spot, is_library_name, included}
+use Rattle.c_type.specs.Headers.{is_library, library, same_type, stands_with, standing_of, placed, library_met, end_beside, at_spot, is_library_name, included}
 use Rattle.c_type.specs.Functions.{parameter_type, parameter_size, parameter_sizes, parameter_named, parameter_met, parameters_met, defined, signature_of, agrees_with, known_as, name_met, function_made, setting_of, rest_met, function_met}
 use Rattle.c_type.specs.Items.{item_met, behind_item, items_met, beginning, source_met}
 use Rattle.c_source.specs.TextOrder.{spots_of, spots_of_brackets, spots_of_initial, spots_of_declarator, spots_of_declarators, spots_of_statements, spots_of_name, spots_of_parameters, spots_of_body, spots_of_item, spots_of_items}
@@ -54,7 +54,7 @@ standing_reads : (extent : Extent) (name : List ℕ) (g : SignatureTree) (o : Op
 standing_reads extent name g (Some other) q = beside_reads extent name g other q
 standing_reads extent name g None q = reads_breaks [] REDECLARED extent q
 
-placed_reads : (extent : Extent) (name : List ℕ) (g : SignatureTree) (functions : List SignatureTree) (m : Option Meaning) (q : ProgressTree) → Reads [] q (placed (stands g functions m) extent name g q)
+placed_reads : (extent : Extent) (name : List ℕ) (g : SignatureTree) (functions : List SignatureTree) (m : Option Meaning) (q : ProgressTree) → Reads [] q (placed (standing_of g functions m) extent name g q)
 placed_reads extent name g functions None q = reads_none [] q _ refl refl
 placed_reads extent name g functions (Some (Function k)) q = standing_reads extent name g (slice_get functions k) q
 placed_reads extent name g functions (Some (Variable o of)) q = reads_breaks [] REDECLARED extent q
@@ -167,13 +167,13 @@ rest_covers : (f : FunctionTree) (g : SignatureTree) (b : Option BlockTree) (q r
     → CoversBy stops_of_functions (f.name.spot ∷ spots_of_parameters f.parameters ++ spots_of_body b) q (rest_met f g b r)
 rest_covers f g (Some b) q r sizes =
     next_ensures (λ (ts : TypedStatementTrees) (t : ProgressTree). Covers S begun (stops_of_all ts) t) (λ (fs : List TypedFunctionTree) (t : ProgressTree). Covers W q (stops_of_functions fs) t)
-    (statements_met (setting_of g) (chain b.statements) begun) (function_made f g b (length r.automatics)) (all_cover (setting_of g) (chain b.statements) begun) made
+    (statements_met (setting_of g) (chain_of_statements b.statements) begun) (function_made f g b (length r.automatics)) (all_cover (setting_of g) (chain_of_statements b.statements) begun) made
   where
     params : List Spot
     params = spots_of_parameters f.parameters
 
     S : List Spot
-    S = spots_of_statements (chain b.statements)
+    S = spots_of_statements (chain_of_statements b.statements)
 
     W : List Spot
     W = f.name.spot ∷ params ++ (b.opening ∷ S ++ b.closing ∷ [])
@@ -223,7 +223,7 @@ of_type_reads d of q = by (contents_met of d.extent d.initializer s) (contents_r
     s : ProgressTree
     s = declares d.extent d.name.name (Variable (designator.Static (length q.statics)) of) q
 
-    by : (m : Met Contents) → ReadsIn (spots_of_initial d.initializer) s m → Reads (spots_of_initial d.initializer) q (reached_by m (with_static d.name of))
+    by : (m : Met Contents) → ReadsIn (spots_of_initial d.initializer) s m → Reads (spots_of_initial d.initializer) q (reached_by m (with_static_object d.name of))
     by (means c u) h =
         let here = declared_here q.names d.name.name in
         record {

@@ -15,8 +15,8 @@ use Rattle.c_type_values.specs.Values.{ValueTree}
 use Rattle.c_type_values.specs.Operations.{is_scalar}
 use Rattle.c_type_expressions.specs.Expressions.{is_zero}
 use Rattle.c_type_declarations.specs.Progress.{ProgressTree, reached_by, value_met, breaks}
-use Rattle.c_type_statements.specs.Settings.{unless, run_met, tested, condition_met, condition_if_any, returnable, given, is_void, returns, return_met}
-use Rattle.c_type_statements.specs.Switches.{chosen_by, chosen, chosen_met, Labels, is_among, case_value, Parts, case_numbered, case_by, case_met, misplaced_one, Place, Outside, Inside, label_at}
+use Rattle.c_type_statements.specs.Settings.{rule_unless, run_met, checked_condition, condition_met, condition_if_any, returnable, returned_value, is_void, returns, return_met}
+use Rattle.c_type_statements.specs.Switches.{chosen_by, controlling_value, chosen_met, Labels, is_among_numbers, case_value, Parts, case_numbered, case_by, case_met, misplaced_one, StatementPlace, Outside, Inside, label_at}
 use Rattle.c_source.specs.TextOrder.{spots_of, spots_if_any}
 use Rattle.c_source.specs.Progress.{Ensures}
 use Rattle.c_source.specs.Stating.{are_labels}
@@ -24,19 +24,19 @@ use Rattle.c_source.proofs.Coming.{next_ensures, ensures_more}
 use Rattle.c_source.proofs.Adding.{Reads, reads_itself, reads_behind, reads_then}
 use Rattle.c_source.proofs.Reading.{ReadsIn, reads_last, reads_breaks, value_reads, value_reaches}
 
-pub unless_reads : (whole : List Spot) (fine : Bool) (code : Code) (extent : Extent) (q : ProgressTree) → Reads whole q (unless fine code extent q)
+pub unless_reads : (whole : List Spot) (fine : Bool) (code : Code) (extent : Extent) (q : ProgressTree) → Reads whole q (rule_unless fine code extent q)
 unless_reads whole true code extent q = reads_itself whole q
 unless_reads whole false code extent q = reads_breaks whole code extent q
 
 pub run_reads : (e : ExpressionTree) (q : ProgressTree) → ReadsIn (spots_of e) q (run_met e q)
 run_reads e q = reads_last (spots_of e) q (value_met e q) _ (value_reads e q) (λ v t. reads_itself [] t)
 
-tested_reads : (extent : Extent) (v : Option ValueTree) (q : ProgressTree) → ReadsIn [] q (tested extent v q)
+tested_reads : (extent : Extent) (v : Option ValueTree) (q : ProgressTree) → ReadsIn [] q (checked_condition extent v q)
 tested_reads extent (Some v) q = unless_reads [] (is_scalar v.of) OPERAND_TYPES extent q
 tested_reads extent None q = reads_itself [] q
 
 pub condition_reads : (extent : Extent) (e : ExpressionTree) (q : ProgressTree) → ReadsIn (spots_of e) q (condition_met extent e q)
-condition_reads extent e q = reads_last (spots_of e) q (value_met e q) (tested extent) (value_reads e q) (λ v t. tested_reads extent v t)
+condition_reads extent e q = reads_last (spots_of e) q (value_met e q) (checked_condition extent) (value_reads e q) (λ v t. tested_reads extent v t)
 
 -- the condition of a `for` means something where there is one
 abbrev pub Tests : Option ExpressionTree → ProgressTree → Option RvalueTree → ProgressTree → Type 0
@@ -47,7 +47,7 @@ any_condition_tests extent (Some e) q = next_ensures (λ (r : RvalueTree) (t : P
 any_condition_tests extent None q = (reads_itself [] q, refl)
 
 -- what is returned
-given_reads : (v : Option ValueTree) (extent : Extent) (q : ProgressTree) → ReadsIn [] q (given v extent q)
+given_reads : (v : Option ValueTree) (extent : Extent) (q : ProgressTree) → ReadsIn [] q (returned_value v extent q)
 given_reads (Some v) extent q = reads_itself [] q
 given_reads None extent q = reads_breaks [] RETURN_MISMATCH extent q
 
@@ -69,12 +69,12 @@ chosen_by_reads (Integer t) extent v q = reads_itself [] q
 chosen_by_reads (Pointer of) extent v q = reads_breaks [] OPERAND_TYPES extent q
 chosen_by_reads Void extent v q = reads_breaks [] OPERAND_TYPES extent q
 
-any_chosen_reads : (extent : Extent) (v : Option ValueTree) (q : ProgressTree) → ReadsIn [] q (chosen extent v q)
+any_chosen_reads : (extent : Extent) (v : Option ValueTree) (q : ProgressTree) → ReadsIn [] q (controlling_value extent v q)
 any_chosen_reads extent (Some v) q = chosen_by_reads v.of extent v q
 any_chosen_reads extent None q = reads_itself [] q
 
 pub chosen_reads : (extent : Extent) (e : ExpressionTree) (q : ProgressTree) → ReadsIn (spots_of e) q (chosen_met extent e q)
-chosen_reads extent e q = reads_last (spots_of e) q (value_met e q) (chosen extent) (value_reads e q) (λ v t. any_chosen_reads extent v t)
+chosen_reads extent e q = reads_last (spots_of e) q (value_met e q) (controlling_value extent) (value_reads e q) (λ v t. any_chosen_reads extent v t)
 
 -- labels
 abbrev pub spots_of_label : LabelTree → List Spot
@@ -86,7 +86,7 @@ abbrev pub LabelsIn : List Spot → ProgressTree → Parts → ProgressTree → 
 LabelsIn whole q l t = Reads whole q t × (are_labels l.parts ≡ true)
 
 numbered_in : (z : Option ℤ) (extent : Extent) (ls : Labels) (q : ProgressTree) → Ensures (LabelsIn [] q) (case_numbered z extent ls q)
-numbered_in (Some z) extent ls q = (unless_reads [] (not (is_among z ls.values)) REPEATED_LABEL extent q, refl)
+numbered_in (Some z) extent ls q = (unless_reads [] (not (is_among_numbers z ls.values)) REPEATED_LABEL extent q, refl)
 numbered_in None extent ls q = (reads_breaks [] MISPLACED_JUMP extent q, refl)
 
 case_by_in : (kind : Option IntegerType) (extent : Extent) (ls : Labels) (v : Option ValueTree) (q : ProgressTree) → Ensures (LabelsIn [] q) (case_by kind extent ls v q)
@@ -104,7 +104,7 @@ misplaced_reads (CaseLabel extent e) q =
 misplaced_reads (DefaultLabel extent) q = reads_breaks [] MISPLACED_JUMP extent q
 
 -- A label stands within the spots of its value.
-pub labels_in : (place : Place) (l : LabelTree) (q : ProgressTree) → Ensures (LabelsIn (spots_of_label l) q) (label_at place l q)
+pub labels_in : (place : StatementPlace) (l : LabelTree) (q : ProgressTree) → Ensures (LabelsIn (spots_of_label l) q) (label_at place l q)
 labels_in Outside l q = (misplaced_reads l q, refl)
 labels_in (Inside kind ls) (CaseLabel extent e) q = case_in kind extent e ls q
 labels_in (Inside kind ls) (DefaultLabel extent) q = (unless_reads [] (not ls.has_default) REPEATED_LABEL extent q, refl)

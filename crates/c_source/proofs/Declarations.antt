@@ -5,11 +5,11 @@ use Rattle.c_token.specs.Lexemes.{Lexeme, Word}
 use Rattle.c_token.specs.Lexemes as word
 use Rattle.c_tree.specs.declared.types.IntegerType.{IntegerType}
 use Rattle.c_tree.specs.Expressions.{NameTree}
-use Rattle.c_tree.specs.Declarations.{BracketsTree, InitializerTree, chain, DeclaratorTree}
+use Rattle.c_tree.specs.Declarations.{BracketsTree, InitializerTree, chain_of_initializers, DeclaratorTree}
 use Rattle.c_parse_tokens.specs.declared.mark.Mark.TheVariants as mark
 use Rattle.c_parse_tokens.specs.declared.specifier.Place.TheVariants as place
 use Rattle.c_parse_tokens.specs.Outcome.{Parser}
-use Rattle.c_parse_tokens.specs.Front.{is_at, behind, separated}
+use Rattle.c_parse_tokens.specs.Front.{is_at, tokens_behind, separated}
 use Rattle.c_parse_tokens.specs.Specifiers.{specifiers, integer_type, stars}
 use Rattle.c_parse_expressions.specs.declared.expression.Sort.TheVariants as sort
 use Rattle.c_parse_expressions.specs.Expressions.{Nesting, nested, assignment, nesting}
@@ -37,8 +37,8 @@ identifier_found (t ∷ ts) h = name_of t.kind t ts h.0 h.1
 pub brackets_found : (nest : Nesting) (ts : List Lexeme) → AreGood nest → AreSound ts → Found sizes ts (brackets nest ts)
 unfolding brackets
 brackets_found nest ts good h =
-    option_next sizes ts ts (behind mark.OpenBracket ts) _ _ (behind_leads mark.OpenBracket ts h)
-    (λ its r u. option_next sizes its ts (behind mark.CloseBracket its) _ _ (behind_leads mark.CloseBracket its u)
+    option_next sizes ts ts (tokens_behind mark.OpenBracket ts) _ _ (behind_leads mark.OpenBracket ts h)
+    (λ its r u. option_next sizes its ts (tokens_behind mark.CloseBracket its) _ _ (behind_leads mark.CloseBracket its u)
     (λ rest q v. (trail (silent r) (silent q), tt, v))
     (next expressions sizes its ts (nested nest sort.Assignment its) _ (nested_found nest sort.Assignment its good u)
     (λ e s f v. want_next sizes mark.CloseBracket e.1 ts _ v (λ rest q w. (join (silent r) (trail s (silent q)), f, w)))))
@@ -56,11 +56,11 @@ unfolding nested_initializer
 nested_initializer_found None ts g h = tt
 nested_initializer_found (Some read) ts g h = g ts h
 
-as_initializers : (all : List InitializerTree) → spots_of_many initializers all ≡ spots_of_initializers (chain all)
+as_initializers : (all : List InitializerTree) → spots_of_many initializers all ≡ spots_of_initializers (chain_of_initializers all)
 as_initializers [] = refl
 as_initializers (i ∷ all) = ap (λ (l : List Spot). spots_of_initializer i ++ l) (as_initializers all)
 
-formed_initializers : (all : List InitializerTree) → AreAllFormed initializers all → AreInitializersFormed (chain all)
+formed_initializers : (all : List InitializerTree) → AreAllFormed initializers all → AreInitializersFormed (chain_of_initializers all)
 formed_initializers [] h = tt
 formed_initializers (i ∷ all) h = (h.0, formed_initializers all h.1)
 
@@ -69,7 +69,7 @@ module _ (within : Option (Parser InitializerTree)) (good : IsGood within) where
       → Found (many initializers) whole (more_in_braces n within done ts)
   more_found zero done ts whole s f h = (s, f, h)
   more_found (suc n) done ts whole s f h =
-      option_next (many initializers) ts whole (behind mark.Comma ts) _ _ (behind_leads mark.Comma ts h)
+      option_next (many initializers) ts whole (tokens_behind mark.Comma ts) _ _ (behind_leads mark.Comma ts h)
       (λ after r u. by_test (Found (many initializers) whole) (is_at mark.CloseBrace after) _ _ (λ _. (trail s (silent r), f, u))
       (λ _. next initializers (many initializers) after whole (nested_initializer within after) _ (nested_initializer_found within after good u)
       (λ i q g v. more_found n (done ++ i.0 ∷ []) i.1 whole (one_more initializers done i.0 whole after i.1 (trail s (silent r)) q) (formed_on initializers done i.0 f g) v)))
@@ -85,7 +85,7 @@ module _ (within : Option (Parser InitializerTree)) (good : IsGood within) where
 initializer_in_found : (nest : Nesting) (within : Option (Parser InitializerTree)) (ts : List Lexeme) → AreGood nest → IsGood within → AreSound ts → Found initializers ts (initializer_in nest within ts)
 unfolding initializer_in
 initializer_in_found nest within ts good inner h =
-    option_next initializers ts ts (behind mark.OpenBrace ts) _ _ (behind_leads mark.OpenBrace ts h)
+    option_next initializers ts ts (tokens_behind mark.OpenBrace ts) _ _ (behind_leads mark.OpenBrace ts h)
     (λ its r u. next initializer_lists initializers its ts (in_braces within its) _ (in_braces_found within inner its u)
     (λ all s f v. want_next initializers mark.CloseBrace all.1 ts _ v (λ rest q w. (join (silent r) (trail s (silent q)), f, w))))
     (next expressions initializers ts ts (assignment nest ts) _ (assignment_found nest good ts h) (λ e s f u. (s, f, u)))
@@ -104,7 +104,7 @@ initializer_found depth ts h = initializer_in_found (nesting depth) (within_brac
 initialized_found : (depth : ℕ) (b : BracketsTree) (ts : List Lexeme) → AreSound ts → Found optional_initializers ts (initialized depth b ts)
 unfolding initialized
 initialized_found depth b ts h =
-    option_next optional_initializers ts ts (behind mark.Equal ts) _ _ (behind_leads mark.Equal ts h)
+    option_next optional_initializers ts ts (tokens_behind mark.Equal ts) _ _ (behind_leads mark.Equal ts h)
     (λ rest r u. next initializers optional_initializers rest ts (initializer depth rest) _ (initializer_found depth rest u) (λ i s f v. (join (silent r) s, f, v)))
     (by_test (Found optional_initializers ts) (are_empty b) _ _ (λ _. tt) (λ _. (none, tt, h)))
 

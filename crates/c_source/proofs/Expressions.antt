@@ -5,14 +5,14 @@ use Rattle.debug_records.specs.declared.source.Spot.{Spot}
 use Rattle.c_tree.specs.declared.object_type.Scalar.{Scalar}
 use Rattle.c_tree.specs.declared.typed_expression.Callee.{Callee}
 use Rattle.c_tree.specs.Expressions.{ExpressionTree, ExpressionTrees, Name, Constant, Literal, Parenthesized, Index, Call, PostIncrement, PostDecrement, Prefix, Cast, SizeofExpression, SizeofType, SizeofArray, Binary, Conditional, Assignment, Comma, none, first}
-use Rattle.c_tree.specs.Ends.{first_of, last_of}
+use Rattle.c_tree.specs.Ends.{first_spot, last_of}
 use Rattle.c_tree.specs.Programs.{TypedFunctionTree, ProgramTree}
 use Rattle.c_type_rules.specs.Integers.{scalar_size}
 use Rattle.c_type_values.specs.Values.{MeantTree}
-use Rattle.c_type_values.specs.Operations.{operation_of}
+use Rattle.c_type_values.specs.Operations.{binary_operation}
 use Rattle.c_type_expressions.specs.Names.{Names, SignatureTree, meaning_of}
 use Rattle.c_type_expressions.specs.Findings.{FoundTree, gives, with_one, restored}
-use Rattle.c_type_expressions.specs.Judgements.{Meant, valued, measured, size_of, count_of}
+use Rattle.c_type_expressions.specs.Judgements.{Meant, valued, measured, size_of, array_count}
 use Rattle.c_type_expressions.specs.Expressions.{function_at, function_number, function_named, is_zero, typed, typed_all}
 use Rattle.c_source.specs.Constants.{HasNumbers, HaveNumbers}
 use Rattle.c_source.specs.Findings.{HoldsOf, Good, IsGood}
@@ -63,13 +63,13 @@ module _ (K : Type 0) (p : ProgramTree) (f : TypedFunctionTree) where
           next_good K p (IsTyped p f) (Means p f) s s (valued (typed names e s)) _ (valued_good s (typed names e s) (typed_good e s h.0))
           (λ a t x.
           next_good K p (IsTyped p f) (Means p f) s t (valued (typed names i t)) _ (valued_good t (typed names i t) (typed_good i t h.1))
-          (λ b u y. two_good K p (IsTyped p f) (IsTyped p f) (Means p f) s t u a b _ x y (λ v w j k. judged_good K p (Means p f) _ _ (first_of e) last u (λ z. element_typed p f v w (j z) (k z)))))
+          (λ b u y. two_good K p (IsTyped p f) (IsTyped p f) (Means p f) s t u a b _ x y (λ v w j k. judged_good K p (Means p f) _ _ (first_spot e) last u (λ z. element_typed p f v w (j z) (k z)))))
       typed_good (Call e all last) s h =
-          call_good K p f (function_named names e) (valued (typed names e s)) (typed_all names all) (first_of e) last s (λ k. function_known k e) (valued_good s (typed names e s) (typed_good e s h.0)) (λ parameters at t. all_good all parameters at t h.1)
+          call_good K p f (function_named names e) (valued (typed names e s)) (typed_all names all) (first_spot e) last s (λ k. function_known k e) (valued_good s (typed names e s) (typed_good e s h.0)) (λ parameters at t. all_good all parameters at t h.1)
       typed_good (PostIncrement e last) s h =
-          next_good K p (Means p f) (Means p f) s s (typed names e s) _ (typed_good e s h) (λ m t x. one_good K p (Means p f) (Means p f) s t m _ x (λ a k. stepping_good K p f _ _ (first_of e) last a t k))
+          next_good K p (Means p f) (Means p f) s s (typed names e s) _ (typed_good e s h) (λ m t x. one_good K p (Means p f) (Means p f) s t m _ x (λ a k. stepping_good K p f _ _ (first_spot e) last a t k))
       typed_good (PostDecrement e last) s h =
-          next_good K p (Means p f) (Means p f) s s (typed names e s) _ (typed_good e s h) (λ m t x. one_good K p (Means p f) (Means p f) s t m _ x (λ a k. stepping_good K p f _ _ (first_of e) last a t k))
+          next_good K p (Means p f) (Means p f) s s (typed names e s) _ (typed_good e s h) (λ m t x. one_good K p (Means p f) (Means p f) s t m _ x (λ a k. stepping_good K p f _ _ (first_spot e) last a t k))
       typed_good (Prefix spot o e) s h =
           next_good K p (Means p f) (Means p f) s s (typed names e s) _ (typed_good e s h) (λ m t x. one_good K p (Means p f) (Means p f) s t m _ x (λ a k. prefixed_good K p f o spot (last_of e) a t k))
       typed_good (Cast spot to e) s h =
@@ -80,14 +80,14 @@ module _ (K : Type 0) (p : ProgramTree) (f : TypedFunctionTree) where
           next_good K p (IsTyped p f) (Means p f) s s (valued (typed names e s)) _ (valued_good s (typed names e s) (typed_good e s h))
           (λ m t x.
           one_good K p (IsTyped p f) (Means p f) s t m _ x
-          (λ v k. judged_good K p (Means p f) _ _ extent.first extent.last t (λ z. sizes_typed K p f (count_of v.of v.constant) (λ n. scalar_size (record { base = type; stars = stars }) * n))))
+          (λ v k. judged_good K p (Means p f) _ _ extent.first extent.last t (λ z. sizes_typed K p f (array_count v.of v.constant) (λ n. scalar_size (record { base = type; stars = stars }) * n))))
       typed_good (Binary o a b) s h =
           next_good K p (IsTyped p f) (Means p f) s s (valued (typed names a s)) _ (valued_good s (typed names a s) (typed_good a s h.0))
           (λ m t x.
           next_good K p (IsTyped p f) (Means p f) s t (valued (typed names b t)) _ (valued_good t (typed names b t) (typed_good b t h.1))
           (λ n u y.
           two_good K p (IsTyped p f) (IsTyped p f) (Means p f) s t u m n _ x y
-          (λ v w j k. judged_good K p (Means p f) _ _ (first_of a) (last_of b) u (λ z. combined_typed p f (operation_of o) v w (is_zero a) (is_zero b) (j z) (k z)))))
+          (λ v w j k. judged_good K p (Means p f) _ _ (first_spot a) (last_of b) u (λ z. combined_typed p f (binary_operation o) v w (is_zero a) (is_zero b) (j z) (k z)))))
       typed_good (Conditional c a b) s h =
           next_good K p (IsTyped p f) (Means p f) s s (valued (typed names c s)) _ (valued_good s (typed names c s) (typed_good c s h.0))
           (λ l t x.
@@ -96,12 +96,12 @@ module _ (K : Type 0) (p : ProgramTree) (f : TypedFunctionTree) where
           next_good K p (IsTyped p f) (Means p f) s u (valued (typed names b u)) _ (valued_good u (typed names b u) (typed_good b u h.2))
           (λ n v z.
           three_good K p (IsTyped p f) (IsTyped p f) (IsTyped p f) (Means p f) s t u v l m n _ x y z
-          (λ i j k one two three. judged_good K p (Means p f) _ _ (first_of c) (last_of b) v (λ w. conditional_typed p f i j k (is_zero a) (is_zero b) (one w) (two w) (three w))))))
+          (λ i j k one two three. judged_good K p (Means p f) _ _ (first_spot c) (last_of b) v (λ w. conditional_typed p f i j k (is_zero a) (is_zero b) (one w) (two w) (three w))))))
       typed_good (Assignment o a b) s h =
           next_good K p (Means p f) (Means p f) s s (typed names a s) _ (typed_good a s h.0)
           (λ m t x.
           next_good K p (IsTyped p f) (Means p f) s t (valued (typed names b t)) _ (valued_good t (typed names b t) (typed_good b t h.1))
-          (λ n u y. two_good K p (Means p f) (IsTyped p f) (Means p f) s t u m n _ x y (λ v w j k. assignment_good K p f o (is_zero b) (first_of a) (last_of b) v w u j k)))
+          (λ n u y. two_good K p (Means p f) (IsTyped p f) (Means p f) s t u m n _ x y (λ v w j k. assignment_good K p f o (is_zero b) (first_spot a) (last_of b) v w u j k)))
       typed_good (Comma a b) s h =
           next_good K p (IsTyped p f) (Means p f) s s (valued (typed names a s)) _ (valued_good s (typed names a s) (typed_good a s h.0))
           (λ m t x.

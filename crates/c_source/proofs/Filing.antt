@@ -23,7 +23,7 @@ use Rattle.c_type_declarations.specs.Scopes.{with_meaning, innermost, declared_h
 use Rattle.c_type_declarations.specs.Progress.{ProgressTree, Met, means, reached_by, breaks, breaks_if, with_name}
 use Rattle.c_type_declarations.specs.Objects.{count, type_met}
 use Rattle.c_type_declarations.specs.Statics.{Contents, contents_met}
-use Rattle.c_type_declarations.specs.Declarations.{with_static, static_of_type, static_met, statics_met}
+use Rattle.c_type_declarations.specs.Declarations.{with_static_object, static_of_type, static_met, statics_met}
 use Rattle.c_type_laws.specs.Names.{is_name, has_few_elements, is_named}
 use Rattle.c_source.specs.Values.{has_elements}
 use Rattle.c_source.specs.Formed.{IsInitialFormed, IsDeclaratorFormed, AreDeclaratorsFormed}
@@ -122,7 +122,7 @@ module _ (p : ProgramTree) where
   -- a static variable
   static_passes : (n : NameTree) (of : ObjectType) (q r u : ProgressTree) (c : Contents) → has_elements of ≡ true → is_named n.name of ≡ true → Passes p q r → r.names ≡ q.names → r.statics ≡ q.statics → Passes p (with_name n.name (Variable (designator.Static (length q.statics)) of) r) u
       → u.names ≡ (with_name n.name (Variable (designator.Static (length q.statics)) of) r).names → u.statics ≡ q.statics
-      → (((f : TypedFunctionTree) → AreScopesKnown p f (with_name n.name (Variable (designator.Static (length q.statics)) of) r).names.scopes) → Reaches p (with_static n of c u) → Fits p of c) → Passes p q (with_static n of c u)
+      → (((f : TypedFunctionTree) → AreScopesKnown p f (with_name n.name (Variable (designator.Static (length q.statics)) of) r).names.scopes) → Reaches p (with_static_object n of c u) → Fits p of c) → Passes p q (with_static_object n of c u)
   static_passes n of q r u c elements name before names same behind later stays fits =
       let v : StaticTree = record { name = n.name; spot = n.spot; of = of; bytes = c.bytes; relocations = c.relocations } in
       let one = before.extends in
@@ -167,7 +167,7 @@ module _ (p : ProgramTree) where
       s : ProgressTree
       s = with_name d.name.name (Variable (designator.Static (length q.statics)) of) r
 
-      by : (m : Met Contents) → Ensures (Makes p fun 0 (Fits p of) s) m → Passes p q (reached_by m (with_static d.name of))
+      by : (m : Met Contents) → Ensures (Makes p fun 0 (Fits p of) s) m → Passes p q (reached_by m (with_static_object d.name of))
       by (means c u) l =
           static_passes d.name of q r u c elements name (breaks_if_passes (declared_here q.names d.name.name) REDECLARED d.extent q) (breaks_if_names (declared_here q.names d.name.name) REDECLARED d.extent q)
           (breaks_if_statics (declared_here q.names d.name.name) REDECLARED d.extent q) (looks_passes l.looks) l.looks.names (l.looks.comes.advances.statics ∙ breaks_if_statics (declared_here q.names d.name.name) REDECLARED d.extent q)

@@ -18,7 +18,7 @@ use Rattle.c_tree.specs.declared.object_type.ValueType.TheVariants.{Void, Intege
 use Rattle.c_tree.specs.declared.typed_expression.Callee.{Callee}
 use Rattle.c_tree.specs.declared.typed_expression.Direction.{Direction}
 use Rattle.c_tree.specs.declared.typed_expression.Given.{Given}
-use Rattle.c_tree.specs.Ends.{first_of, last_of}
+use Rattle.c_tree.specs.Ends.{first_spot, last_of}
 use Rattle.c_tree.specs.Expressions.{ExpressionTree, Name, Constant, Literal, Parenthesized, Index, Call, PostIncrement, PostDecrement, Prefix, Cast, SizeofExpression, SizeofType, SizeofArray, Binary, Conditional, Assignment, Comma, ExpressionTrees}
 use Rattle.c_tree.specs.Expressions as tree
 use Rattle.c_type_values.specs.Values.{ValueTree, MeantTree, IsValue, meant_type}
@@ -27,21 +27,21 @@ use Rattle.c_type_values.specs.Writing.{is_modifiable, is_updatable, stepped}
 use Rattle.c_type_expressions.specs.declared.names.Meaning.{Meaning}
 use Rattle.c_type_expressions.specs.declared.names.Meaning.TheVariants.{Variable, Function, EndOfFile}
 use Rattle.c_type_expressions.specs.Names.{Names, SignatureTree, meaning_of}
-use Rattle.c_type_expressions.specs.Findings.{FoundTree, Checked, gives, next, with_one, with_two, with_three, judged, faulted, restored, with_literal}
-use Rattle.c_type_expressions.specs.Judgements.{Meant, valued, named, writing, stepping, prefixed, cast_from, cast_to, cast, measured, assigning, assignable, assignment_by, Passed, uncallable, noted, called}
-use Rattle.c_type_expressions.specs.Expressions.{function_named, is_zero, call_of, typed, typed_all}
+use Rattle.c_type_expressions.specs.Findings.{FoundTree, Checked, gives, check_next, with_one, with_two, with_three, judged, faulted, restored, with_literal}
+use Rattle.c_type_expressions.specs.Judgements.{Meant, valued, meaning_of_name, writing, stepping, prefixed, cast_from, cast_to, cast_meaning, measured, assigning, assignable, assignment_by, Passed, uncallable, noted, called}
+use Rattle.c_type_expressions.specs.Expressions.{function_named, is_zero, call_meaning, typed, typed_all}
 use Rattle.c_source.specs.TextOrder.{spots_of, spots_of_all}
 use Rattle.c_source.proofs.Parts.{IsPart, part_none, part_all, part_first, part_last, part_with}
 use Rattle.c_source.proofs.Adding.{Adds, adds_none, adds_on, adds_more, adds_taken, literal_spot}
 
 -- the first token of an expression is the first of its spots
-pub begins_with : (e : ExpressionTree) → IsPart (first_of e ∷ []) (spots_of e)
+pub begins_with : (e : ExpressionTree) → IsPart (first_spot e ∷ []) (spots_of e)
 begins_with (Name n) = part_all (n.spot ∷ [])
 begins_with (Constant spot value type) = part_all (spot ∷ [])
 begins_with (Literal extent bytes) = part_all (extent.first ∷ [])
 begins_with (Parenthesized extent e) = part_with extent.first [] (spots_of e) (part_none (spots_of e))
-begins_with (Index e i last) = part_first (first_of e ∷ []) (spots_of e) (spots_of i) (begins_with e)
-begins_with (Call e all last) = part_first (first_of e ∷ []) (spots_of e) (spots_of_all all) (begins_with e)
+begins_with (Index e i last) = part_first (first_spot e ∷ []) (spots_of e) (spots_of i) (begins_with e)
+begins_with (Call e all last) = part_first (first_spot e ∷ []) (spots_of e) (spots_of_all all) (begins_with e)
 begins_with (PostIncrement e last) = begins_with e
 begins_with (PostDecrement e last) = begins_with e
 begins_with (Prefix spot o e) = part_with spot [] (spots_of e) (part_none (spots_of e))
@@ -49,10 +49,10 @@ begins_with (Cast spot to e) = part_with spot [] (spots_of e) (part_none (spots_
 begins_with (SizeofExpression spot e) = part_with spot [] (spots_of e) (part_none (spots_of e))
 begins_with (SizeofType extent type stars) = part_all (extent.first ∷ [])
 begins_with (SizeofArray extent type stars e) = part_with extent.first [] (spots_of e) (part_none (spots_of e))
-begins_with (Binary o a b) = part_first (first_of a ∷ []) (spots_of a) (spots_of b) (begins_with a)
-begins_with (Conditional c a b) = part_first (first_of c ∷ []) (spots_of c ++ spots_of a) (spots_of b) (part_first (first_of c ∷ []) (spots_of c) (spots_of a) (begins_with c))
-begins_with (Assignment o a b) = part_first (first_of a ∷ []) (spots_of a) (spots_of b) (begins_with a)
-begins_with (Comma a b) = part_first (first_of a ∷ []) (spots_of a) (spots_of b) (begins_with a)
+begins_with (Binary o a b) = part_first (first_spot a ∷ []) (spots_of a) (spots_of b) (begins_with a)
+begins_with (Conditional c a b) = part_first (first_spot c ∷ []) (spots_of c ++ spots_of a) (spots_of b) (part_first (first_spot c ∷ []) (spots_of c) (spots_of a) (begins_with c))
+begins_with (Assignment o a b) = part_first (first_spot a ∷ []) (spots_of a) (spots_of b) (begins_with a)
+begins_with (Comma a b) = part_first (first_spot a ∷ []) (spots_of a) (spots_of b) (begins_with a)
 
 -- literals are found within these spots
 abbrev pub Finds : List Spot → FoundTree → FoundTree → Type 0
@@ -69,15 +69,15 @@ finds_itself : (whole : List Spot) (s : FoundTree) → Finds whole s s
 finds_itself whole s = finds_none whole s s refl
 
 -- a check, and another one behind it
-finds_next : {A B : Type 0} (whole others : List Spot) (s : FoundTree) (q : Checked A) (g : A → FoundTree → Checked B) → FindsIn whole s q → ((a : A) (t : FoundTree) → FindsIn others t (g a t)) → FindsIn (whole ++ others) s (next q g)
+finds_next : {A B : Type 0} (whole others : List Spot) (s : FoundTree) (q : Checked A) (g : A → FoundTree → Checked B) → FindsIn whole s q → ((a : A) (t : FoundTree) → FindsIn others t (g a t)) → FindsIn (whole ++ others) s (check_next q g)
 finds_next {A} {B} whole others s (gives a t) g h k = by (g a t) (k a t)
   where
     by : (r : Checked B) → FindsIn others t r → FindsIn (whole ++ others) s r
     by (gives b u) j = adds_on literal_spot s.literals t.literals u.literals whole others h j
 
 -- another one behind it that finds nothing
-finds_then : {A B : Type 0} (whole : List Spot) (s : FoundTree) (q : Checked A) (g : A → FoundTree → Checked B) → FindsIn whole s q → ((a : A) (t : FoundTree) → FindsIn [] t (g a t)) → FindsIn whole s (next q g)
-finds_then whole s q g h k = subst (λ z. FindsIn z s (next q g)) (append-nil whole) (finds_next whole [] s q g h k)
+finds_then : {A B : Type 0} (whole : List Spot) (s : FoundTree) (q : Checked A) (g : A → FoundTree → Checked B) → FindsIn whole s q → ((a : A) (t : FoundTree) → FindsIn [] t (g a t)) → FindsIn whole s (check_next q g)
+finds_then whole s q g h k = subst (λ z. FindsIn z s (check_next q g)) (append-nil whole) (finds_next whole [] s q g h k)
 
 finds_more : {A : Type 0} (whole all : List Spot) (s : FoundTree) (q : Checked A) → IsPart whole all → FindsIn whole s q → FindsIn all s q
 finds_more whole all s (gives a t) h k = adds_more literal_spot s.literals t.literals whole all h k
@@ -156,7 +156,7 @@ finds_cast_to : (whole : List Spot) (b : Base) (first : Spot) (last : ℕ) (v : 
 finds_cast_to whole base.Void first last v s = finds_itself whole s
 finds_cast_to whole (base.Integer t) first last v s = finds_cast_from whole v.of t first last v s
 
-finds_cast : (whole : List Spot) (to : TypeName) (first : Spot) (last : ℕ) (v : Option ValueTree) (s : FoundTree) → FindsIn whole s (cast to first last v s)
+finds_cast : (whole : List Spot) (to : TypeName) (first : Spot) (last : ℕ) (v : Option ValueTree) (s : FoundTree) → FindsIn whole s (cast_meaning to first last v s)
 finds_cast whole to first last v s = by (to.stars == 0)
   where
     by : (b : Bool) → FindsIn whole s (if b then with_one v (cast_to to.base first last) s else gives None (faulted UNEXPECTED_KEYWORD first last s))
@@ -175,7 +175,7 @@ finds_assignment whole (assignment.With o) zero first last m v s =
     let t = if fine then s else faulted OPERAND_TYPES first last s in
     finds_none whole s (writing (is_modifiable m) first last t) (writing_same (is_modifiable m) first last t ∙ faulted_same fine OPERAND_TYPES first last s)
 
-finds_named : (whole : List Spot) (m : Option Meaning) (spot : Spot) (s : FoundTree) → FindsIn whole s (named m spot s)
+finds_named : (whole : List Spot) (m : Option Meaning) (spot : Spot) (s : FoundTree) → FindsIn whole s (meaning_of_name m spot s)
 finds_named whole (Some (Variable object of)) spot s = finds_itself whole s
 finds_named whole (Some EndOfFile) spot s = finds_itself whole s
 finds_named whole (Some (Function k)) spot s = finds_itself whole s
@@ -191,9 +191,9 @@ finds_literal first bytes s = record { more = record { spot = first; bytes = byt
 
 -- a call
 finds_call : (whole others : List Spot) (g : Option SignatureTree) (operand : Checked (Option ValueTree)) (arguments : List Scalar → ℕ → FoundTree → Checked Passed) (first : Spot) (last : ℕ) (s : FoundTree)
-    → FindsIn whole s operand → ((types : List Scalar) (at : ℕ) (t : FoundTree) → FindsIn others t (arguments types at t)) → FindsIn (whole ++ others) s (call_of g operand arguments first last s)
+    → FindsIn whole s operand → ((types : List Scalar) (at : ℕ) (t : FoundTree) → FindsIn others t (arguments types at t)) → FindsIn (whole ++ others) s (call_meaning g operand arguments first last s)
 finds_call whole others (Some g) operand arguments first last s h k =
-    finds_more others (whole ++ others) s (next (arguments g.parameters 0 (noted g.callee first s)) (called g first last)) (part_last others whole others (part_all others))
+    finds_more others (whole ++ others) s (check_next (arguments g.parameters 0 (noted g.callee first s)) (called g first last)) (part_last others whole others (part_all others))
     (finds_then others s (arguments g.parameters 0 (noted g.callee first s)) (called g first last)
     (by (noted g.callee first s) (arguments g.parameters 0 (noted g.callee first s)) (noted_same g.callee first s) (k g.parameters 0 (noted g.callee first s)))
     (λ q t. finds_none [] t (if q.fit then t else faulted ARGUMENTS first last t) (faulted_same q.fit ARGUMENTS first last t)))
@@ -201,7 +201,7 @@ finds_call whole others (Some g) operand arguments first last s h k =
     by : (t : FoundTree) (q : Checked Passed) → t.literals ≡ s.literals → FindsIn others t q → FindsIn others s q
     by t (gives a u) e j = subst (λ z. Adds literal_spot z u.literals others) e j
 finds_call whole others None operand arguments first last s h k =
-    finds_next whole others s operand (λ f t. next (arguments [] 0 t) (λ q. uncallable first last f)) h
+    finds_next whole others s operand (λ f t. check_next (arguments [] 0 t) (λ q. uncallable first last f)) h
     (λ f t. finds_then others t (arguments [] 0 t) (λ q. uncallable first last f) (k [] 0 t) (λ q u. finds_uncallable [] first last f u))
 
 module _ (names : Names) where
@@ -215,18 +215,18 @@ module _ (names : Names) where
     typed_finds (Index e i last) s =
         finds_next (spots_of e) (spots_of i) s (valued (typed names e s)) _ (finds_valued (spots_of e) s (typed names e s) (typed_finds e s))
         (λ a t.
-        finds_then (spots_of i) t (valued (typed names i t)) _ (finds_valued (spots_of i) t (typed names i t) (typed_finds i t)) (λ b u. finds_two [] a b _ u (λ v w. finds_judged [] _ _ (first_of e) last u)))
+        finds_then (spots_of i) t (valued (typed names i t)) _ (finds_valued (spots_of i) t (typed names i t) (typed_finds i t)) (λ b u. finds_two [] a b _ u (λ v w. finds_judged [] _ _ (first_spot e) last u)))
     typed_finds (Call e all last) s =
-        finds_call (spots_of e) (spots_of_all all) (function_named names e) (valued (typed names e s)) (typed_all names all) (first_of e) last s (finds_valued (spots_of e) s (typed names e s) (typed_finds e s)) (λ types at t. all_find all types at t)
-    typed_finds (PostIncrement e last) s = finds_then (spots_of e) s (typed names e s) _ (typed_finds e s) (λ a t. finds_one [] a _ t (λ m. finds_stepping [] _ _ (first_of e) last m t))
-    typed_finds (PostDecrement e last) s = finds_then (spots_of e) s (typed names e s) _ (typed_finds e s) (λ a t. finds_one [] a _ t (λ m. finds_stepping [] _ _ (first_of e) last m t))
+        finds_call (spots_of e) (spots_of_all all) (function_named names e) (valued (typed names e s)) (typed_all names all) (first_spot e) last s (finds_valued (spots_of e) s (typed names e s) (typed_finds e s)) (λ types at t. all_find all types at t)
+    typed_finds (PostIncrement e last) s = finds_then (spots_of e) s (typed names e s) _ (typed_finds e s) (λ a t. finds_one [] a _ t (λ m. finds_stepping [] _ _ (first_spot e) last m t))
+    typed_finds (PostDecrement e last) s = finds_then (spots_of e) s (typed names e s) _ (typed_finds e s) (λ a t. finds_one [] a _ t (λ m. finds_stepping [] _ _ (first_spot e) last m t))
     typed_finds (Prefix spot o e) s =
         finds_inside spot (spots_of e) s _ (finds_then (spots_of e) s (typed names e s) _ (typed_finds e s) (λ a t. finds_one [] a _ t (λ m. finds_prefixed [] o spot (last_of e) m t)))
     typed_finds (Cast spot to e) s =
         finds_inside spot (spots_of e) s _ (finds_then (spots_of e) s (valued (typed names e s)) _ (finds_valued (spots_of e) s (typed names e s) (typed_finds e s)) (λ a t. finds_cast [] to spot (last_of e) a t))
     typed_finds (SizeofExpression spot e) s = by (typed names e s) (typed_finds e s)
       where
-        by : (q : Meant) → FindsIn (spots_of e) s q → FindsIn (spot ∷ spots_of e) s (next q (λ a t. with_one a (measured spot (last_of e)) (restored (length s.undefined) (length s.literals) t)))
+        by : (q : Meant) → FindsIn (spots_of e) s q → FindsIn (spot ∷ spots_of e) s (check_next q (λ a t. with_one a (measured spot (last_of e)) (restored (length s.undefined) (length s.literals) t)))
         by (gives a t) h =
             let r = restored (length s.undefined) (length s.literals) t in
             finds_more [] (spot ∷ spots_of e) s (with_one a (measured spot (last_of e)) r) (part_none (spot ∷ spots_of e))
@@ -237,19 +237,19 @@ module _ (names : Names) where
     typed_finds (Binary o a b) s =
         finds_next (spots_of a) (spots_of b) s (valued (typed names a s)) _ (finds_valued (spots_of a) s (typed names a s) (typed_finds a s))
         (λ x t.
-        finds_then (spots_of b) t (valued (typed names b t)) _ (finds_valued (spots_of b) t (typed names b t) (typed_finds b t)) (λ y u. finds_two [] x y _ u (λ v w. finds_judged [] _ _ (first_of a) (last_of b) u)))
+        finds_then (spots_of b) t (valued (typed names b t)) _ (finds_valued (spots_of b) t (typed names b t) (typed_finds b t)) (λ y u. finds_two [] x y _ u (λ v w. finds_judged [] _ _ (first_spot a) (last_of b) u)))
     typed_finds (Conditional c a b) s =
         subst (λ z. FindsIn z s (typed names (Conditional c a b) s)) (sym (append_assoc (spots_of c) (spots_of a) (spots_of b)))
         (finds_next (spots_of c) (spots_of a ++ spots_of b) s (valued (typed names c s)) _ (finds_valued (spots_of c) s (typed names c s) (typed_finds c s))
         (λ x t.
         finds_next (spots_of a) (spots_of b) t (valued (typed names a t)) _ (finds_valued (spots_of a) t (typed names a t) (typed_finds a t))
         (λ y u.
-        finds_then (spots_of b) u (valued (typed names b u)) _ (finds_valued (spots_of b) u (typed names b u) (typed_finds b u)) (λ z v. finds_three [] x y z _ v (λ k l m. finds_judged [] _ _ (first_of c) (last_of b) v)))))
+        finds_then (spots_of b) u (valued (typed names b u)) _ (finds_valued (spots_of b) u (typed names b u) (typed_finds b u)) (λ z v. finds_three [] x y z _ v (λ k l m. finds_judged [] _ _ (first_spot c) (last_of b) v)))))
     typed_finds (Assignment o a b) s =
         finds_next (spots_of a) (spots_of b) s (typed names a s) _ (typed_finds a s)
         (λ x t.
         finds_then (spots_of b) t (valued (typed names b t)) _ (finds_valued (spots_of b) t (typed names b t) (typed_finds b t))
-        (λ y u. finds_two [] x y _ u (λ v w. finds_assignment [] o (is_zero b) (first_of a) (last_of b) v w u)))
+        (λ y u. finds_two [] x y _ u (λ v w. finds_assignment [] o (is_zero b) (first_spot a) (last_of b) v w u)))
     typed_finds (Comma a b) s =
         finds_next (spots_of a) (spots_of b) s (valued (typed names a s)) _ (finds_valued (spots_of a) s (typed names a s) (typed_finds a s))
         (λ x t. finds_then (spots_of b) t (valued (typed names b t)) _ (finds_valued (spots_of b) t (typed names b t) (typed_finds b t)) (λ y u. finds_two [] x y _ u (λ v w. finds_itself [] u)))

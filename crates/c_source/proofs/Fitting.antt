@@ -11,7 +11,7 @@ use Rattle.c_tree.specs.declared.object_type.ValueType.TheVariants.{Void, Intege
 use Rattle.c_tree.specs.declared.typed_expression.Arithmetic.{Arithmetic}
 use Rattle.c_tree.specs.declared.typed_expression.Arithmetic.TheVariants.{ShiftLeft, ShiftRight}
 use Rattle.c_type_rules.specs.Integers.{is_signed, unsigned_of, joined as joined_integers, promoted, common, rank}
-use Rattle.c_type_rules.specs.Types.{loaded, pointed_to, same_value}
+use Rattle.c_type_rules.specs.Types.{loaded_type, pointed_to, same_value}
 use Rattle.c_type_values.specs.Operations as operation
 use Rattle.c_type_laws.specs.Kind.{Kind, Wrong, NullPointer, Of}
 use Rattle.c_type_laws.specs.Kinds.{of_if, is_pointer_type, is_promoted, is_of, is_typed, is_scalar, is_pointer, is_integer, is_counted, joined, is_operand}
@@ -120,7 +120,7 @@ operand_by ShiftRight t k = refl
 operand_by _ t k = refl
 
 -- what a scalar object holds leads to no array
-pub loaded_elements : (s : Scalar) → leads_to_elements (loaded s) ≡ true
+pub loaded_elements : (s : Scalar) → leads_to_elements (loaded_type s) ≡ true
 loaded_elements s = by (s.stars == 0)
   where
     by : (b : Bool) → leads_to_elements (if b then Integer s.base else Pointer (object.Scalar (pointed_to s))) ≡ true

@@ -10,16 +10,16 @@ use Rattle.c_parse_tokens.specs.declared.mark.Mark.TheVariants as mark
 use Rattle.c_parse_tokens.specs.declared.specifier.Place.{Place}
 use Rattle.c_parse_tokens.specs.declared.specifier.SpecifierList.{SpecifierList}
 use Rattle.c_parse_tokens.specs.Outcome.{Parser, ◌>>=◌}
-use Rattle.c_parse_tokens.specs.Front.{stuck, is, behind, want, spot_at, one_less, separated}
+use Rattle.c_parse_tokens.specs.Front.{stuck, is, tokens_behind, want, spot_at, one_less, separated}
 use Rattle.c_parse_tokens.specs.Operators.{punctuator_of, binary_operator, operator_at, assignment_operator, assignment_at}
-use Rattle.c_parse_tokens.specs.Specifiers.{no_specifiers, is_type, with_word, keyword_of, ended, specifiers_from, specifiers, is_parenthesis, names_type, type_behind, is_star, stars_from, stars}
+use Rattle.c_parse_tokens.specs.Specifiers.{no_specifiers, is_type, with_specifier, keyword_of_word, ended, specifiers_from, specifiers, is_parenthesis, names_type, type_behind, is_star, stars_from, stars}
 use Rattle.c_source.specs.Tokens.{AreSound}
 use Rattle.c_source.specs.Standing.{Stand, none, passed, told, Shape, Found, plain, spots_of_many, AreAllFormed, many}
 use Rattle.c_source.proofs.Bytes.{by_test, by_option}
 use Rattle.c_source.proofs.Standing.{trail, silent, next, Leads, LeadsTo, option_next, one_more, formed_on}
 
-pub behind_leads : (m : Mark) (ts : List Lexeme) → AreSound ts → Leads ts (behind m ts)
-unfolding behind
+pub behind_leads : (m : Mark) (ts : List Lexeme) → AreSound ts → Leads ts (tokens_behind m ts)
+unfolding tokens_behind
 behind_leads m [] h = tt
 behind_leads m (t ∷ ts) h = by_test (Leads (t ∷ ts)) (is m t.kind) _ _ (λ _. (told t none, h.1)) (λ _. tt)
 
@@ -31,7 +31,7 @@ type_leads (t ∷ ts) h = by_test (Leads (t ∷ ts)) (is_parenthesis t.kind && n
 pub want_next : {B : Type 0} (T : Shape B) (m : Mark) (ts whole : List Lexeme) (f : List Lexeme → Result (B × List Lexeme) Stuck) → AreSound ts
     → ((rest : List Lexeme) → Stand (spot_at ts ∷ []) ts rest → AreSound rest → Found T whole (f rest)) → Found T whole (want m ts >>= f)
 unfolding want
-want_next T m ts whole f h k = by (behind m ts) (behind_leads m ts h)
+want_next T m ts whole f h k = by (tokens_behind m ts) (behind_leads m ts h)
   where
     by : (o : Option (List Lexeme)) → Leads ts o → Found T whole (option_map_or (λ rest. Ok rest) o (Err (stuck ts)) >>= f)
     by None l = tt
@@ -66,7 +66,7 @@ ended_found found ts whole s h = by_test (Found plain whole) (is_type found) _ _
 from_found : (p : Place) (found : SpecifierList) (ts whole : List Lexeme) → Stand [] whole ts → AreSound ts → Found plain whole (specifiers_from p found ts)
 from_found p found [] whole s h = ended_found found [] whole s h
 from_found p found (t ∷ ts) whole s h =
-    by_option P _ (keyword_of t.kind) _ (λ k _. by_option P _ (with_word p k found) _ (λ more _. from_found p more ts whole (trail s (passed t none)) h.1) tt) (ended_found found (t ∷ ts) whole s h)
+    by_option P _ (keyword_of_word t.kind) _ (λ k _. by_option P _ (with_specifier p k found) _ (λ more _. from_found p more ts whole (trail s (passed t none)) h.1) tt) (ended_found found (t ∷ ts) whole s h)
   where
     P : Result (SpecifierList × List Lexeme) Stuck → Type 0
     P r = Found plain whole r
@@ -94,7 +94,7 @@ pub separated_found : {A : Type 0} (S : Shape A) (n : ℕ) (item : Parser A) →
     → (done : List A) (ts whole : List Lexeme) → Stand (spots_of_many S done) whole ts → AreAllFormed S done → AreSound ts → Found (many S) whole (separated n item done ts)
 separated_found S zero item good done ts whole s f h = (s, f, h)
 separated_found S (suc n) item good done ts whole s f h =
-    option_next (many S) ts whole (behind mark.Comma ts) _ _ (behind_leads mark.Comma ts h)
+    option_next (many S) ts whole (tokens_behind mark.Comma ts) _ _ (behind_leads mark.Comma ts h)
     (λ after r g. next S (many S) after whole (item after) _ (good after g)
     (λ x q fx gx. separated_found S n item good (done ++ x.0 ∷ []) x.1 whole (one_more S done x.0 whole after x.1 (trail s (silent r)) q) (formed_on S done x.0 f fx) gx))
     (s, f, h)

@@ -7,7 +7,7 @@ use Rattle.debug_records.specs.declared.code.Code.{Code}
 use Rattle.c_tree.specs.Programs.{LiteralTree, ProgramTree}
 use Rattle.c_type_laws.specs.Objects.{are_ended}
 use Rattle.c_type_laws.specs.Statics.{are_bytes, literals_sound}
-use Rattle.c_type_expressions.specs.Findings.{FoundTree, Checked, gives, next, with_one, with_two, with_three, judged, faulted, with_undefined, with_literal, restored}
+use Rattle.c_type_expressions.specs.Findings.{FoundTree, Checked, gives, check_next, with_one, with_two, with_three, judged, faulted, with_undefined, with_literal, restored}
 use Rattle.c_type_expressions.specs.Judgements.{writing}
 use Rattle.c_source.proofs.Same.{two_true, both}
 use Rattle.c_source.specs.Findings.{Begins, Grows, Accepts, HoldsOf, Good, IsGood}
@@ -138,7 +138,7 @@ module _ (K : Type 0) (p : ProgramTree) where
 
   -- a check, and another one behind it
   pub next_good : {A B : Type 0} (P : A → Type 0) (Q : B → Type 0) (r s : FoundTree) (q : Checked (Option A)) (g : Option A → FoundTree → Checked (Option B)) → IsGood K p P s q
-      → ((m : Option A) (t : FoundTree) → Good K p P s m t → IsGood K p Q r (g m t)) → IsGood K p Q r (next q g)
+      → ((m : Option A) (t : FoundTree) → Good K p P s m t → IsGood K p Q r (g m t)) → IsGood K p Q r (check_next q g)
   next_good P Q r s (gives m t) g h k = k m t h
 
   pub one_good : {A B : Type 0} (P : A → Type 0) (Q : B → Type 0) (s t : FoundTree) (m : Option A) (g : A → FoundTree → Checked (Option B)) → Good K p P s m t

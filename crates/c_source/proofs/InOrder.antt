@@ -7,7 +7,7 @@ use Rattle.c_tree.specs.Trees.{ItemTree, Include, Declares, Defines}
 use Rattle.c_tree.specs.Programs.{AutomaticTree, LiteralTree, StaticTree, TypedFunctionTree, ProgramTree}
 use Rattle.c_places.specs.Places.{Place, places_of_program}
 use Rattle.c_places.specs.Memory.{kept_by_all}
-use Rattle.c_type_bounds.specs.Bounds.{kept, kept_all, with_kept, function_breach, or_breach, behind_function, behind_functions}
+use Rattle.c_type_bounds.specs.Bounds.{with_one_in_memory, with_all_in_memory, with_kept, function_breach, or_breach, behind_function, behind_functions}
 use Rattle.c_type.specs.Items.{beginning}
 use Rattle.c_type_laws.specs.Laws.{places_ascend, objects_ascend}
 use Rattle.c_type_laws.specs.Orders.{ascends, never_falls}
@@ -23,14 +23,14 @@ use Rattle.c_source.proofs.Programs.{Accepted}
 use Rattle.c_source.proofs.StaticOrder.{name_spots, static_names_of, static_names, AreStaticsInOrder, statics_ascend}
 
 -- variables that are marked stand where they stood
-kept_there : (k : ℕ) (vs : List AutomaticTree) → map variable_spot (kept k vs) ≡ map variable_spot vs
+kept_there : (k : ℕ) (vs : List AutomaticTree) → map variable_spot (with_one_in_memory k vs) ≡ map variable_spot vs
 kept_there k [] = refl
 kept_there zero (v ∷ vs) = refl
 kept_there (suc k) (v ∷ vs) = ap (λ z. v.spot ∷ z) (kept_there k vs)
 
-all_kept_there : (ks : List ℕ) (vs : List AutomaticTree) → map variable_spot (kept_all ks vs) ≡ map variable_spot vs
+all_kept_there : (ks : List ℕ) (vs : List AutomaticTree) → map variable_spot (with_all_in_memory ks vs) ≡ map variable_spot vs
 all_kept_there [] vs = refl
-all_kept_there (k ∷ ks) vs = all_kept_there ks (kept k vs) ∙ kept_there k vs
+all_kept_there (k ∷ ks) vs = all_kept_there ks (with_one_in_memory k vs) ∙ kept_there k vs
 
 unbroken : (o : Option Code) (line : ℕ) (vs ws : List AutomaticTree) → or_breach o line vs ≡ Ok ws → vs ≡ ws
 unbroken None line vs ws h = cc

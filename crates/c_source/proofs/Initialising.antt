@@ -15,14 +15,14 @@ use Rattle.c_tree.specs.TypedExpressions.{RvalueTree}
 use Rattle.c_tree.specs.TypedStatements.{InitialTree}
 use Rattle.c_tree.specs.TypedStatements as typed-tree
 use Rattle.c_tree.specs.Programs.{LiteralTree, TypedFunctionTree, ProgramTree}
-use Rattle.c_type_rules.specs.Integers.{size, scalar_size}
-use Rattle.c_type_rules.specs.Types.{loaded, same_integer}
+use Rattle.c_type_rules.specs.Integers.{integer_size as size, scalar_size}
+use Rattle.c_type_rules.specs.Types.{loaded_type, same_integer}
 use Rattle.c_type_laws.specs.Kinds.{is_of}
 use Rattle.c_type_laws.specs.Expressions.{kind_of}
 use Rattle.c_type_laws.specs.Statements.{literal_fits, are_elements, initialises}
 use Rattle.c_type_declarations.specs.Progress.{ProgressTree, breaks}
-use Rattle.c_type_declarations.specs.Objects.{is_char, only_literal, literal_for, count}
-use Rattle.c_type_declarations.specs.Initials.{scalar_met, tree_of, elements_met, within_count, with_array_literal, array_literal_met, list_met, written_met, initial_met}
+use Rattle.c_type_declarations.specs.Objects.{is_plain_char, only_literal, literal_for, count}
+use Rattle.c_type_declarations.specs.Initials.{scalar_met, computed_tree, elements_met, within_count, with_array_literal, array_literal_met, list_met, written_met, initial_met}
 use Rattle.c_source.specs.Formed.{IsInitializerFormed, AreInitializersFormed, IsInitialFormed}
 use Rattle.c_source.specs.Progress.{Ensures}
 use Rattle.c_source.specs.Making.{Looks, Makes, MakesIfAny, IsHeldIn}
@@ -36,7 +36,7 @@ use Rattle.base_laws.proofs.Numbers.{at_least}
 more_than : (a b : ℕ) → nat_le b a ≡ true → nat_le (b + 1) (a + 1) ≡ true
 more_than a b h = grind (arith, nat_tests)
 
-char_size : (s : Scalar) → is_char s ≡ true → (scalar_size s == 1) ≡ true
+char_size : (s : Scalar) → is_plain_char s ≡ true → (scalar_size s == 1) ≡ true
 char_size s h =
     let c = two_true (s.stars == 0) (same_integer s.base Char) h in
     ap (λ b. (if b then size s.base else 4) == 1) c.0 ∙ ap (λ t. size t == 1) (integer_is s.base Char c.1)
@@ -72,7 +72,7 @@ module _ (p : ProgramTree) (f : TypedFunctionTree) (low : ℕ) where
           looks = looks_on p f low one.looks rest.0.looks;
           holds = λ i e.
               let before = stands_before rest.0.looks.comes.advances e in
-              both (is_of (kind_of p f (tree_of v)) (loaded s)) (are_elements p f s vs) (tree_held p f low s v (one.there before.accepts.faults) (one.holds i before)) (rest.0.holds (one.looks.comes.inside i before) e);
+              both (is_of (kind_of p f (computed_tree v)) (loaded_type s)) (are_elements p f s vs) (tree_held p f low s v (one.there before.accepts.faults) (one.holds i before)) (rest.0.holds (one.looks.comes.inside i before) e);
         },
         let n = rest.1 in omega arith,
       )))
@@ -101,10 +101,10 @@ module _ (p : ProgramTree) (f : TypedFunctionTree) (low : ℕ) where
   abbrev Writes : ProgressTree → ObjectType → InitialTree → ProgressTree → Type 0
   Writes q of i t = Makes p f low (λ (w : InitialTree). initialises p f of w ≡ true) q i t
 
-  literal_fitting : (s : Scalar) (size : ℕ) (bytes : List ℕ) (o : Option LiteralTree) (l : LiteralTree) → o ≡ Some l → length l.bytes ≡ length bytes + 1 → is_char s ≡ true → nat_le (length bytes) size ≡ true → literal_fits o s size ≡ true
+  literal_fitting : (s : Scalar) (size : ℕ) (bytes : List ℕ) (o : Option LiteralTree) (l : LiteralTree) → o ≡ Some l → length l.bytes ≡ length bytes + 1 → is_plain_char s ≡ true → nat_le (length bytes) size ≡ true → literal_fits o s size ≡ true
   literal_fitting s size bytes o l is n char h = rw (is, n) (both (scalar_size s == 1) (nat_le (length bytes + 1) (size + 1)) (char_size s char) (more_than size (length bytes) h))
 
-  array_literal_makes : (s : Scalar) (size : ℕ) (extent : Extent) (l : Spot × List ℕ) (q : ProgressTree) → is_char s ≡ true → Ensures (Writes q (object.Array s size)) (array_literal_met size extent l q)
+  array_literal_makes : (s : Scalar) (size : ℕ) (extent : Extent) (l : Spot × List ℕ) (q : ProgressTree) → is_plain_char s ≡ true → Ensures (Writes q (object.Array s size)) (array_literal_met size extent l q)
   array_literal_makes s size extent l q char =
       let r = within_count (length l.1) size extent q in
       let looks = looks_on p f low (within_looks (length l.1) size extent q) (literal_looks l.0 l.1 r) in
@@ -152,7 +152,7 @@ module _ (p : ProgramTree) (f : TypedFunctionTree) (low : ℕ) where
       char_by false o l e = cc
 
       by : (o : Option (Spot × List ℕ)) → literal_for s i ≡ o → Ensures (Writes q (object.Array s size)) (option_map_or (λ l. array_literal_met size extent l q) o (list_met s size extent i q))
-      by (Some l) is = array_literal_makes s size extent l q (char_by (is_char s) (only_literal i) l is)
+      by (Some l) is = array_literal_makes s size extent l q (char_by (is_plain_char s) (only_literal i) l is)
       by None is = list_makes s size extent i q h
 
   pub initial_makes : (of : ObjectType) (extent : Extent) (i : Option InitializerTree) (q : ProgressTree) → IsInitialFormed i → Ensures (Makes p f low (λ (w : InitialTree). initialises p f of w ≡ true) q) (initial_met of extent i q)

@@ -18,9 +18,9 @@ use Rattle.c_tree.specs.Programs.{TypedFunctionTree, ProgramTree}
 use Rattle.c_type_expressions.specs.declared.names.Meaning.{Meaning}
 use Rattle.c_type_expressions.specs.declared.names.Meaning.TheVariants.{Variable, Function, EndOfFile}
 use Rattle.c_type_expressions.specs.Names.{SignatureTree, meaning_of}
-use Rattle.c_type_declarations.specs.Progress.{ProgressTree, Met, means, next_met, reached_by, breaks, opened, closed}
+use Rattle.c_type_declarations.specs.Progress.{ProgressTree, Met, means, next_met, reached_by, breaks, opened, scope_left}
 use Rattle.c_type_declarations.specs.Objects.{size_met}
-use Rattle.c_type.specs.Headers.{is_library_name, with_function, library, is_library, same_type, stands_with, stands, placed, library_met, end_beside, at_spot, included}
+use Rattle.c_type.specs.Headers.{is_library_name, with_function, library, is_library, same_type, stands_with, standing_of, placed, library_met, end_beside, at_spot, included}
 use Rattle.c_type.specs.Functions.{parameter_size, parameter_sizes, parameters_met, defined, signature_of, agrees_with, known_as, name_met, without_new, rest_met, function_met}
 use Rattle.c_type.specs.Items.{item_met, items_met, beginning, source_met}
 use Rattle.c_type_laws.specs.Statements.{are_statements}
@@ -116,7 +116,7 @@ module _ (p : ProgramTree) where
   standing_passes extent name g (Some other) q = beside_passes extent name g other q
   standing_passes extent name g None q = breaks_passes p REDECLARED extent q
 
-  placed_passes : (extent : Extent) (name : List ℕ) (g : SignatureTree) (functions : List SignatureTree) (m : Option Meaning) (q : ProgressTree) → Passes p q (placed (stands g functions m) extent name g q)
+  placed_passes : (extent : Extent) (name : List ℕ) (g : SignatureTree) (functions : List SignatureTree) (m : Option Meaning) (q : ProgressTree) → Passes p q (placed (standing_of g functions m) extent name g q)
   placed_passes extent name g functions None q = with_function_passes name g q
   placed_passes extent name g functions (Some (Function k)) q = standing_passes extent name g (slice_get functions k) q
   placed_passes extent name g functions (Some (Variable o of)) q = breaks_passes p REDECLARED extent q
@@ -157,7 +157,7 @@ module _ (p : ProgramTree) where
   sizes_pass (d ∷ ds) q h = passes_on p (size_passes d.extent d.brackets q h.0) (sizes_pass ds (parameter_size d.extent d.brackets q) h.1)
 
   -- a function that is only declared
-  only_passes : (f : FunctionTree) (q : ProgressTree) → AreNamesFormed f.parameters → Passes p q (without_new (length q.automatics) (closed (parameters_met f.parameters (opened q))))
+  only_passes : (f : FunctionTree) (q : ProgressTree) → AreNamesFormed f.parameters → Passes p q (without_new (length q.automatics) (scope_left (parameters_met f.parameters (opened q))))
   only_passes f q names =
       let t = parameters_met f.parameters (opened q) in
       let a = (parameters_come p (any_function f.name.spot) f.parameters (opened q) names).advances in
@@ -180,7 +180,7 @@ module _ (p : ProgramTree) where
   -- a function
   pub rest_defined : (f : FunctionTree) (g : SignatureTree) (b : Option BlockTree) (q : ProgressTree) → IsBodyFormed f.parameters b → Ensures (Defined p q) (rest_met f g b q)
   rest_defined f g (Some b) q h = body_defines p f g b q h.0 h.2 h.1
-  rest_defined f g None q h = passes_defined q (without_new (length q.automatics) (closed (parameters_met f.parameters (opened q)))) (only_passes f q h)
+  rest_defined f g None q h = passes_defined q (without_new (length q.automatics) (scope_left (parameters_met f.parameters (opened q)))) (only_passes f q h)
 
   ensures_behind : (q r : ProgressTree) (m : Met (List TypedFunctionTree)) → Passes p q r → Ensures (Defined p r) m → Ensures (Defined p q) m
   ensures_behind q r (means fs t) h d = behind_passes q r fs t h d

@@ -33,7 +33,7 @@ use Rattle.c_type_laws.specs.Statics.{are_bytes}
 use Rattle.c_type_expressions.specs.declared.names.Meaning.{Meaning}
 use Rattle.c_type_expressions.specs.declared.names.Meaning.TheVariants.{Variable, Function, EndOfFile}
 use Rattle.c_type_expressions.specs.Findings.{FoundTree, gives, with_one, faulted, with_literal}
-use Rattle.c_type_expressions.specs.Judgements.{number_of, named, literal_type, literal_met, writing, stepping, prefixed, cast_from, cast_to, cast, size_value, assignable, assigning, updating, assignment_by}
+use Rattle.c_type_expressions.specs.Judgements.{constant_of_type, meaning_of_name, literal_type, literal_met, writing, stepping, prefixed, cast_from, cast_to, cast_meaning, size_value, assignable, assigning, updating, assignment_by}
 use Rattle.c_source.specs.Findings.{Accepts, HoldsOf, Good, IsGood}
 use Rattle.c_source.specs.Values.{IsTyped, Means}
 use Rattle.c_source.specs.Known.{IsKnown}
@@ -60,7 +60,7 @@ length_ended (b ∷ bytes) = omega (arith, length_ended bytes)
 
 module _ (K : Type 0) (p : ProgramTree) (f : TypedFunctionTree) where
   -- a number of an integer type
-  pub number_typed : (t : IntegerType) (z : ℤ) → fits t z ≡ true → Means p f (number_of t z)
+  pub number_typed : (t : IntegerType) (z : ℤ) → fits t z ≡ true → Means p f (constant_of_type t z)
   number_typed t z h = record { is = given_kind (fits t z) (Integer t) h; elements = refl; constant = refl }
 
   pub size_typed : (n : ℕ) → Means p f (size_value n)
@@ -71,7 +71,7 @@ module _ (K : Type 0) (p : ProgramTree) (f : TypedFunctionTree) where
   sizes_typed (Some n) g = size_typed (g n)
 
   -- a name
-  pub named_good : (m : Option Meaning) (spot : Spot) (s : FoundTree) → (K → (o : Object) (of : ObjectType) → m ≡ Some (Variable o of) → IsKnown p f o of) → IsGood K p (Means p f) s (named m spot s)
+  pub named_good : (m : Option Meaning) (spot : Spot) (s : FoundTree) → (K → (o : Object) (of : ObjectType) → m ≡ Some (Variable o of) → IsKnown p f o of) → IsGood K p (Means p f) s (meaning_of_name m spot s)
   named_good (Some (Variable o of)) spot s known =
       given K p (Means p f) s s _ (grows_itself s) (λ e. let k = known e.given o of refl in (record { place = k.is; is = refl; elements = k.elements }, address_leads p f o of k.is))
   named_good (Some EndOfFile) spot s known = given K p (Means p f) s s _ (grows_itself s) (λ e. number_typed Int (negsuc 0) refl)
@@ -122,7 +122,7 @@ module _ (K : Type 0) (p : ProgramTree) (f : TypedFunctionTree) where
   cast_to_good base.Void first last v s h = given K p (Means p f) s s _ (grows_itself s) (λ a. discarded_typed p f v (h a))
   cast_to_good (base.Integer t) first last v s h = cast_from_good v.of t first last v s refl h
 
-  pub cast_good : (to : TypeName) (first : Spot) (last : ℕ) (m : Option ValueTree) (r s : FoundTree) → Good K p (IsTyped p f) r m s → IsGood K p (Means p f) r (cast to first last m s)
+  pub cast_good : (to : TypeName) (first : Spot) (last : ℕ) (m : Option ValueTree) (r s : FoundTree) → Good K p (IsTyped p f) r m s → IsGood K p (Means p f) r (cast_meaning to first last m s)
   cast_good to first last m r s h = by (to.stars == 0)
     where
       by : (b : Bool) → IsGood K p (Means p f) r (if b then with_one m (cast_to to.base first last) s else gives None (faulted UNEXPECTED_KEYWORD first last s))

@@ -14,9 +14,9 @@ use Rattle.c_tree.specs.TypedExpressions.{RvalueTree, LvalueTree, ArgumentTrees,
 use Rattle.c_tree.specs.TypedStatements.{InitialTree, DeclaredTree, TypedStartTree, StepTree, TypedStatementTree, TypedStatementTrees}
 use Rattle.c_tree.specs.TypedStatements as statement
 use Rattle.c_tree.specs.Programs.{AutomaticTree, TypedFunctionTree, ProgramTree}
-use Rattle.c_type_rules.specs.Types.{loaded, same_integer}
+use Rattle.c_type_rules.specs.Types.{loaded_type, same_integer}
 use Rattle.c_type_rules.specs.Integers.{promoted}
-use Rattle.c_places.specs.Memory.{named, named_if, keeps, kept_in, kept_all, kept_values, kept_initial, kept_declared, kept_start, kept_option, kept_step, kept_by, kept_by_all}
+use Rattle.c_places.specs.Memory.{with_named_variable, named_if, keeps, kept_in, kept_in_arguments, kept_values, kept_initial, kept_declared, kept_start, kept_option, kept_step, kept_by, kept_by_all}
 use Rattle.c_type_rules.specs.ValueTypes.{object_type}
 use Rattle.c_type_laws.specs.Kind.{Kind, Wrong, NullPointer, Of}
 use Rattle.c_type_laws.specs.Kinds.{of_if, is_promoted, is_of, is_typed, is_scalar, is_pointer, is_integer, is_counted, joined, is_operand, holds_scalar, holds_integer, holds_pointer, is_array, automatic_is, is_variable, is_callee, taken_by}
@@ -86,7 +86,7 @@ module _ (p : ProgramTree) (f : TypedFunctionTree) where
   abbrev pub AreOwn : List ℕ → Type 0
   AreOwn ks = AreWithin f.first_variable (f.first_variable + f.variables) ks
 
-  named_own : (l : LvalueTree) (ks : List ℕ) → is_place p f l ≡ true → AreOwn ks → AreOwn (named l ks)
+  named_own : (l : LvalueTree) (ks : List ℕ) → is_place p f l ≡ true → AreOwn ks → AreOwn (with_named_variable l ks)
   named_own (Named (Automatic i) of) ks h own =
       let c = two_true (is_variable f i) (automatic_is (slice_get p.automatics i) of) h in
       let d = two_true (nat_le f.first_variable i) (nat_lt i (f.first_variable + f.variables)) c.0 in
@@ -106,9 +106,9 @@ module _ (p : ProgramTree) (f : TypedFunctionTree) where
     pub keeps_own : (q : Bool) (e : RvalueTree) (ks : List ℕ) → is_typed (kind_of p f e) ≡ true → AreOwn ks → AreOwn (keeps q e ks)
     keeps_own q (Constant z t) ks h own = own
     keeps_own q Null ks h own = own
-    keeps_own q (Load s l) ks h own = place_own q l ks (two_true (holds_scalar (object_type l) s) (is_place p f l) (fits_if _ (loaded s) h)).1 own
+    keeps_own q (Load s l) ks h own = place_own q l ks (two_true (holds_scalar (object_type l) s) (is_place p f l) (fits_if _ (loaded_type s) h)).1 own
     keeps_own q (Decay l) ks h own = place_own q l ks (two_true (is_array (object_type l)) (is_place p f l) (fits_if _ _ h)).1 own
-    keeps_own q (AddressOf l) ks h own = let c = fits_if (is_place p f l) (Pointer (object_type l)) h in place_own q l (named l ks) c (named_own l ks c own)
+    keeps_own q (AddressOf l) ks h own = let c = fits_if (is_place p f l) (Pointer (object_type l)) h in place_own q l (with_named_variable l ks) c (named_own l ks c own)
     keeps_own q (Convert t e) ks h own = keeps_own q e ks (integer_typed (kind_of p f e) (fits_if _ (Integer t) h)) own
     keeps_own q (Discard e) ks h own = keeps_own q e ks (fits_if (is_typed (kind_of p f e)) Void h) own
     keeps_own q (Signed o t e) ks h own = keeps_own q e ks (typed_kind (kind_of p f e) (Integer t) (two_true (is_promoted t) (is_of (kind_of p f e) (Integer t)) (fits_if _ (Integer t) h)).1) own
@@ -143,8 +143,8 @@ module _ (p : ProgramTree) (f : TypedFunctionTree) where
         keeps_own true b (keeps true a (keeps q e ks)) d.1 (keeps_own true a (keeps q e ks) d.0 (keeps_own q e ks (scalar_typed (kind_of p f e) c.0) own))
     keeps_own q (Comma a b) ks h own = let c = chosen_if (is_typed (kind_of p f a)) (kind_of p f b) h in keeps_own q b (keeps q a ks) c.1 (keeps_own q a ks c.0 own)
     keeps_own q (Assign s l e) ks h own =
-        let c = three_true (holds_scalar (object_type l) s) (is_place p f l) (is_of (kind_of p f e) (loaded s)) (fits_if _ (loaded s) h) in
-        keeps_own q e (kept_in q l (named_if q l ks)) (typed_kind (kind_of p f e) (loaded s) c.2) (place_own q l (named_if q l ks) c.1 (named_if_own q l ks c.1 own))
+        let c = three_true (holds_scalar (object_type l) s) (is_place p f l) (is_of (kind_of p f e) (loaded_type s)) (fits_if _ (loaded_type s) h) in
+        keeps_own q e (kept_in q l (named_if q l ks)) (typed_kind (kind_of p f e) (loaded_type s) c.2) (place_own q l (named_if q l ks) c.1 (named_if_own q l ks c.1 own))
     keeps_own q (Update o t u l e) ks h own =
         let c = four_true (holds_integer (object_type l) t) (is_promoted u) (is_place p f l) (is_operand o u (kind_of p f e)) (fits_if _ (Integer t) h) in
         keeps_own q e (kept_in q l (named_if q l ks)) (operand_typed o u (kind_of p f e) c.3) (place_own q l (named_if q l ks) c.2 (named_if_own q l ks c.2 own))
@@ -170,7 +170,7 @@ module _ (p : ProgramTree) (f : TypedFunctionTree) where
         keeps_own q a (keeps q i ks) (typed_kind (kind_of p f a) (Pointer of) c.1) (keeps_own q i ks (counted_typed (kind_of p f i) c.0) own)
 
     -- of arguments
-    all_own : (q : Bool) (all : ArgumentTrees) (ts : List ValueType) (ks : List ℕ) → are_passed p f ts all ≡ true → AreOwn ks → AreOwn (kept_all q all ks)
+    all_own : (q : Bool) (all : ArgumentTrees) (ts : List ValueType) (ks : List ℕ) → are_passed p f ts all ≡ true → AreOwn ks → AreOwn (kept_in_arguments q all ks)
     all_own q none ts ks h own = own
     all_own q (first e rest) [] ks h own = cc
     all_own q (first e rest) (t ∷ ts) ks h own =
@@ -178,11 +178,11 @@ module _ (p : ProgramTree) (f : TypedFunctionTree) where
 
   values_own : (s : Scalar) (es : List RvalueTree) (ks : List ℕ) → are_elements p f s es ≡ true → AreOwn ks → AreOwn (kept_values es ks)
   values_own s [] ks h own = own
-  values_own s (e ∷ more) ks h own = let c = two_true (is_of (kind_of p f e) (loaded s)) (are_elements p f s more) h in values_own s more (keeps false e ks) c.1 (keeps_own false e ks (typed_kind (kind_of p f e) (loaded s) c.0) own)
+  values_own s (e ∷ more) ks h own = let c = two_true (is_of (kind_of p f e) (loaded_type s)) (are_elements p f s more) h in values_own s more (keeps false e ks) c.1 (keeps_own false e ks (typed_kind (kind_of p f e) (loaded_type s) c.0) own)
 
   initial_own : (of : ObjectType) (i : InitialTree) (ks : List ℕ) → initialises p f of i ≡ true → AreOwn ks → AreOwn (kept_initial i ks)
   initial_own of statement.Zero ks h own = own
-  initial_own (object.Scalar s) (statement.Scalar e) ks h own = keeps_own false e ks (typed_kind (kind_of p f e) (loaded s) h) own
+  initial_own (object.Scalar s) (statement.Scalar e) ks h own = keeps_own false e ks (typed_kind (kind_of p f e) (loaded_type s) h) own
   initial_own (object.Array s n) (statement.Scalar e) ks h own = cc
   initial_own (object.Scalar s) (statement.Elements all) ks h own = cc
   initial_own (object.Array s n) (statement.Elements all) ks h own = values_own s all ks (two_true (nat_le (length all) n) (are_elements p f s all) h).1 own

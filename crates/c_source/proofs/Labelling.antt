@@ -15,7 +15,7 @@ use Rattle.c_type_rules.specs.declared.constancy.Constancy.TheVariants.{Known}
 use Rattle.c_type_rules.specs.Integers.{promoted}
 use Rattle.c_type_values.specs.Values.{ValueTree, to_integer}
 use Rattle.c_type_declarations.specs.Progress.{ProgressTree, value_met, breaks}
-use Rattle.c_type_statements.specs.Switches.{Chosen, chosen_by, chosen, chosen_met, Labels, is_among, in_kind, case_value, PartTree, Case, Default, Statement, put_all, Parts, case_numbered, case_by, misplaced_one, Place, Outside, behind_label, label_at}
+use Rattle.c_type_statements.specs.Switches.{Chosen, chosen_by, controlling_value, chosen_met, Labels, is_among_numbers, in_kind, case_value, PartTree, Case, Default, Statement, put_all, Parts, case_numbered, case_by, misplaced_one, StatementPlace, Outside, behind_label, label_at}
 use Rattle.c_type_statements.specs.Switches as switch
 use Rattle.c_type_laws.specs.Kind.{Kind, Of}
 use Rattle.c_type_laws.specs.Expressions.{kind_of}
@@ -61,7 +61,7 @@ fit_on kind (Default ∷ ps) qs h g = let c = two_true (is_switch kind) (labels_
 fit_on kind (Statement s ∷ ps) qs h g = cc
 
 -- at a place, behind a label
-pub fit_behind : (place : Place) (ls : Labels) (ps qs : List PartTree) → FitAt place ps → FitAt (behind_label place ls) qs → FitAt place (ps ++ qs)
+pub fit_behind : (place : StatementPlace) (ls : Labels) (ps qs : List PartTree) → FitAt place ps → FitAt (behind_label place ls) qs → FitAt place (ps ++ qs)
 fit_behind Outside ls ps qs h g = tt
 fit_behind (switch.Inside kind old) ls ps qs h g = λ k. fit_on kind ps qs (h k) (g k)
 
@@ -99,7 +99,7 @@ module _ (p : ProgramTree) (f : TypedFunctionTree) (low : ℕ) where
   chosen_by_makes Void extent q v t e l h = record { looks = looks_on p f low l (breaks_looks p f low OPERAND_TYPES extent t); holds = λ i s. breaks_never p f low OPERAND_TYPES extent t s.accepts.faults }
   chosen_by_makes (Pointer o) extent q v t e l h = record { looks = looks_on p f low l (breaks_looks p f low OPERAND_TYPES extent t); holds = λ i s. breaks_never p f low OPERAND_TYPES extent t s.accepts.faults }
 
-  any_chosen_makes : (extent : Extent) (q : ProgressTree) (v : Option ValueTree) (t : ProgressTree) → MakesIfAny p f low (IsTyped p f) q v t → Ensures (Makes p f low IsChosen q) (chosen extent v t)
+  any_chosen_makes : (extent : Extent) (q : ProgressTree) (v : Option ValueTree) (t : ProgressTree) → MakesIfAny p f low (IsTyped p f) q v t → Ensures (Makes p f low IsChosen q) (controlling_value extent v t)
   any_chosen_makes extent q (Some v) t made = chosen_by_makes v.of extent q v t refl made.looks made.holds
   any_chosen_makes extent q None t made = record { looks = made.looks; holds = λ i s. absurd (made.there s.accepts.faults) }
 
@@ -107,7 +107,7 @@ module _ (p : ProgramTree) (f : TypedFunctionTree) (low : ℕ) where
   chosen_makes extent e q numbers = next_ensures (MakesIfAny p f low (IsTyped p f) q) (Makes p f low IsChosen q) (value_met e q) _ (value_makes p f low e q numbers) (λ v t made. any_chosen_makes extent q v t made)
 
   -- labels at a place
-  pub record MakesLabels (place : Place) (q : ProgressTree) (l : Parts) (t : ProgressTree) : Type 0 where
+  pub record MakesLabels (place : StatementPlace) (q : ProgressTree) (l : Parts) (t : ProgressTree) : Type 0 where
     pub looks : Looks p f low q t
     pub labels : are_labels l.parts ≡ true
     pub fit : FitAt place l.parts
@@ -115,7 +115,7 @@ module _ (p : ProgramTree) (f : TypedFunctionTree) (low : ℕ) where
   case_numbered_makes : (kind : Option IntegerType) (o : Option ℤ) (extent : Extent) (ls old : Labels) (q t : ProgressTree) → Looks p f low q t → (is_kind kind ≡ true → HoldsOf (λ (z : ℤ). is_label kind z ≡ true) o)
       → Ensures (MakesLabels (switch.Inside kind old) q) (case_numbered o extent ls t)
   case_numbered_makes kind (Some z) extent ls old q t l h =
-      record { looks = looks_on p f low l (unless_looks p f low (not (is_among z ls.values)) REPEATED_LABEL extent t); labels = refl; fit = λ k. both (is_label kind z) true (h k) refl }
+      record { looks = looks_on p f low l (unless_looks p f low (not (is_among_numbers z ls.values)) REPEATED_LABEL extent t); labels = refl; fit = λ k. both (is_label kind z) true (h k) refl }
   case_numbered_makes kind None extent ls old q t l h = record { looks = looks_on p f low l (breaks_looks p f low MISPLACED_JUMP extent t); labels = refl; fit = λ k. refl }
 
   case_by_makes : (kind : Option IntegerType) (extent : Extent) (ls old : Labels) (q : ProgressTree) (v : Option ValueTree) (t : ProgressTree) → Looks p f low q t → Ensures (MakesLabels (switch.Inside kind old) q) (case_by kind extent ls v t)
@@ -131,7 +131,7 @@ module _ (p : ProgramTree) (f : TypedFunctionTree) (low : ℕ) where
   misplaced_looks (CaseLabel extent e) q h = looks_on p f low (breaks_looks p f low MISPLACED_JUMP extent q) (value_looks p f low e (breaks MISPLACED_JUMP extent q) _ h (λ v t. looks_itself p f low t))
   misplaced_looks (DefaultLabel extent) q h = breaks_looks p f low MISPLACED_JUMP extent q
 
-  pub label_makes : (place : Place) (l : LabelTree) (q : ProgressTree) → HasLabelNumbers l → Ensures (MakesLabels place q) (label_at place l q)
+  pub label_makes : (place : StatementPlace) (l : LabelTree) (q : ProgressTree) → HasLabelNumbers l → Ensures (MakesLabels place q) (label_at place l q)
   label_makes Outside l q h = record { looks = misplaced_looks l q h; labels = refl; fit = tt }
   label_makes (switch.Inside kind ls) (CaseLabel extent e) q h =
       next_ensures (MakesIfAny p f low (IsTyped p f) q) (MakesLabels (switch.Inside kind ls) q) (value_met e q) _ (value_makes p f low e q h) (λ v t made. case_by_makes kind extent ls ls q v t made.looks)

@@ -13,7 +13,7 @@ use Rattle.c_tree.specs.declared.object_type.Object.TheVariants as designator
 use Rattle.c_tree.specs.declared.object_type.ValueType.TheVariants.{Void}
 use Rattle.c_tree.specs.declared.typed_expression.Callee.TheVariants as callee
 use Rattle.c_tree.specs.Declarations.{BracketsTree, Absent, Empty, Sized, ParameterTree, DeclaratorTree}
-use Rattle.c_tree.specs.Statements.{BlockTree, chain}
+use Rattle.c_tree.specs.Statements.{BlockTree, chain_of_statements}
 use Rattle.c_tree.specs.Trees.{FunctionTree, ItemTree, Include, Declares, Defines}
 use Rattle.c_tree.specs.TypedStatements.{TypedStatementTrees}
 use Rattle.c_tree.specs.TypedStatements as typed-tree
@@ -22,10 +22,10 @@ use Rattle.c_type_expressions.specs.declared.names.Meaning.{Meaning}
 use Rattle.c_type_expressions.specs.declared.names.Meaning.TheVariants.{Variable}
 use Rattle.c_type_expressions.specs.Names.{SignatureTree, meaning_of}
 use Rattle.c_type_declarations.specs.Scopes.{innermost, declared_here}
-use Rattle.c_type_declarations.specs.Progress.{ProgressTree, Met, means, next_met, reached_by, breaks, breaks_if, with_name, opened, closed}
+use Rattle.c_type_declarations.specs.Progress.{ProgressTree, Met, means, next_met, reached_by, breaks, breaks_if, with_name, opened, scope_left}
 use Rattle.c_type_declarations.specs.Objects.{size_met, type_met}
 use Rattle.c_type_declarations.specs.Statics.{Contents, contents_met}
-use Rattle.c_type_declarations.specs.Declarations.{with_static, static_of_type, static_met, statics_met}
+use Rattle.c_type_declarations.specs.Declarations.{with_static_object, static_of_type, static_met, statics_met}
 use Rattle.c_type_statements.specs.Statements.{statements_met}
 use Rattle.c_type.specs.Headers.{is_library_name, library_met, at_spot, included}
 use Rattle.c_type.specs.Functions.{parameter_size, parameter_sizes, parameters_met, result_type, names_if, defined_by, defined, setting_of, function_made, signature_of, known_as, name_met, without_new, rest_met}
@@ -82,10 +82,10 @@ module _ (p : ProgramTree) where
         s : ProgressTree
         s = with_name d.name.name (Variable (designator.Static (length q.statics)) of) r
 
-        by : (m : Met Contents) → Ensures (Makes p (any_function d.name.spot) 0 (Fits p of) s) m → (reached_by m (with_static d.name of)).found.faults ≡ [] → Links names done (reached_by m (with_static d.name of))
+        by : (m : Met Contents) → Ensures (Makes p (any_function d.name.spot) 0 (Fits p of) s) m → (reached_by m (with_static_object d.name of)).found.faults ≡ [] → Links names done (reached_by m (with_static_object d.name of))
         by (means c u) k g =
             let before : r.found.faults ≡ [] = no_fault_before k.looks.comes.advances.found g in
-            links_same s (with_static d.name of c u) (ap (λ n. n.scopes) k.looks.names) (ap (λ n. n.signatures) k.looks.names)
+            links_same s (with_static_object d.name of c u) (ap (λ n. n.scopes) k.looks.names) (ap (λ n. n.signatures) k.looks.names)
             (named_links (declared_here q.names d.name.name) d.name.name (Variable (designator.Static (length q.statics)) of) d.extent q l refl before)
 
     one_links : (t : IntegerType) (d : DeclaratorTree) (q : ProgressTree) → IsDeclaratorFormed d → Links names done q → (static_met t d q).found.faults ≡ [] → Links names done (static_met t d q)
@@ -107,8 +107,8 @@ module _ (p : ProgramTree) where
     rest_links f None q formed l =
         let t = parameters_met f.parameters (opened q) in
         let a = (parameters_come p (any_function f.name.spot) f.parameters (opened q) formed).advances in
-        links_same q (without_new (length q.automatics) (closed t)) (closed_scopes q t a) a.signatures l
-    rest_links f (Some b) q formed l = by (statements_met (setting_of (signature_of names f)) (chain b.statements) begun) (λ fun e. all_states p fun (setting_of (signature_of names f)) (chain b.statements) begun formed.1 e)
+        links_same q (without_new (length q.automatics) (scope_left t)) (closed_scopes q t a) a.signatures l
+    rest_links f (Some b) q formed l = by (statements_met (setting_of (signature_of names f)) (chain_of_statements b.statements) begun) (λ fun e. all_states p fun (setting_of (signature_of names f)) (chain_of_statements b.statements) begun formed.1 e)
       where
         begun : ProgressTree
         begun = parameters_met f.parameters (opened q)
@@ -120,7 +120,7 @@ module _ (p : ProgramTree) where
             → Ensures (λ (fs : List TypedFunctionTree) t. Links names done t) (next_met m (function_made f (signature_of names f) b (length q.automatics)))
         by (means ts t) h =
             let a = advances_on (parameters_come p any f.parameters (opened q) formed.2).advances (h any refl).comes.advances in
-            links_same q (closed t) (closed_scopes q t a) a.signatures l
+            links_same q (scope_left t) (closed_scopes q t a) a.signatures l
 
   -- items
   abbrev pub IsItemNumbered : List (List ℕ) → ItemTree → Type 0

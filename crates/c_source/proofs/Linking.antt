@@ -18,8 +18,8 @@ use Rattle.c_type_expressions.specs.declared.names.Meaning.TheVariants.{Variable
 use Rattle.c_type_expressions.specs.Names.{Scope, SignatureTree, found_in, meaning_of}
 use Rattle.c_type_declarations.specs.Scopes.{with_meaning, innermost, with_innermost}
 use Rattle.c_type_declarations.specs.Progress.{ProgressTree, breaks, with_name}
-use Rattle.c_type.specs.Headers.{is_library_name, with_function, library, is_library, same_scalars, same_type, stands_with, stands, placed, library_met, end_beside}
-use Rattle.c_type.specs.Functions.{number_of, callee_of, signature_of, is_first, agrees, agrees_with, known_as, name_met}
+use Rattle.c_type.specs.Headers.{is_library_name, with_function, library, is_library, same_scalars, same_type, stands_with, standing_of, placed, library_met, end_beside}
+use Rattle.c_type.specs.Functions.{definition_number, callee_of, signature_of, is_first_definition, agrees, agrees_with, known_as, name_met}
 use Rattle.c_source.proofs.Same.{two_true, scalar_is, value_is}
 use Rattle.c_source.proofs.Growing.{more_is_some}
 use Rattle.c_source.proofs.Judging.{at_end}
@@ -171,24 +171,24 @@ scalars_are [] (y ∷ ys) h = cc
 scalars_are (x ∷ xs) (y ∷ ys) h = let c = two_true (same_scalar x y) (same_scalars xs ys) h in ap (λ z. z ∷ xs) (scalar_is x y c.0) ∙ ap (λ zs. y ∷ zs) (scalars_are xs ys c.1)
 
 -- the number of a name among names
-pub numbered_there : (name : List ℕ) (names : List (List ℕ)) (j : ℕ) → number_of name names ≡ Some j → slice_get names j ≡ Some name
+pub numbered_there : (name : List ℕ) (names : List (List ℕ)) (j : ℕ) → definition_number name names ≡ Some j → slice_get names j ≡ Some name
 numbered_there name [] j h = cc
-numbered_there name (n ∷ ns) j h = by (bytes_eq n name) (number_of name ns) refl refl (λ k. numbered_there name ns k) h
+numbered_there name (n ∷ ns) j h = by (bytes_eq n name) (definition_number name ns) refl refl (λ k. numbered_there name ns k) h
   where
-    by : (b : Bool) (o : Option ℕ) → bytes_eq n name ≡ b → number_of name ns ≡ o → ((k : ℕ) → number_of name ns ≡ Some k → slice_get ns k ≡ Some name) → (if b then Some 0 else option_map (λ k. k + 1) o) ≡ Some j → slice_get (n ∷ ns) j ≡ Some name
+    by : (b : Bool) (o : Option ℕ) → bytes_eq n name ≡ b → definition_number name ns ≡ o → ((k : ℕ) → definition_number name ns ≡ Some k → slice_get ns k ≡ Some name) → (if b then Some 0 else option_map (λ k. k + 1) o) ≡ Some j → slice_get (n ∷ ns) j ≡ Some name
     by true o e f rest h = let z : 0 ≡ j = cc in subst (λ k. slice_get (n ∷ ns) k ≡ Some name) z (ap Some ((bytes_eq-Decides n name).0 e))
     by false (Some k) e f rest h = let z : k + 1 ≡ j = cc in subst (λ i. slice_get (n ∷ ns) i ≡ Some name) (sym (add-one k) ∙ z) (rest k f)
     by false None e f rest h = cc
 
 pub callee_there : (names : List (List ℕ)) (name : List ℕ) (j : ℕ) → callee_of names name ≡ Some (callee.Function j) → slice_get names j ≡ Some name
-callee_there names name j h = by (number_of name names) refl h
+callee_there names name j h = by (definition_number name names) refl h
   where
-    by : (o : Option ℕ) → number_of name names ≡ o → option_map (λ k. callee.Function k) o ≡ Some (callee.Function j) → slice_get names j ≡ Some name
+    by : (o : Option ℕ) → definition_number name names ≡ o → option_map (λ k. callee.Function k) o ≡ Some (callee.Function j) → slice_get names j ≡ Some name
     by (Some k) e g = let z : k ≡ j = cc in numbered_there name names j (e ∙ ap Some z)
     by None e g = cc
 
 callee_own : {A : Type 0} (names : List (List ℕ)) (name : List ℕ) (c : Callee) → callee_of names name ≡ Some c → is_library (Some c) ≡ true → A
-callee_own {A} names name c h is = by (number_of name names) h
+callee_own {A} names name c h is = by (definition_number name names) h
   where
     by : (o : Option ℕ) → option_map (λ k. callee.Function k) o ≡ Some c → A
     by (Some k) g = let z : callee.Function k ≡ c = cc in let w : is_library (Some (callee.Function k)) ≡ true = ap (λ x. is_library (Some x)) z ∙ is in cc
@@ -222,7 +222,7 @@ module _ (names : List (List ℕ)) (done : List Definition) where
       by : (o : Option SignatureTree) → slice_get q.names.signatures j ≡ o → agrees k f (signature_of names f) o ≡ true → Links names (done ++ definition_of f ∷ []) q
       by None there g = cc
       by (Some known) there g =
-          let same = two_true (same_type known (signature_of names f)) (is_first k f (signature_of names f)) g in
+          let same = two_true (same_type known (signature_of names f)) (is_first_definition k f (signature_of names f)) g in
           let types = two_true (same_value known.result (signature_of names f).result) (same_scalars known.parameters (signature_of names f).parameters) same.0 in
           links_add l (definition_of f)
           (record {
@@ -289,7 +289,7 @@ module _ (names : List (List ℕ)) (own : AreOwn names) (done : List Definition)
   standing_links extent name c None q l new h = broken REDECLARED extent q h
 
   placed_links : (extent : Extent) (name : List ℕ) (c : Callee) (functions : List SignatureTree) (m : Option Meaning) (q : ProgressTree) → Links names done q → Links names done (with_function name (library c) q)
-      → (placed (stands (library c) functions m) extent name (library c) q).found.faults ≡ [] → Links names done (placed (stands (library c) functions m) extent name (library c) q)
+      → (placed (standing_of (library c) functions m) extent name (library c) q).found.faults ≡ [] → Links names done (placed (standing_of (library c) functions m) extent name (library c) q)
   placed_links extent name c functions None q l new h = new
   placed_links extent name c functions (Some (Function k)) q l new h = standing_links extent name c (slice_get functions k) q l new h
   placed_links extent name c functions (Some (Variable o of)) q l new h = broken REDECLARED extent q h

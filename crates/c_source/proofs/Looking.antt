@@ -7,16 +7,16 @@ use Rattle.c_tree.specs.declared.object_type.Scalar.{Scalar}
 use Rattle.c_tree.specs.Expressions.{ExpressionTree}
 use Rattle.c_tree.specs.Declarations.{InitializerTree, InitializerTrees, Value, Braces, none, first}
 use Rattle.c_tree.specs.Programs.{TypedFunctionTree, ProgramTree}
-use Rattle.c_type_rules.specs.Types.{loaded}
-use Rattle.c_type_values.specs.Values.{ValueTree, converted}
+use Rattle.c_type_rules.specs.Types.{loaded_type}
+use Rattle.c_type_values.specs.Values.{ValueTree, converted_value}
 use Rattle.c_type_laws.specs.Kinds.{is_of}
 use Rattle.c_type_laws.specs.Expressions.{kind_of}
 use Rattle.c_type_expressions.specs.Findings.{Checked, gives}
 use Rattle.c_type_expressions.specs.Judgements.{valued}
 use Rattle.c_type_expressions.specs.Expressions.{typed, is_zero}
-use Rattle.c_type_declarations.specs.Progress.{ProgressTree, Met, means, reached_by, within, value_met, breaks}
+use Rattle.c_type_declarations.specs.Progress.{ProgressTree, Met, means, reached_by, check_within, value_met, breaks}
 use Rattle.c_type_declarations.specs.Objects.{only_in}
-use Rattle.c_type_declarations.specs.Initials.{or_misfit, fitted, fitting, looked_at_one, looked_at, misfit_met, braces_met, scalar_met, tree_of}
+use Rattle.c_type_declarations.specs.Initials.{or_misfit, fitted, fitting, looked_at_one, looked_at, misfit_met, braces_met, scalar_met, computed_tree}
 use Rattle.c_source.specs.Addresses.{is_constant_of}
 use Rattle.c_source.specs.Constants.{HasNumbers}
 use Rattle.c_source.specs.Findings.{IsThere, HoldsOf, IsGood}
@@ -55,7 +55,7 @@ module _ (p : ProgramTree) (f : TypedFunctionTree) (low : ℕ) where
       by (valued (typed q.names e q.found))
       (valued_good (Inside p f low q) p f q.found (typed q.names e q.found) (typed_good (Inside p f low q) p f q.names (λ i. inside_knows p f low q i) e q.found numbers))
     where
-      by : (c : Checked (Option ValueTree)) → IsGood (Inside p f low q) p (IsTyped p f) q.found c → Ensures (MakesIfAny p f low (IsTyped p f) q) (within q c)
+      by : (c : Checked (Option ValueTree)) → IsGood (Inside p f low q) p (IsTyped p f) q.found c → Ensures (MakesIfAny p f low (IsTyped p f) q) (check_within q c)
       by (gives v s) h =
           record {
             looks = record { comes = found_comes p f low q s h.grows; same = refl; names = refl };
@@ -70,7 +70,7 @@ module _ (p : ProgramTree) (f : TypedFunctionTree) (low : ℕ) where
   or_misfit_makes s None extent q t l h = record { looks = looks_on l (breaks_looks INITIALIZER extent t); there = λ e. breaks_never INITIALIZER extent t e; holds = λ i e. tt }
 
   fitted_makes : (s : Scalar) (extent : Extent) (z : Bool) (q : ProgressTree) (v : Option ValueTree) (t : ProgressTree) → MakesIfAny p f low (IsTyped p f) q v t → Ensures (MakesIfAny p f low (IsHeldIn p f s) q) (fitted s extent z v t)
-  fitted_makes s extent z q (Some v) t h = or_misfit_makes s (converted v (loaded s) z) extent q t h.looks (λ i e. both_hold (λ (r : ValueTree). is_of (kind_of p f r.tree) (loaded s) ≡ true) (λ (r : ValueTree). is_constant_of p (loaded s) r.constant ≡ true) (converted v (loaded s) z) (converted_typed p f v (loaded s) z (h.holds i e)) (converted_constant_is p f v (loaded s) z (h.holds i e)))
+  fitted_makes s extent z q (Some v) t h = or_misfit_makes s (converted_value v (loaded_type s) z) extent q t h.looks (λ i e. both_hold (λ (r : ValueTree). is_of (kind_of p f r.tree) (loaded_type s) ≡ true) (λ (r : ValueTree). is_constant_of p (loaded_type s) r.constant ≡ true) (converted_value v (loaded_type s) z) (converted_typed p f v (loaded_type s) z (h.holds i e)) (converted_constant_is p f v (loaded_type s) z (h.holds i e)))
   fitted_makes s extent z q None t h = record { looks = h.looks; there = h.there; holds = λ i e. tt }
 
   fitting_makes : (s : Scalar) (extent : Extent) (e : ExpressionTree) (q : ProgressTree) → HasNumbers e → Ensures (MakesIfAny p f low (IsHeldIn p f s) q) (fitting s extent e q)
@@ -126,6 +126,6 @@ module _ (p : ProgramTree) (f : TypedFunctionTree) (low : ℕ) where
   scalar_makes s extent (Braces all) q h = braces_makes s extent (only_in all) all q refl h
 
   -- what there is where no rule is broken
-  pub tree_held : (s : Scalar) (v : Option ValueTree) → IsThere v → HoldsOf (IsHeldIn p f s) v → is_of (kind_of p f (tree_of v)) (loaded s) ≡ true
+  pub tree_held : (s : Scalar) (v : Option ValueTree) → IsThere v → HoldsOf (IsHeldIn p f s) v → is_of (kind_of p f (computed_tree v)) (loaded_type s) ≡ true
   tree_held s (Some v) there h = h.0
   tree_held s None there h = absurd there

@@ -13,7 +13,7 @@ use Rattle.c_tree.specs.Programs.{TypedFunctionTree, ProgramTree}
 use Rattle.c_type_rules.specs.Types.{same_value}
 use Rattle.c_type_expressions.specs.Names.{SignatureTree}
 use Rattle.c_type_declarations.specs.Progress.{ProgressTree, Met, means, next_met}
-use Rattle.c_type.specs.Functions.{result_type, defined, number_of, function_made, rest_met, signature_of, name_met, parameter_sizes}
+use Rattle.c_type.specs.Functions.{result_type, defined, definition_number, function_made, rest_met, signature_of, name_met, parameter_sizes}
 use Rattle.c_type.specs.Items.{item_met, items_met, beginning}
 use Rattle.c_type.specs.Programs.{main, is_main, is_int, has_none, main_line, main_definition, main_refusal}
 use Rattle.c_type_laws.specs.Laws as law
@@ -109,7 +109,7 @@ fine_heading f h = by f.parameters (is_int (result_type f.base f.stars)) refl h
     by (d ∷ ps) true e h = cc
     by (d ∷ ps) false e h = cc
 
-main_heading : (items : List ItemTree) (f : FunctionTree) → main_definition items ≡ Some f → main_line f ≡ None → (k : ℕ) × (number_of main (defined items) ≡ Some k) × IsMainHeading (slice_get (headings items) k)
+main_heading : (items : List ItemTree) (f : FunctionTree) → main_definition items ≡ Some f → main_line f ≡ None → (k : ℕ) × (definition_number main (defined items) ≡ Some k) × IsMainHeading (slice_get (headings items) k)
 main_heading [] f h line = cc
 main_heading (Include spot x ∷ rest) f h line = main_heading rest f h line
 main_heading (Declares d ∷ rest) f h line = main_heading rest f h line
@@ -119,16 +119,16 @@ main_heading (Defines g ∷ rest) f h line = by g.body (is_main g.name.name) ref
     this = record { result = result_type g.base g.stars; parameters = length g.parameters }
 
     by : (b : Option BlockTree) (m : Bool) → is_main g.name.name ≡ m → (if option_map_or (λ x. is_main g.name.name) b false then Some g else main_definition rest) ≡ Some f
-        → (main_definition rest ≡ Some f → (k : ℕ) × (number_of main (defined rest) ≡ Some k) × IsMainHeading (slice_get (headings rest) k))
-        → (k : ℕ) × (number_of main (option_map_or (λ x. g.name.name ∷ []) b [] ++ defined rest) ≡ Some k) × IsMainHeading (slice_get (option_map_or (λ x. this ∷ []) b [] ++ headings rest) k)
+        → (main_definition rest ≡ Some f → (k : ℕ) × (definition_number main (defined rest) ≡ Some k) × IsMainHeading (slice_get (headings rest) k))
+        → (k : ℕ) × (definition_number main (option_map_or (λ x. g.name.name ∷ []) b [] ++ defined rest) ≡ Some k) × IsMainHeading (slice_get (option_map_or (λ x. this ∷ []) b [] ++ headings rest) k)
     by None m e h rest_of = rest_of h
     by (Some b) true e h rest_of =
         let is : Some g ≡ Some f = ap (λ z. if z then Some g else main_definition rest) (sym e) ∙ h in
         let same : g ≡ f = cc in
-        (0, ap (λ z. if z then Some 0 else option_map (λ k. k + 1) (number_of main (defined rest))) e, fine_heading g (ap main_line same ∙ line))
+        (0, ap (λ z. if z then Some 0 else option_map (λ k. k + 1) (definition_number main (defined rest))) e, fine_heading g (ap main_line same ∙ line))
     by (Some b) false e h rest_of =
         let c = rest_of (ap (λ z. if z then Some g else main_definition rest) (sym e) ∙ h) in
-        (c.0 + 1, ap (λ z. if z then Some 0 else option_map (λ k. k + 1) (number_of main (defined rest))) e ∙ ap (option_map (λ k. k + 1)) c.1, subst (λ k. IsMainHeading (slice_get (this ∷ headings rest) k)) (sym (add-one c.0)) c.2)
+        (c.0 + 1, ap (λ z. if z then Some 0 else option_map (λ k. k + 1) (definition_number main (defined rest))) e ∙ ap (option_map (λ k. k + 1)) c.1, subst (λ k. IsMainHeading (slice_get (this ∷ headings rest) k)) (sym (add-one c.0)) c.2)
 
 -- `main` is there
 heading_there : (fs : List TypedFunctionTree) (k : ℕ) → IsMainHeading (slice_get (map heading fs) k) → law.is_main (slice_get fs k) ≡ true
@@ -140,10 +140,10 @@ none_of : {A : Type 0} (o : Option ℕ) (g : ℕ → A) → option_map g o ≡ N
 none_of None g h = refl
 none_of (Some n) g h = cc
 
-main_there : (items : List ItemTree) → main_refusal items (main_definition items) ≡ None → (k : ℕ) × (number_of main (defined items) ≡ Some k) × IsMainHeading (slice_get (headings items) k)
+main_there : (items : List ItemTree) → main_refusal items (main_definition items) ≡ None → (k : ℕ) × (definition_number main (defined items) ≡ Some k) × IsMainHeading (slice_get (headings items) k)
 main_there items h = by (main_definition items) refl h
   where
-    by : (o : Option FunctionTree) → main_definition items ≡ o → main_refusal items o ≡ None → (k : ℕ) × (number_of main (defined items) ≡ Some k) × IsMainHeading (slice_get (headings items) k)
+    by : (o : Option FunctionTree) → main_definition items ≡ o → main_refusal items o ≡ None → (k : ℕ) × (definition_number main (defined items) ≡ Some k) × IsMainHeading (slice_get (headings items) k)
     by (Some f) e h = main_heading items f e (none_of (main_line f) _ h)
     by None e h = cc
 

@@ -7,7 +7,7 @@ use Rattle.c_tree.specs.declared.object_type.ObjectType.{ObjectType}
 use Rattle.c_tree.specs.declared.object_type.ObjectType.TheVariants as object
 use Rattle.c_tree.specs.Programs.{AutomaticTree, TypedFunctionTree}
 use Rattle.c_places.specs.Memory.{kept_by_all}
-use Rattle.c_type_bounds.specs.Bounds.{kept, kept_all, memory_room, variables_of, with_kept, or_breach, behind_function, behind_functions}
+use Rattle.c_type_bounds.specs.Bounds.{with_one_in_memory, with_all_in_memory, memory_room, variables_of, with_kept, or_breach, behind_function, behind_functions}
 use Rattle.c_type_laws.specs.Laws.{is_in_memory, are_in_memory}
 use Rattle.c_type_laws.specs.Names.{is_named, automatics_named}
 use Rattle.c_type_laws.specs.Objects.{is_kept_array, arrays_are_kept}
@@ -42,12 +42,12 @@ marks_on g h =
       names = λ e. h.names (g.names e);
     }
 
-kept_count : (k : ℕ) (vs : List AutomaticTree) → length (kept k vs) ≡ length vs
+kept_count : (k : ℕ) (vs : List AutomaticTree) → length (with_one_in_memory k vs) ≡ length vs
 kept_count k [] = refl
 kept_count zero (v ∷ vs) = refl
 kept_count (suc k) (v ∷ vs) = ap suc (kept_count k vs)
 
-kept_each : (k : ℕ) (vs : List AutomaticTree) (x : ℕ) (a : AutomaticTree) → slice_get vs x ≡ Some a → (b : AutomaticTree) × (slice_get (kept k vs) x ≡ Some b) × MarkedAs a b
+kept_each : (k : ℕ) (vs : List AutomaticTree) (x : ℕ) (a : AutomaticTree) → slice_get vs x ≡ Some a → (b : AutomaticTree) × (slice_get (with_one_in_memory k vs) x ≡ Some b) × MarkedAs a b
 kept_each k [] x a h = cc
 kept_each zero (v ∷ vs) zero a h = let e : v ≡ a = cc in (record v { in_memory = true }, refl, record { of = ap (λ z. z.of) e; spot = ap (λ z. z.spot) e; in_memory = λ m. refl })
 kept_each zero (v ∷ vs) (suc x) a h = (a, h, record { of = refl; spot = refl; in_memory = λ e. e })
@@ -58,25 +58,25 @@ more_kept : (m : Bool) (of : ObjectType) → is_kept_array m of ≡ true → is_
 more_kept m (object.Scalar s) h = refl
 more_kept m (object.Array e n) h = let c = two_true (nat_le 1 n) m h in both (nat_le 1 n) true c.0 refl
 
-kept_arrays : (k : ℕ) (vs : List AutomaticTree) → arrays_are_kept vs ≡ true → arrays_are_kept (kept k vs) ≡ true
+kept_arrays : (k : ℕ) (vs : List AutomaticTree) → arrays_are_kept vs ≡ true → arrays_are_kept (with_one_in_memory k vs) ≡ true
 kept_arrays k [] h = refl
 kept_arrays zero (v ∷ vs) h = let c = two_true (is_kept_array v.in_memory v.of) (arrays_are_kept vs) h in both (is_kept_array true v.of) (arrays_are_kept vs) (more_kept v.in_memory v.of c.0) c.1
-kept_arrays (suc k) (v ∷ vs) h = let c = two_true (is_kept_array v.in_memory v.of) (arrays_are_kept vs) h in both (is_kept_array v.in_memory v.of) (arrays_are_kept (kept k vs)) c.0 (kept_arrays k vs c.1)
+kept_arrays (suc k) (v ∷ vs) h = let c = two_true (is_kept_array v.in_memory v.of) (arrays_are_kept vs) h in both (is_kept_array v.in_memory v.of) (arrays_are_kept (with_one_in_memory k vs)) c.0 (kept_arrays k vs c.1)
 
-kept_names : (k : ℕ) (vs : List AutomaticTree) → automatics_named vs ≡ true → automatics_named (kept k vs) ≡ true
+kept_names : (k : ℕ) (vs : List AutomaticTree) → automatics_named vs ≡ true → automatics_named (with_one_in_memory k vs) ≡ true
 kept_names k [] h = refl
 kept_names zero (v ∷ vs) h = h
-kept_names (suc k) (v ∷ vs) h = let c = two_true (is_named v.name v.of) (automatics_named vs) h in both (is_named v.name v.of) (automatics_named (kept k vs)) c.0 (kept_names k vs c.1)
+kept_names (suc k) (v ∷ vs) h = let c = two_true (is_named v.name v.of) (automatics_named vs) h in both (is_named v.name v.of) (automatics_named (with_one_in_memory k vs)) c.0 (kept_names k vs c.1)
 
-pub kept_marks : (k : ℕ) (vs : List AutomaticTree) → Marks vs (kept k vs)
+pub kept_marks : (k : ℕ) (vs : List AutomaticTree) → Marks vs (with_one_in_memory k vs)
 kept_marks k vs = record { count = kept_count k vs; each = λ x a h. kept_each k vs x a h; arrays = λ h. kept_arrays k vs h; names = λ h. kept_names k vs h }
 
-pub all_marks : (ks : List ℕ) (vs : List AutomaticTree) → Marks vs (kept_all ks vs)
+pub all_marks : (ks : List ℕ) (vs : List AutomaticTree) → Marks vs (with_all_in_memory ks vs)
 all_marks [] vs = marks_itself vs
-all_marks (k ∷ ks) vs = marks_on (kept_marks k vs) (all_marks ks (kept k vs))
+all_marks (k ∷ ks) vs = marks_on (kept_marks k vs) (all_marks ks (with_one_in_memory k vs))
 
 -- what is marked is in memory
-marked_here : (k : ℕ) (vs : List AutomaticTree) → k < length vs → is_in_memory (slice_get (kept k vs) k) ≡ true
+marked_here : (k : ℕ) (vs : List AutomaticTree) → k < length vs → is_in_memory (slice_get (with_one_in_memory k vs) k) ≡ true
 marked_here k [] h = absurd (omega (arith, h))
 marked_here zero (v ∷ vs) h = refl
 marked_here (suc k) (v ∷ vs) h = marked_here k vs (omega (arith, h))
@@ -106,10 +106,10 @@ marked_after : {vs ws : List AutomaticTree} → Marks vs ws → (ks : List ℕ) 
 marked_after m [] h = tt
 marked_after m (k ∷ ks) h = (stays_marked m k h.0, marked_after m ks h.1)
 
-all_marked : (ks : List ℕ) (vs : List AutomaticTree) → AreBelow (length vs) ks → AreMarked (kept_all ks vs) ks
+all_marked : (ks : List ℕ) (vs : List AutomaticTree) → AreBelow (length vs) ks → AreMarked (with_all_in_memory ks vs) ks
 all_marked [] vs h = tt
 all_marked (k ∷ ks) vs h =
-    (stays_marked (all_marks ks (kept k vs)) k (marked_here k vs h.0), all_marked ks (kept k vs) (subst (λ n. AreBelow n ks) (sym (kept_count k vs)) h.1))
+    (stays_marked (all_marks ks (with_one_in_memory k vs)) k (marked_here k vs h.0), all_marked ks (with_one_in_memory k vs) (subst (λ n. AreBelow n ks) (sym (kept_count k vs)) h.1))
 
 pub are_marked : (vs : List AutomaticTree) (ks : List ℕ) → AreMarked vs ks → are_in_memory vs ks ≡ true
 are_marked vs [] h = refl

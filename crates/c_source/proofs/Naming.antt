@@ -4,7 +4,7 @@ use Rattle.std.specs.Prelude.{is_none, if◌then◌else◌}
 use Rattle.std.proofs.lemmas.Bool.Decides.{nat_tests}
 use Rattle.std.proofs.lemmas.List.Sums.{sum_by-cons}
 use Rattle.debug_records.specs.declared.code.TheConstants.Code.{PROGRAM_WEIGHT, STATIC_OBJECTS, VISIBLE_PAIRS}
-use Rattle.c_tree.specs.Statements.{BlockTree, chain}
+use Rattle.c_tree.specs.Statements.{BlockTree, chain_of_statements}
 use Rattle.c_tree.specs.Trees.{FunctionTree, ItemTree, Include, Declares, Defines}
 use Rattle.c_tree.specs.TypedStatements.{TypedStatementTrees}
 use Rattle.c_tree.specs.Programs.{LiteralTree, TypedFunctionTree, ProgramTree}
@@ -39,7 +39,7 @@ unfolding next_met
 made_named f g b start (means ts t) h = both (is_name f.name.name) true h refl
 
 rest_named : (f : FunctionTree) (g : SignatureTree) (b : Option BlockTree) (q : ProgressTree) → is_name f.name.name ≡ true → Ensures HaveTheirNames (rest_met f g b q)
-rest_named f g (Some b) q h = made_named f g b (length q.automatics) (statements_met (setting_of g) (chain b.statements) (parameters_met f.parameters (opened q))) h
+rest_named f g (Some b) q h = made_named f g b (length q.automatics) (statements_met (setting_of g) (chain_of_statements b.statements) (parameters_met f.parameters (opened q))) h
 rest_named f g None q h = refl
 
 item_named : (names : List (List ℕ)) (k : ℕ) (i : ItemTree) (q : ProgressTree) → IsItemFormed i → Ensures HaveTheirNames (item_met names k i q)

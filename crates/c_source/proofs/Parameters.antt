@@ -7,11 +7,11 @@ use Rattle.c_tree.specs.declared.object_type.ObjectType.TheVariants as object_ty
 use Rattle.c_tree.specs.declared.object_type.ValueType.{ValueType}
 use Rattle.c_tree.specs.Expressions.{NameTree}
 use Rattle.c_tree.specs.Declarations.{ParameterTree}
-use Rattle.c_tree.specs.Statements.{BlockTree, chain}
+use Rattle.c_tree.specs.Statements.{BlockTree, chain_of_statements}
 use Rattle.c_tree.specs.TypedStatements.{TypedStatementTrees}
 use Rattle.c_tree.specs.Trees.{FunctionTree, ItemTree, Include, Declares, Defines}
 use Rattle.c_tree.specs.Programs.{AutomaticTree, TypedFunctionTree, ProgramTree}
-use Rattle.c_type_rules.specs.Types.{loaded}
+use Rattle.c_type_rules.specs.Types.{loaded_type}
 use Rattle.c_type_declarations.specs.Scopes.{declared_here}
 use Rattle.c_type_declarations.specs.Progress.{ProgressTree, Met, means, next_met, opened}
 use Rattle.debug_records.specs.declared.code.TheConstants.Code.{REDECLARED}
@@ -50,10 +50,10 @@ scalars_single vs k [] h = refl
 scalars_single vs k (s ∷ ss) h =
     ap (λ l. are_single (take (suc (length ss)) l)) (rest_from vs k h.0.0 h.0.1) ∙ both (is_single h.0.0.of) (are_single (take (length ss) (drop (suc k) vs))) (ap is_single h.0.2) (scalars_single vs (suc k) ss h.1)
 
-scalar_types : (vs : List AutomaticTree) (k : ℕ) (ss : List Scalar) → AreScalars vs k ss → types_of (take (length ss) (drop k vs)) ≡ map loaded ss
+scalar_types : (vs : List AutomaticTree) (k : ℕ) (ss : List Scalar) → AreScalars vs k ss → types_of (take (length ss) (drop k vs)) ≡ map loaded_type ss
 scalar_types vs k [] h = refl
 scalar_types vs k (s ∷ ss) h =
-    ap (λ l. types_of (take (suc (length ss)) l)) (rest_from vs k h.0.0 h.0.1) ∙ ap (λ t. element_type t ∷ types_of (take (length ss) (drop (suc k) vs))) h.0.2 ∙ ap (λ ts. loaded s ∷ ts) (scalar_types vs (suc k) ss h.1)
+    ap (λ l. types_of (take (suc (length ss)) l)) (rest_from vs k h.0.0 h.0.1) ∙ ap (λ t. element_type t ∷ types_of (take (length ss) (drop (suc k) vs))) h.0.2 ∙ ap (λ ts. loaded_type s ∷ ts) (scalar_types vs (suc k) ss h.1)
 
 -- a parameter's variable
 named_there : (d : ParameterTree) (n : NameTree) (q : ProgressTree) → (a : AutomaticTree) × (slice_get (parameter_named d.extent (parameter_type d) n q).automatics (length q.automatics) ≡ Some a) × (a.of ≡ object_type.Scalar (parameter_type d))
@@ -136,7 +136,7 @@ Fit ds fs t = AreAs t.automatics fs ds
 module _ (p : ProgramTree) where
   body_fits : (names : List (List ℕ)) (f : FunctionTree) (b : BlockTree) (q : ProgressTree) → IsBodyFormed f.parameters (Some b) → Ensures (Fit (definition_of f ∷ [])) (rest_met f (signature_of names f) (Some b) q)
   unfolding next_met
-  body_fits names f b q formed = by (statements_met (setting_of (signature_of names f)) (chain b.statements) begun) (λ fun e. all_states p fun (setting_of (signature_of names f)) (chain b.statements) begun formed.1 e)
+  body_fits names f b q formed = by (statements_met (setting_of (signature_of names f)) (chain_of_statements b.statements) begun) (λ fun e. all_states p fun (setting_of (signature_of names f)) (chain_of_statements b.statements) begun formed.1 e)
     where
       begun : ProgressTree
       begun = parameters_met f.parameters (opened q)
@@ -197,7 +197,7 @@ as_single vs (f ∷ fs) (d ∷ ds) h =
     both (are_single (take f.parameters (drop f.first_variable vs))) (parameters_single vs fs) (ap (λ n. are_single (take n (drop f.first_variable vs))) one.count ∙ scalars_single vs f.first_variable d.parameters one.scalars) (as_single vs fs ds h.1)
 
 -- the types of the parameters of a function that is as a definition says
-pub as_types : {vs : List AutomaticTree} {f : TypedFunctionTree} {d : Definition} → IsAs vs f d → types_of (take f.parameters (drop f.first_variable vs)) ≡ map loaded d.parameters
+pub as_types : {vs : List AutomaticTree} {f : TypedFunctionTree} {d : Definition} → IsAs vs f d → types_of (take f.parameters (drop f.first_variable vs)) ≡ map loaded_type d.parameters
 as_types {vs = vs} {f = f} {d = d} one = ap (λ n. types_of (take n (drop f.first_variable vs))) one.count ∙ scalar_types vs f.first_variable d.parameters one.scalars
 
 module _ (items : List ItemTree) (p : ProgramTree) (a : Accepted items p) (formed : AreItemsFormed items) where

@@ -1,6 +1,6 @@
 -- No function of an accepted source has a declaration alone as the body of an `if`, an `else` or a loop.
 use Rattle.std.proofs.Common.{◌≡◌, ℕ, List, [], ◌∷◌, ◌++◌, length, Bool, true, ◌&&◌, Option, Some, None, refl, ap, ◌∙◌, subst}
-use Rattle.c_tree.specs.Statements.{BlockTree, chain}
+use Rattle.c_tree.specs.Statements.{BlockTree, chain_of_statements}
 use Rattle.c_tree.specs.Trees.{FunctionTree, ItemTree, Include, Declares, Defines}
 use Rattle.c_tree.specs.TypedStatements.{TypedStatementTrees}
 use Rattle.c_tree.specs.Programs.{TypedFunctionTree, ProgramTree}
@@ -32,7 +32,7 @@ unfolding next_met
 made_plain f g b start (means ts t) h = both (are_plain ts) true h refl
 
 rest_plain : (f : FunctionTree) (g : SignatureTree) (b : Option BlockTree) (q : ProgressTree) → IsBodyFormed f.parameters b → Ensures HavePlain (rest_met f g b q)
-rest_plain f g (Some b) q h = made_plain f g b (length q.automatics) _ (all_plain (setting_of g) (chain b.statements) (parameters_met f.parameters (opened q)) h.1)
+rest_plain f g (Some b) q h = made_plain f g b (length q.automatics) _ (all_plain (setting_of g) (chain_of_statements b.statements) (parameters_met f.parameters (opened q)) h.1)
 rest_plain f g None q h = refl
 
 item_plain : (names : List (List ℕ)) (k : ℕ) (i : ItemTree) (q : ProgressTree) → IsItemFormed i → Ensures HavePlain (item_met names k i q)

@@ -14,13 +14,13 @@ use Rattle.c_tree.specs.Declarations.{BracketsTree, Absent, Empty, Sized, Initia
 use Rattle.c_tree.specs.TypedStatements.{InitialTree}
 use Rattle.c_type_rules.specs.declared.constancy.Constancy.{Constancy}
 use Rattle.c_type_rules.specs.declared.constancy.Constancy.TheVariants.{Varies, Formed, Known, Address}
-use Rattle.c_type_rules.specs.Types.{loaded}
-use Rattle.c_type_values.specs.Values.{ValueTree, converted}
+use Rattle.c_type_rules.specs.Types.{loaded_type}
+use Rattle.c_type_values.specs.Values.{ValueTree, converted_value}
 use Rattle.c_type_expressions.specs.Findings.{Checked, gives}
-use Rattle.c_type_expressions.specs.Judgements.{valued, count_of}
+use Rattle.c_type_expressions.specs.Judgements.{valued, array_count}
 use Rattle.c_type_expressions.specs.Expressions.{typed, is_zero}
-use Rattle.c_type_declarations.specs.Progress.{ProgressTree, Met, means, next_met, reached_by, within, value_met, breaks}
-use Rattle.c_type_declarations.specs.Objects.{only_in, count, literal_for, implied_count, counted, count_or, sized_by, size_met, type_by, type_met}
+use Rattle.c_type_declarations.specs.Progress.{ProgressTree, Met, means, next_met, reached_by, check_within, value_met, breaks}
+use Rattle.c_type_declarations.specs.Objects.{only_in, count, literal_for, implied_count, declared_count, count_or, sized_by, size_met, type_by, type_met}
 use Rattle.c_type_declarations.specs.Initials.{or_misfit, fitted, fitting, looked_at_one, looked_at, misfit_met, braces_met, scalar_met, elements_met, within_count, array_literal_met, list_met, written_met, initial_met}
 use Rattle.c_type_declarations.specs.Statics.{Contents, nothing, constant_met, filled, fills_met, literal_bytes, list_contents, put_met, contents_met}
 use Rattle.c_source.specs.TextOrder.{spots_of, spots_of_brackets, spots_of_initializer, spots_of_initializers, spots_of_initial}
@@ -56,7 +56,7 @@ pub value_reads : (e : ExpressionTree) (q : ProgressTree) → ReadsIn (spots_of 
 unfolding value_met
 value_reads e q = by (valued (typed q.names e q.found)) (finds_valued (spots_of e) q.found (typed q.names e q.found) (typed_finds q.names e q.found))
   where
-    by : (c : Checked (Option ValueTree)) → FindsIn (spots_of e) q.found c → ReadsIn (spots_of e) q (within q c)
+    by : (c : Checked (Option ValueTree)) → FindsIn (spots_of e) q.found c → ReadsIn (spots_of e) q (check_within q c)
     by (gives v s) h = record { literals = h; same = refl }
 
 -- how far a check comes behind a value
@@ -68,7 +68,7 @@ value_reaches e q g k = by (value_met e q) (value_reads e q)
     by (means v t) h = reads_then (spots_of e) q t (g v t) h (k v t)
 
 -- sizes
-counted_reads : (n : ℕ) (extent : Extent) (q : ProgressTree) → ReadsIn [] q (counted n extent q)
+counted_reads : (n : ℕ) (extent : Extent) (q : ProgressTree) → ReadsIn [] q (declared_count n extent q)
 counted_reads n extent q = by (nat_lt n (2 ^ 32))
   where
     by : (b : Bool) → ReadsIn [] q (if b then means n q else means 1 (breaks UNEXPECTED_KEYWORD extent q))
@@ -80,7 +80,7 @@ or_reads (Some n) extent q = counted_reads n extent q
 or_reads None extent q = reads_breaks [] UNEXPECTED_KEYWORD extent q
 
 sized_reads : (extent : Extent) (v : Option ValueTree) (q : ProgressTree) → ReadsIn [] q (sized_by extent v q)
-sized_reads extent (Some v) q = or_reads (count_of v.of v.constant) extent q
+sized_reads extent (Some v) q = or_reads (array_count v.of v.constant) extent q
 sized_reads extent None q = reads_itself [] q
 
 pub size_reads : (extent : Extent) (e : ExpressionTree) (q : ProgressTree) → ReadsIn (spots_of e) q (size_met extent e q)
@@ -88,7 +88,7 @@ size_reads extent e q = reads_last (spots_of e) q (value_met e q) (sized_by exte
 
 type_by_reads : (b : BracketsTree) (s : Scalar) (extent : Extent) (i : Option InitializerTree) (q : ProgressTree) → ReadsIn (spots_of_brackets b) q (type_by b s extent i q)
 type_by_reads Absent s extent i q = reads_itself [] q
-type_by_reads Empty s extent i q = reads_last [] q (counted (implied_count s i) extent q) _ (counted_reads (implied_count s i) extent q) (λ n t. reads_itself [] t)
+type_by_reads Empty s extent i q = reads_last [] q (declared_count (implied_count s i) extent q) _ (counted_reads (implied_count s i) extent q) (λ n t. reads_itself [] t)
 type_by_reads (Sized e) s extent i q = reads_last (spots_of e) q (size_met extent e q) _ (size_reads extent e q) (λ n t. reads_itself [] t)
 
 pub type_reads : (s : Scalar) (d : DeclaratorTree) (q : ProgressTree) → ReadsIn (spots_of_brackets d.brackets) q (type_met s d q)
@@ -100,7 +100,7 @@ misfit_reads (Some v) extent q = reads_itself [] q
 misfit_reads None extent q = reads_breaks [] INITIALIZER extent q
 
 fitted_reads : (s : Scalar) (extent : Extent) (zero : Bool) (v : Option ValueTree) (q : ProgressTree) → ReadsIn [] q (fitted s extent zero v q)
-fitted_reads s extent zero (Some v) q = misfit_reads (converted v (loaded s) zero) extent q
+fitted_reads s extent zero (Some v) q = misfit_reads (converted_value v (loaded_type s) zero) extent q
 fitted_reads s extent zero None q = reads_itself [] q
 
 fitting_reads : (s : Scalar) (extent : Extent) (e : ExpressionTree) (q : ProgressTree) → ReadsIn (spots_of e) q (fitting s extent e q)

@@ -5,7 +5,7 @@ use Rattle.std.proofs.lemmas.Bool.{eqb-true}
 use Rattle.c_tree.specs.Trees.{ItemTree}
 use Rattle.c_tree.specs.Programs.{AutomaticTree, TypedFunctionTree, ProgramTree}
 use Rattle.c_places.specs.Memory.{kept_by_all}
-use Rattle.c_type_bounds.specs.Bounds.{kept, kept_all, memory_room, variables_of, with_kept}
+use Rattle.c_type_bounds.specs.Bounds.{with_one_in_memory, with_all_in_memory, memory_room, variables_of, with_kept}
 use Rattle.c_type_laws.specs.Laws.{follow}
 use Rattle.c_source.specs.Files.{AreItemsFormed}
 use Rattle.c_source.proofs.Same.{two_true}
@@ -16,7 +16,7 @@ use Rattle.c_source.proofs.Functions.{function_typed}
 use Rattle.c_source.proofs.Callees.{linked}
 
 -- variables before one that is marked
-one_outside : (n m k : ℕ) (vs : List AutomaticTree) → m + n ≤ k → take n (drop m (kept k vs)) ≡ take n (drop m vs)
+one_outside : (n m k : ℕ) (vs : List AutomaticTree) → m + n ≤ k → take n (drop m (with_one_in_memory k vs)) ≡ take n (drop m vs)
 one_outside n m k [] h = refl
 one_outside zero zero k (v ∷ vs) h = refl
 one_outside (suc n) zero zero (v ∷ vs) h = absurd (omega (arith, h))
@@ -24,9 +24,9 @@ one_outside (suc n) zero (suc k) (v ∷ vs) h = ap (λ q. v ∷ q) (one_outside 
 one_outside n (suc m) zero (v ∷ vs) h = absurd (omega (arith, h))
 one_outside n (suc m) (suc k) (v ∷ vs) h = one_outside n m k vs (omega (arith, h))
 
-all_outside : (n m first end : ℕ) (ks : List ℕ) (vs : List AutomaticTree) → m + n ≤ first → AreWithin first end ks → take n (drop m (kept_all ks vs)) ≡ take n (drop m vs)
+all_outside : (n m first end : ℕ) (ks : List ℕ) (vs : List AutomaticTree) → m + n ≤ first → AreWithin first end ks → take n (drop m (with_all_in_memory ks vs)) ≡ take n (drop m vs)
 all_outside n m first end [] vs le h = refl
-all_outside n m first end (k ∷ ks) vs le h = all_outside n m first end ks (kept k vs) le h.1 ∙ one_outside n m k vs (let at = h.0.0 in omega (arith, le, at))
+all_outside n m first end (k ∷ ks) vs le h = all_outside n m first end ks (with_one_in_memory k vs) le h.1 ∙ one_outside n m k vs (let at = h.0.0 in omega (arith, le, at))
 
 -- functions that keep variables of their own
 abbrev pub KeepOwn : List TypedFunctionTree → Type 0

@@ -14,9 +14,9 @@ use Rattle.c_tree.specs.Programs.{TypedFunctionTree, ProgramTree}
 use Rattle.c_type_rules.specs.declared.constancy.Constancy.{Constancy}
 use Rattle.c_type_rules.specs.declared.constancy.Constancy.TheVariants.{Known}
 use Rattle.c_type_values.specs.Values.{ValueTree}
-use Rattle.c_type_expressions.specs.Judgements.{count_of}
+use Rattle.c_type_expressions.specs.Judgements.{array_count}
 use Rattle.c_type_declarations.specs.Progress.{ProgressTree, means, value_met, breaks}
-use Rattle.c_type_declarations.specs.Objects.{count, literal_for, initialized_count, implied_count, counted, count_or, sized_by, size_met, type_by, type_met}
+use Rattle.c_type_declarations.specs.Objects.{count, literal_for, initialized_count, implied_count, declared_count, count_or, sized_by, size_met, type_by, type_met}
 use Rattle.c_type_laws.specs.Names.{has_few_elements}
 use Rattle.c_source.specs.Constants.{HasNumbers}
 use Rattle.c_source.specs.Findings.{HoldsOf}
@@ -32,7 +32,7 @@ use Rattle.c_source.proofs.Looking.{looks_itself, looks_on, breaks_looks, value_
 abbrev pub IsSome : ℕ → Type 0
 IsSome n = nat_le 1 n ≡ true
 
-positive : (t : ValueType) (k : Constancy) → HoldsOf IsSome (count_of t k)
+positive : (t : ValueType) (k : Constancy) → HoldsOf IsSome (array_count t k)
 positive (Integer t) (Known (pos (suc n))) = le_true 1 (suc n) (omega arith)
 positive _ _ = tt
 
@@ -54,7 +54,7 @@ module _ (p : ProgramTree) (f : TypedFunctionTree) (low : ℕ) where
   abbrev pub Types : ProgressTree → ObjectType → ProgressTree → Type 0
   Types q of t = Looks p f low q t × (has_elements of ≡ true) × (has_few_elements of ≡ true)
 
-  counted_some : (n : ℕ) (extent : Extent) (q t : ProgressTree) → Looks p f low q t → IsSome n → Ensures (Counts q) (counted n extent t)
+  counted_some : (n : ℕ) (extent : Extent) (q t : ProgressTree) → Looks p f low q t → IsSome n → Ensures (Counts q) (declared_count n extent t)
   counted_some n extent q t l h = by (nat_lt n (2 ^ 32)) refl
     where
       by : (b : Bool) → nat_lt n (2 ^ 32) ≡ b → Ensures (Counts q) (if b then means n t else means 1 (breaks UNEXPECTED_KEYWORD extent t))
@@ -66,7 +66,7 @@ module _ (p : ProgramTree) (f : TypedFunctionTree) (low : ℕ) where
   or_some None extent q t l h = (looks_on p f low l (breaks_looks p f low UNEXPECTED_KEYWORD extent t), refl, refl)
 
   sized_some : (extent : Extent) (q : ProgressTree) (v : Option ValueTree) (t : ProgressTree) → Looks p f low q t → Ensures (Counts q) (sized_by extent v t)
-  sized_some extent q (Some v) t l = or_some (count_of v.of v.constant) extent q t l (positive v.of v.constant)
+  sized_some extent q (Some v) t l = or_some (array_count v.of v.constant) extent q t l (positive v.of v.constant)
   sized_some extent q None t l = (l, refl, refl)
 
   pub size_some : (extent : Extent) (e : ExpressionTree) (q : ProgressTree) → HasNumbers e → Ensures (Counts q) (size_met extent e q)
@@ -75,7 +75,7 @@ module _ (p : ProgramTree) (f : TypedFunctionTree) (low : ℕ) where
   -- the type of a declared object
   type_by_elements : (b : BracketsTree) (s : Scalar) (extent : Extent) (i : Option InitializerTree) (q : ProgressTree) → IsSizeFormed b → Ensures (Types q) (type_by b s extent i q)
   type_by_elements Absent s extent i q h = (looks_itself p f low q, refl, refl)
-  type_by_elements Empty s extent i q h = next_ensures (Counts q) (Types q) (counted (implied_count s i) extent q) _ (counted_some (implied_count s i) extent q q (looks_itself p f low q) (implied_some s i)) (λ n t c. c)
+  type_by_elements Empty s extent i q h = next_ensures (Counts q) (Types q) (declared_count (implied_count s i) extent q) _ (counted_some (implied_count s i) extent q q (looks_itself p f low q) (implied_some s i)) (λ n t c. c)
   type_by_elements (Sized e) s extent i q h = next_ensures (Counts q) (Types q) (size_met extent e q) _ (size_some extent e q h) (λ n t c. c)
 
   pub type_elements : (s : Scalar) (d : DeclaratorTree) (q : ProgressTree) → IsSizeFormed d.brackets → Ensures (Types q) (type_met s d q)

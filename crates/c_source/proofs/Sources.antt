@@ -7,7 +7,7 @@ use Rattle.debug_records.specs.declared.code.TheConstants.Code.{TEXT_SIZE}
 use Rattle.debug_records.specs.declared.source.SourceErr.{SourceErr}
 use Rattle.debug_records.specs.declared.source.SourceErr.TheVariants.{Refused, NoMemory}
 use Rattle.debug_records.specs.Refusals.{Refuses}
-use Rattle.c_token.specs.Includes.{start}
+use Rattle.c_token.specs.Includes.{context_at_start}
 use Rattle.c_token.specs.Lexemes.{Lexeme}
 use Rattle.c_token.specs.Reading.{◌>>=◌}
 use Rattle.c_token.specs.Texts.{tokens_from, tokens_of}
@@ -46,7 +46,7 @@ program_found text tokens tree program is has h =
 -- a text that is too long has no tokens, and so no program
 long_has_no_tokens : (text : List ℕ) → nat_lt 1048576 (length text) ≡ true → tokens_of text ≡ Err (TEXT_SIZE, 1)
 unfolding tokens_of
-long_has_no_tokens text long = ap (λ b. if b then Err (TEXT_SIZE, 1) else tokens_from text 0 0 start text) long
+long_has_no_tokens text long = ap (λ b. if b then Err (TEXT_SIZE, 1) else tokens_from text 0 0 context_at_start text) long
 
 pub long_has_no_program : (text : List ℕ) → nat_lt 1048576 (length text) ≡ true → program_of_source text ≡ Err (TEXT_SIZE, 1)
 unfolding program_of_source

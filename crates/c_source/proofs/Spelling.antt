@@ -13,7 +13,7 @@ use Rattle.c_token.specs.Literals.{literal_at, character_at}
 use Rattle.c_token.specs.Punctuators.{punctuator_at}
 use Rattle.c_token.specs.Spells.{SpellsFrom, nothing, piece}
 use Rattle.c_token.specs.Texts.{tokens_at}
-use Rattle.c_token.specs.Words.{word_in, word_at, keyword_of}
+use Rattle.c_token.specs.Words.{keyword_or_name, word_at, keyword_of}
 use Rattle.c_type_laws.specs.Names.{is_identifier}
 use Rattle.c_type_laws.specs.Statics.{are_bytes}
 use Rattle.c_source.specs.Tokens.{IsSound, AreSound}
@@ -28,8 +28,8 @@ abbrev WordIsSound : Result Word Fault → Type 0
 WordIsSound (Ok w) = IsSound w
 WordIsSound (Err f) = Unit {0}
 
-in_sound : (at : ℕ) (s : List ℕ) → is_identifier s ≡ true → WordIsSound (word_in at s)
-unfolding word_in
+in_sound : (at : ℕ) (s : List ℕ) → is_identifier s ≡ true → WordIsSound (keyword_or_name at s)
+unfolding keyword_or_name
 in_sound at s h = by_option WordIsSound _ (keyword_of s) _ (λ k e. tt) (by_test WordIsSound (nat_lt 63 (length s)) _ _ (λ _. tt) (λ e. both_true (is_identifier s) (nat_le (length s) 63) h (no_longer (length s) e)))
 
 sound_there : (r : Result Word Fault) (w : Word) → WordIsSound r → r ≡ Ok w → IsSound w
@@ -37,7 +37,7 @@ sound_there r w h e = rw e at h
 
 word_sound : (text : List ℕ) (at : ℕ) → is_letter (get_or text at 0) ≡ true → Reads IsSound (word_at text at)
 unfolding word_at
-word_sound text at h = by_read (Reads IsSound) (word_in at _) _ (λ e. tt) (λ w e. sound_there _ w (in_sound at _ (word_identifies text at h)) e)
+word_sound text at h = by_read (Reads IsSound) (keyword_or_name at _) _ (λ e. tt) (λ w e. sound_there _ w (in_sound at _ (word_identifies text at h)) e)
 
 plain_sound : (text : List ℕ) (at : ℕ) → are_bytes text ≡ true → Reads IsSound (plain_token_at text at)
 unfolding plain_token_at

@@ -3,7 +3,7 @@ use Rattle.std.proofs.Common.{◌≡◌, ℕ, ◌+◌, List, [], ◌∷◌, ◌+
 use Rattle.debug_records.specs.declared.source.Spot.{Spot}
 use Rattle.debug_records.specs.declared.code.TheConstants.Code.{MISPLACED_JUMP}
 use Rattle.c_tree.specs.declared.types.IntegerType.{IntegerType}
-use Rattle.c_tree.specs.Ends.{first_of}
+use Rattle.c_tree.specs.Ends.{first_spot}
 use Rattle.c_tree.specs.Statements.{CaseLabel, DefaultLabel, StatementTree, StatementTrees}
 use Rattle.c_tree.specs.Statements as tree
 use Rattle.c_tree.specs.TypedExpressions.{RvalueTree}
@@ -13,10 +13,10 @@ use Rattle.c_tree.specs.Programs.{TypedFunctionTree, ProgramTree}
 use Rattle.c_type_declarations.specs.Progress.{ProgressTree, Met, means, next_met, opened}
 use Rattle.c_type_declarations.specs.Declarations.{declaration_met}
 use Rattle.c_type_statements.specs.declared.setting.Setting.{Setting}
-use Rattle.c_type_statements.specs.Settings.{in_loop, in_switch, unless, run_met, condition_met, condition_if_any, start_met, step_met, return_met}
-use Rattle.c_type_statements.specs.Switches.{Chosen, chosen_met, Labels, no_labels, Place, Outside, labels_at, behind_label, label_at, Labeled, Parts, Statement, unlabeled, bare, put_all}
+use Rattle.c_type_statements.specs.Settings.{in_loop, in_switch, rule_unless, run_met, condition_met, condition_if_any, start_met, step_met, return_met}
+use Rattle.c_type_statements.specs.Switches.{Chosen, chosen_met, Labels, no_labels, StatementPlace, Outside, labels_at, behind_label, label_at, Labeled, Parts, Statement, without_label, bare, put_all}
 use Rattle.c_type_statements.specs.Switches as switch
-use Rattle.c_type_statements.specs.Statements.{to_end, head_of, in_scope, met, statements_met, items_met}
+use Rattle.c_type_statements.specs.Statements.{to_end, head_of, in_scope, met, statements_met, block_items_met}
 use Rattle.c_type_laws.specs.Kinds.{is_typed, is_scalar}
 use Rattle.c_type_laws.specs.Expressions.{kind_of}
 use Rattle.c_type_laws.specs.Statements.{is_switch, may_stand, are_declared, is_start, is_step, is_condition, is_returned, is_statement, are_statements}
@@ -33,7 +33,7 @@ use Rattle.c_source.proofs.Conditions.{unless_looks, unless_fine, run_makes, con
 use Rattle.c_source.proofs.Declaring.{declaration_declares}
 use Rattle.c_source.proofs.Labelling.{kind_switch, labels_on, fit_behind, put_declared, put_typed, IsChosen, chosen_makes, MakesLabels, label_makes}
 
-nothing_fits : (place : Place) → FitAt place []
+nothing_fits : (place : StatementPlace) → FitAt place []
 nothing_fits Outside = tt
 nothing_fits (switch.Inside kind ls) = λ k. refl
 
@@ -42,8 +42,8 @@ module _ (p : ProgramTree) (f : TypedFunctionTree) where
   low = f.first_variable + f.parameters
 
   -- a statement without a label, and without what is before it
-  unlabeled_states : (place : Place) (g : Setting) (plain : Bool) (q : ProgressTree) (m : Met TypedStatementTree) → Ensures (States p f g plain q) m → Ensures (StatesLabeled p f place g plain q) (unlabeled (labels_at place) m)
-  unfolding unlabeled
+  unlabeled_states : (place : StatementPlace) (g : Setting) (plain : Bool) (q : ProgressTree) (m : Met TypedStatementTree) → Ensures (States p f g plain q) m → Ensures (StatesLabeled p f place g plain q) (without_label (labels_at place) m)
+  unfolding without_label
   unlabeled_states place g plain q m h = next_ensures (States p f g plain q) (StatesLabeled p f place g plain q) m _ h (λ s t states. record { states = states; labels = refl; fit = nothing_fits place })
 
   bare_states : (g : Setting) (plain : Bool) (q : ProgressTree) (m : Met Labeled) → Ensures (StatesLabeled p f Outside g plain q) m → Ensures (States p f g plain q) (bare m)
@@ -132,7 +132,7 @@ module _ (p : ProgramTree) (f : TypedFunctionTree) where
       }
 
   -- a label before a statement
-  labeled_states : (place : Place) (g : Setting) (plain : Bool) (q t : ProgressTree) (l : Parts) (x : Labeled) (u : ProgressTree) → plain ≡ true → MakesLabels p f low place q l t → StatesLabeled p f (behind_label place l.labels) g plain t x u
+  labeled_states : (place : StatementPlace) (g : Setting) (plain : Bool) (q t : ProgressTree) (l : Parts) (x : Labeled) (u : ProgressTree) → plain ≡ true → MakesLabels p f low place q l t → StatesLabeled p f (behind_label place l.labels) g plain t x u
       → StatesLabeled p f place g true q (record { before = l.parts ++ x.before; statement = x.statement; labels = x.labels }) u
   labeled_states place g plain q t l x u fine made states =
       record {
@@ -178,7 +178,7 @@ module _ (p : ProgramTree) (f : TypedFunctionTree) where
 
   mutual
     -- a statement where it stands, with its labels
-    pub met_states : (place : Place) (g : Setting) (s : StatementTree) (q : ProgressTree) → IsFormed s → g.result ≡ f.result → Ensures (StatesLabeled p f place g (is_no_declaration s) q) (met place g s q)
+    pub met_states : (place : StatementPlace) (g : Setting) (s : StatementTree) (q : ProgressTree) → IsFormed s → g.result ≡ f.result → Ensures (StatesLabeled p f place g (is_no_declaration s) q) (met place g s q)
     met_states place g (tree.Compound opening all closing) q h r =
         unlabeled_states place g true q _
         (next_ensures (StatesAll p f g q) (States p f g true q) (in_scope (statements_met g all) q) _
@@ -202,14 +202,14 @@ module _ (p : ProgramTree) (f : TypedFunctionTree) where
     met_states place g (tree.Run e last) q h r =
         unlabeled_states place g true q _
         (next_ensures (Makes p f low (λ (v : RvalueTree). is_typed (kind_of p f v) ≡ true) q) (States p f g true q) (run_met e q) _ (run_makes p f low e q h)
-        (λ v t made. simple g q (typed-tree.Run (first_of e) v) t made.looks (λ vs. refl) made.holds (λ tested. refl)))
+        (λ v t made. simple g q (typed-tree.Run (first_spot e) v) t made.looks (λ vs. refl) made.holds (λ tested. refl)))
     met_states place g (tree.If spot c s) q h r =
         unlabeled_states place g true q _
         (next_ensures (Makes p f low (λ (v : RvalueTree). is_scalar (kind_of p f v) ≡ true) q) (States p f g true q) (condition_met (to_end spot s) c q) _ (condition_makes p f low (to_end spot s) c q h.0)
         (λ v t made.
         next_ensures (States p f g (is_no_declaration s) t) (States p f g true q) (bare (met Outside g s t)) _ (bare_states g (is_no_declaration s) t (met Outside g s t) (met_states Outside g s t h.1 r))
         (λ a u body.
-        behind_value (is_scalar (kind_of p f v) ≡ true) g g (is_no_declaration s) q t u a (typed-tree.If (first_of c) v a) made.looks made.holds body (λ vs. refl)
+        behind_value (is_scalar (kind_of p f v) ≡ true) g g (is_no_declaration s) q t u a (typed-tree.If (first_spot c) v a) made.looks made.holds body (λ vs. refl)
         (λ k m. both (is_scalar (kind_of p f v)) (is_statement p f g.may_break g.may_continue a) k m) (λ tested. refl))))
     met_states place g (tree.IfElse spot c s o) q h r =
         unlabeled_states place g true q _
@@ -218,21 +218,21 @@ module _ (p : ProgramTree) (f : TypedFunctionTree) where
         next_ensures (States p f g (is_no_declaration s) t) (States p f g true q) (bare (met Outside g s t)) _ (bare_states g (is_no_declaration s) t (met Outside g s t) (met_states Outside g s t h.1 r))
         (λ a u one.
         next_ensures (States p f g (is_no_declaration o) u) (States p f g true q) (bare (met Outside g o u)) _ (bare_states g (is_no_declaration o) u (met Outside g o u) (met_states Outside g o u h.2 r))
-        (λ b w rest. both_behind_value g (is_no_declaration s) (is_no_declaration o) q t u w v a b (first_of c) made one rest))))
+        (λ b w rest. both_behind_value g (is_no_declaration s) (is_no_declaration o) q t u w v a b (first_spot c) made one rest))))
     met_states place g (tree.While spot c s) q h r =
         unlabeled_states place g true q _
         (next_ensures (Makes p f low (λ (v : RvalueTree). is_scalar (kind_of p f v) ≡ true) q) (States p f g true q) (condition_met (to_end spot s) c q) _ (condition_makes p f low (to_end spot s) c q h.0)
         (λ v t made.
         next_ensures (States p f (in_loop g) (is_no_declaration s) t) (States p f g true q) (bare (met Outside (in_loop g) s t)) _ (bare_states (in_loop g) (is_no_declaration s) t (met Outside (in_loop g) s t) (met_states Outside (in_loop g) s t h.1 r))
         (λ a u body.
-        behind_value (is_scalar (kind_of p f v) ≡ true) g (in_loop g) (is_no_declaration s) q t u a (typed-tree.While (first_of c) v a) made.looks made.holds body (λ vs. refl)
+        behind_value (is_scalar (kind_of p f v) ≡ true) g (in_loop g) (is_no_declaration s) q t u a (typed-tree.While (first_spot c) v a) made.looks made.holds body (λ vs. refl)
         (λ k m. both (is_scalar (kind_of p f v)) (is_statement p f true true a) k m) (λ tested. refl))))
     met_states place g (tree.DoWhile extent s c) q h r =
         unlabeled_states place g true q _
         (next_ensures (States p f (in_loop g) (is_no_declaration s) q) (States p f g true q) (bare (met Outside (in_loop g) s q)) _ (bare_states (in_loop g) (is_no_declaration s) q (met Outside (in_loop g) s q) (met_states Outside (in_loop g) s q h.0 r))
         (λ a t body.
         next_ensures (Makes p f low (λ (v : RvalueTree). is_scalar (kind_of p f v) ≡ true) t) (States p f g true q) (condition_met extent c t) _ (condition_makes p f low extent c t h.1)
-        (λ v u made. before_value g (is_no_declaration s) q t u a v (first_of c) body made)))
+        (λ v u made. before_value g (is_no_declaration s) q t u a v (first_spot c) body made)))
     met_states place g (tree.For spot start c step s) q h r =
         unlabeled_states place g true q _
         (scoped p f low declared_in (IsStated p f g true)
@@ -249,9 +249,9 @@ module _ (p : ProgramTree) (f : TypedFunctionTree) where
         unlabeled_states place g true q _
         (next_ensures (Makes p f low (IsChosen p f low) q) (States p f g true q) (chosen_met (record { first = spot; last = closing.at }) e q) _ (chosen_makes p f low (record { first = spot; last = closing.at }) e q h.0)
         (λ ch t made.
-        next_ensures (StatesParts p f (in_switch g) ch.kind t) (States p f g true q) (in_scope (items_met (in_switch g) ch.kind all no_labels) t) _
-        (scoped p f low declared_in_all (λ (them : TypedStatementTrees). is_kind ch.kind ≡ true → are_statements p f true g.may_continue ch.kind them ≡ true) (items_met (in_switch g) ch.kind all no_labels) t (parts_state (in_switch g) ch.kind all no_labels (opened t) h.1 h.2 r))
-        (λ ts u parts. switch_states g q t u ch ts (first_of e) made parts)))
+        next_ensures (StatesParts p f (in_switch g) ch.kind t) (States p f g true q) (in_scope (block_items_met (in_switch g) ch.kind all no_labels) t) _
+        (scoped p f low declared_in_all (λ (them : TypedStatementTrees). is_kind ch.kind ≡ true → are_statements p f true g.may_continue ch.kind them ≡ true) (block_items_met (in_switch g) ch.kind all no_labels) t (parts_state (in_switch g) ch.kind all no_labels (opened t) h.1 h.2 r))
+        (λ ts u parts. switch_states g q t u ch ts (first_spot e) made parts)))
     met_states place g (tree.Case extent e s) q h r =
         next_ensures (MakesLabels p f low place q) (StatesLabeled p f place g true q) (label_at place (CaseLabel extent e) q) _ (label_makes p f low place (CaseLabel extent e) q h.0)
         (λ l t made.
@@ -264,10 +264,10 @@ module _ (p : ProgramTree) (f : TypedFunctionTree) where
         (λ x u states. labeled_states place g (is_no_declaration s) q t l x u h.1 made states))
     met_states place g (tree.Break extent) q h r =
         unlabeled_states place g true q _
-        (simple g q (typed-tree.Break extent.first) (unless g.may_break MISPLACED_JUMP extent q) (unless_looks p f low g.may_break MISPLACED_JUMP extent q) (λ vs. refl) (λ i e. unless_fine p f low g.may_break MISPLACED_JUMP extent q e.accepts.faults) (λ tested. refl))
+        (simple g q (typed-tree.Break extent.first) (rule_unless g.may_break MISPLACED_JUMP extent q) (unless_looks p f low g.may_break MISPLACED_JUMP extent q) (λ vs. refl) (λ i e. unless_fine p f low g.may_break MISPLACED_JUMP extent q e.accepts.faults) (λ tested. refl))
     met_states place g (tree.Continue extent) q h r =
         unlabeled_states place g true q _
-        (simple g q (typed-tree.Continue extent.first) (unless g.may_continue MISPLACED_JUMP extent q) (unless_looks p f low g.may_continue MISPLACED_JUMP extent q) (λ vs. refl) (λ i e. unless_fine p f low g.may_continue MISPLACED_JUMP extent q e.accepts.faults) (λ tested. refl))
+        (simple g q (typed-tree.Continue extent.first) (rule_unless g.may_continue MISPLACED_JUMP extent q) (unless_looks p f low g.may_continue MISPLACED_JUMP extent q) (λ vs. refl) (λ i e. unless_fine p f low g.may_continue MISPLACED_JUMP extent q e.accepts.faults) (λ tested. refl))
     met_states place g (tree.Return extent e) q h r =
         unlabeled_states place g true q _
         (next_ensures (Makes p f low (λ (v : Option RvalueTree). is_returned p f v ≡ true) q) (States p f g true q) (return_met g.result extent e q) _ (return_makes p f low g.result r extent e q h)
@@ -281,10 +281,10 @@ module _ (p : ProgramTree) (f : TypedFunctionTree) where
         (λ a t one. next_ensures (StatesAll p f g t) (StatesAll p f g q) (statements_met g rest t) _ (all_states g rest t h.1 r) (λ ts u more. first_states g (is_no_declaration s) q t u a ts one more))
 
     -- those of the block of a `switch`
-    parts_state : (g : Setting) (kind : Option IntegerType) (all : StatementTrees) (ls : Labels) (q : ProgressTree) → AreFormed all → declare_nothing all → g.result ≡ f.result → Ensures (StatesParts p f g kind q) (items_met g kind all ls q)
+    parts_state : (g : Setting) (kind : Option IntegerType) (all : StatementTrees) (ls : Labels) (q : ProgressTree) → AreFormed all → declare_nothing all → g.result ≡ f.result → Ensures (StatesParts p f g kind q) (block_items_met g kind all ls q)
     parts_state g kind tree.none ls q h plain r = record { comes = comes_itself p f low q; numbers = nothing_numbered q q (declared_in_all typed-tree.none) refl (λ vs. refl); holds = λ i e k. refl }
     parts_state g kind (tree.first s rest) ls q h plain r =
         next_ensures (StatesLabeled p f (switch.Inside kind ls) g (is_no_declaration s) q) (StatesParts p f g kind q) (met (switch.Inside kind ls) g s q) _ (met_states (switch.Inside kind ls) g s q h.0 r)
         (λ x t one.
-        next_ensures (StatesParts p f g kind t) (StatesParts p f g kind q) (items_met g kind rest x.labels t) _ (parts_state g kind rest x.labels t h.1 plain.1 r)
+        next_ensures (StatesParts p f g kind t) (StatesParts p f g kind q) (block_items_met g kind rest x.labels t) _ (parts_state g kind rest x.labels t h.1 plain.1 r)
         (λ ts u more. part_states g kind ls (is_no_declaration s) q t u x ts plain.0 one more))

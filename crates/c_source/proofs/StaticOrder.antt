@@ -15,7 +15,7 @@ use Rattle.c_tree.specs.declared.object_type.ValueType.TheVariants.{Void}
 use Rattle.c_tree.specs.declared.typed_expression.Callee.{Callee}
 use Rattle.c_tree.specs.declared.typed_expression.Callee.TheVariants as callee
 use Rattle.c_tree.specs.Declarations.{BracketsTree, Absent, Empty, Sized, ParameterTree, DeclaratorTree}
-use Rattle.c_tree.specs.Statements.{BlockTree, chain}
+use Rattle.c_tree.specs.Statements.{BlockTree, chain_of_statements}
 use Rattle.c_tree.specs.Trees.{FunctionTree, ItemTree, Include, Declares, Defines}
 use Rattle.c_tree.specs.TypedStatements.{TypedStatementTrees}
 use Rattle.c_tree.specs.TypedStatements as typed-tree
@@ -27,9 +27,9 @@ use Rattle.c_type_declarations.specs.Scopes.{declared_here}
 use Rattle.c_type_declarations.specs.Progress.{ProgressTree, Met, means, next_met, reached_by, breaks, breaks_if, with_name, opened}
 use Rattle.c_type_declarations.specs.Objects.{size_met, type_met}
 use Rattle.c_type_declarations.specs.Statics.{Contents, contents_met}
-use Rattle.c_type_declarations.specs.Declarations.{with_static, static_of_type, static_met, statics_met}
+use Rattle.c_type_declarations.specs.Declarations.{with_static_object, static_of_type, static_met, statics_met}
 use Rattle.c_type_statements.specs.Statements.{statements_met}
-use Rattle.c_type.specs.Headers.{is_library_name, library, is_library, same_type, stands_with, stands, placed, library_met, end_beside, at_spot, included}
+use Rattle.c_type.specs.Headers.{is_library_name, library, is_library, same_type, stands_with, standing_of, placed, library_met, end_beside, at_spot, included}
 use Rattle.c_type.specs.Functions.{parameter_size, parameter_sizes, parameters_met, defined, signature_of, agrees_with, known_as, name_met, function_made, setting_of, rest_met, function_met}
 use Rattle.c_type.specs.Items.{item_met, items_met, beginning, source_met}
 use Rattle.c_type_laws.specs.Orders.{ascends}
@@ -100,7 +100,7 @@ standing_statics : (extent : Extent) (name : List ℕ) (g : SignatureTree) (o : 
 standing_statics extent name g (Some other) q = beside_statics extent name g other q
 standing_statics extent name g None q = refl
 
-placed_statics : (extent : Extent) (name : List ℕ) (g : SignatureTree) (functions : List SignatureTree) (m : Option Meaning) (q : ProgressTree) → (placed (stands g functions m) extent name g q).statics ≡ q.statics
+placed_statics : (extent : Extent) (name : List ℕ) (g : SignatureTree) (functions : List SignatureTree) (m : Option Meaning) (q : ProgressTree) → (placed (standing_of g functions m) extent name g q).statics ≡ q.statics
 placed_statics extent name g functions None q = refl
 placed_statics extent name g functions (Some (Function k)) q = standing_statics extent name g (slice_get functions k) q
 placed_statics extent name g functions (Some (Variable o of)) q = refl
@@ -161,7 +161,7 @@ module _ (p : ProgramTree) where
 
   rest_statics : (f : FunctionTree) (g : SignatureTree) (b : Option BlockTree) (q : ProgressTree) → IsBodyFormed f.parameters b → Ensures (Same q) (rest_met f g b q)
   unfolding next_met
-  rest_statics f g (Some b) q h = by (statements_met (setting_of g) (chain b.statements) begun) (all_states p fun (setting_of g) (chain b.statements) begun h.1 refl)
+  rest_statics f g (Some b) q h = by (statements_met (setting_of g) (chain_of_statements b.statements) begun) (all_states p fun (setting_of g) (chain_of_statements b.statements) begun h.1 refl)
     where
       fun : TypedFunctionTree
       fun = any_function g.result f.name.spot
@@ -193,7 +193,7 @@ module _ (p : ProgramTree) where
       s : ProgressTree
       s = with_name d.name.name (Variable (designator.Static (length q.statics)) of) (breaks_if (declared_here q.names d.name.name) REDECLARED d.extent q)
 
-      by : (m : Met Contents) → Ensures (Makes p fun 0 (Fits p of) s) m → Adds q (d.name.spot.at ∷ []) (reached_by m (with_static d.name of))
+      by : (m : Met Contents) → Ensures (Makes p fun 0 (Fits p of) s) m → Adds q (d.name.spot.at ∷ []) (reached_by m (with_static_object d.name of))
       by (means c u) l =
           let same : u.statics ≡ q.statics = l.looks.comes.advances.statics ∙ breaks_if_statics (declared_here q.names d.name.name) REDECLARED d.extent q in
           let v : StaticTree = record { name = d.name.name; spot = d.name.spot; of = of; bytes = c.bytes; relocations = c.relocations } in

@@ -13,9 +13,9 @@ use Rattle.c_tree.specs.declared.program.Relocation.{Relocation}
 use Rattle.c_tree.specs.Programs.{StaticTree, ProgramTree}
 use Rattle.c_type_rules.specs.declared.constancy.Constancy.{Constancy}
 use Rattle.c_type_rules.specs.declared.constancy.Constancy.TheVariants.{Varies, Formed, Known, Address}
-use Rattle.c_type_rules.specs.Integers.{residue, size, object_size, scalar_size}
-use Rattle.c_type_rules.specs.Types.{loaded, pointed_to, same_integer, same_scalar, same_value}
-use Rattle.c_type_declarations.specs.Objects.{is_char}
+use Rattle.c_type_rules.specs.Integers.{residue, integer_size, object_size, scalar_size}
+use Rattle.c_type_rules.specs.Types.{loaded_type, pointed_to, same_integer, same_scalar, same_value}
+use Rattle.c_type_declarations.specs.Objects.{is_plain_char}
 use Rattle.c_type_declarations.specs.Statics.{Contents, nothing, low_bytes, with_constant, literal_bytes}
 use Rattle.c_type_laws.specs.Orders.{ascends, ascends_behind}
 use Rattle.c_type_laws.specs.Objects.{element_of, is_address_if, holds_address, hold_addresses, are_zero, spots_of, is_static, are_static}
@@ -99,11 +99,11 @@ residue_zero : residue (pos 0) (2 ^ 32) ≡ 0
 unfolding residue
 residue_zero = refl
 
-loaded_pointer : (s : Scalar) → (s.stars == 0) ≡ false → loaded s ≡ Pointer (of-object.Scalar (pointed_to s))
+loaded_pointer : (s : Scalar) → (s.stars == 0) ≡ false → loaded_type s ≡ Pointer (of-object.Scalar (pointed_to s))
 loaded_pointer s e = ap (λ b. if b then Integer s.base else Pointer (of-object.Scalar (pointed_to s))) e
 
 -- a pointer to such elements holds their address
-pointer_same : (s : Scalar) (t : Scalar) → (s.stars == 0) ≡ false → same_scalar (pointed_to s) t ≡ true → same_value (loaded s) (Pointer (of-object.Scalar t)) ≡ true
+pointer_same : (s : Scalar) (t : Scalar) → (s.stars == 0) ≡ false → same_scalar (pointed_to s) t ≡ true → same_value (loaded_type s) (Pointer (of-object.Scalar t)) ≡ true
 pointer_same s t e h = ap (λ v. same_value v (Pointer (of-object.Scalar t))) (loaded_pointer s e) ∙ h
 
 same_back : (a b : Scalar) → same_scalar a b ≡ true → same_scalar b a ≡ true
@@ -114,7 +114,7 @@ static_holds s offset None e h = cc
 static_holds s offset (Some v) e h =
     let a = two_true (same_scalar (element_of v.of) (pointed_to s) && nat_le offset (object_size v.of)) (offset % scalar_size (element_of v.of) == 0) h in
     let b = two_true (same_scalar (element_of v.of) (pointed_to s)) (nat_le offset (object_size v.of)) a.0 in
-    all_three (same_value (loaded s) (Pointer (of-object.Scalar (element_of v.of)))) (nat_le offset (object_size v.of)) (offset % scalar_size (element_of v.of) == 0)
+    all_three (same_value (loaded_type s) (Pointer (of-object.Scalar (element_of v.of)))) (nat_le offset (object_size v.of)) (offset % scalar_size (element_of v.of) == 0)
     (pointer_same s (element_of v.of) e (same_back (element_of v.of) (pointed_to s) b.0)) b.1 a.1
 
 module _ (p : ProgramTree) where
@@ -123,11 +123,11 @@ module _ (p : ProgramTree) where
   pointer_holds s (object.Literal n) offset e h =
       let char : Scalar = record { base = Char; stars = 0 } in
       let a = two_true (is_some (slice_get p.literals n) && offset == 0) (same_scalar (pointed_to s) char) h in
-      (both (is_some (slice_get p.literals n) && offset == 0) (scalar_size s == 4) a.0 (ap (λ b. (if b then size s.base else 4) == 4) e), pointer_same s char e a.1)
+      (both (is_some (slice_get p.literals n) && offset == 0) (scalar_size s == 4) a.0 (ap (λ b. (if b then integer_size s.base else 4) == 4) e), pointer_same s char e a.1)
   pointer_holds s (object.Automatic x) offset e h = cc
 
   -- what holds a constant address is a pointer to such elements
-  address_holds : (s : Scalar) (o : designator.Object) (offset : ℕ) → is_constant_of p (loaded s) (Address o offset) ≡ true → (holds_address p s offset o ≡ true) × (suits s o ≡ true)
+  address_holds : (s : Scalar) (o : designator.Object) (offset : ℕ) → is_constant_of p (loaded_type s) (Address o offset) ≡ true → (holds_address p s offset o ≡ true) × (suits s o ≡ true)
   address_holds s o offset h = by (s.stars == 0) refl h
     where
       by : (b : Bool) → (s.stars == 0) ≡ b → is_constant_of p (if b then Integer s.base else Pointer (of-object.Scalar (pointed_to s))) (Address o offset) ≡ true → (holds_address p s offset o ≡ true) × (suits s o ≡ true)
@@ -135,7 +135,7 @@ module _ (p : ProgramTree) where
       by false e h = pointer_holds s o offset e h
 
   -- a number that a pointer holds is zero
-  number_empty : (s : Scalar) (z : ℤ) → is_constant_of p (loaded s) (Known z) ≡ true → s.stars == 0 || are_zero (low_bytes (scalar_size s) (residue z (2 ^ 32))) ≡ true
+  number_empty : (s : Scalar) (z : ℤ) → is_constant_of p (loaded_type s) (Known z) ≡ true → s.stars == 0 || are_zero (low_bytes (scalar_size s) (residue z (2 ^ 32))) ≡ true
   number_empty s z h = by (s.stars == 0) h
     where
       by : (b : Bool) → is_constant_of p (if b then Integer s.base else Pointer (of-object.Scalar (pointed_to s))) (Known z) ≡ true → b || are_zero (low_bytes (scalar_size s) (residue z (2 ^ 32))) ≡ true
@@ -187,7 +187,7 @@ module _ (p : ProgramTree) where
       lt_true a b h = grind (arith, nat_tests)
 
   -- a constant behind contents
-  pub constant_fills : (s : Scalar) (n : ℕ) (k : Constancy) (c : Contents) → Fills p s n c → is_constant_of p (loaded s) k ≡ true → Fills p s (n + 1) (with_constant s k c)
+  pub constant_fills : (s : Scalar) (n : ℕ) (k : Constancy) (c : Contents) → Fills p s n c → is_constant_of p (loaded_type s) k ≡ true → Fills p s (n + 1) (with_constant s k c)
   constant_fills s n (Known z) c f h = number_fills s n (residue z (2 ^ 32)) c f (number_empty s z h)
   constant_fills s n (Address o offset) c f h = let a = address_holds s o offset h in address_fills s n o offset c f a.0 a.1
   constant_fills s n Varies c f h = number_fills s n 0 c f (if_pointer (s.stars == 0) (low_bytes (scalar_size s) 0) (low_zero (scalar_size s)))
@@ -210,7 +210,7 @@ module _ (p : ProgramTree) where
       record { room = within (length c.bytes) n count f.room h; bytes = f.bytes; addresses = f.addresses; suit = f.suit; order = f.order; empty = f.empty }
 
   -- the bytes of a literal fit an array of `char`
-  pub literal_fits : (s : Scalar) (count : ℕ) (bytes : List ℕ) → is_char s ≡ true → are_bytes bytes ≡ true → Fits p (of-object.Array s count) (record { bytes = literal_bytes count bytes; relocations = [] })
+  pub literal_fits : (s : Scalar) (count : ℕ) (bytes : List ℕ) → is_plain_char s ≡ true → are_bytes bytes ≡ true → Fits p (of-object.Array s count) (record { bytes = literal_bytes count bytes; relocations = [] })
   literal_fits s count bytes char h =
       let c = two_true (s.stars == 0) (same_integer s.base Char) char in
       let short = take_short count (bytes ++ 0 ∷ []) in

@@ -17,15 +17,15 @@ use Rattle.c_tree.specs.TypedExpressions.{Convert, Not, And, Or}
 use Rattle.c_tree.specs.Programs.{TypedFunctionTree, ProgramTree}
 use Rattle.c_type_rules.specs.declared.constancy.Constancy.{Constancy}
 use Rattle.c_type_rules.specs.Integers.{common, promoted}
-use Rattle.c_type_rules.specs.Types.{loaded, same_object, same_value}
+use Rattle.c_type_rules.specs.Types.{loaded_type, same_object, same_value}
 use Rattle.c_type_rules.specs.declared.constancy.Constancy.TheVariants.{Varies}
 use Rattle.c_type_rules.specs.Constancies.{converted_constant, not_constant, and_constant, or_constant}
 use Rattle.c_type_values.specs.declared.operation.Operation as declared-operation
 use Rattle.c_type_values.specs.declared.operation.Operation.TheVariants.{Calculates, Compares, Both, Either}
-use Rattle.c_type_values.specs.Values.{ValueTree, MeantTree, IsObject, IsValue, as_value, is_of as is_integer_of, to_integer, null, converted_from, converted}
+use Rattle.c_type_values.specs.Values.{ValueTree, MeantTree, IsObject, IsValue, as_value, is_integer_of, to_integer, null, converted_from, converted_value}
 use Rattle.c_type_values.specs.Operations as operation
-use Rattle.c_type_values.specs.Operations.{is_shift, is_equality, signed_as, signed_value, negated, discarded, in_types, arithmetic_value, moved, moved_from, moved_by, moved_behind, difference_by, calculated_as, calculated_value, pointers_compared, integers_compared, compared_as, compared_value, both as both_values, either, combined, sequenced, chosen, chosen_integer, chosen_as, conditional}
-use Rattle.c_type_values.specs.Pointers.{address, target_of, dereferenced, elements, element_of}
+use Rattle.c_type_values.specs.Operations.{is_shift, is_equality, signed_as, signed_value, negated, discarded, in_types, arithmetic_value, moved_pointer, moved_from, pointer_sum, moved_behind, difference_by, calculated_as, calculated_value, comparison_of_pointers, integers_compared, compared_as, compared_value, logical_and as both_values, logical_or, combined, sequenced, conditional_value, chosen_integer, chosen_as, conditional_meaning}
+use Rattle.c_type_values.specs.Pointers.{address, target_of, dereferenced, elements, subscript}
 use Rattle.c_type_rules.specs.ValueTypes.{object_type}
 use Rattle.c_type_laws.specs.Kind.{Kind, NullPointer, Of}
 use Rattle.c_type_laws.specs.Kinds.{is_promoted, is_of, is_typed, is_scalar, is_pointer, is_integer, is_counted, joined, is_operand, holds_scalar, is_array}
@@ -76,9 +76,9 @@ module _ (p : ProgramTree) (f : TypedFunctionTree) where
   as_value_typed (IsValue v) h = h
   as_value_typed (IsObject (object.Scalar s) l k) h =
       record {
-        is = given_kind (holds_scalar (object_type l) s && is_place p f l) (loaded s) (both (holds_scalar (object_type l) s) (is_place p f l) (rw h.0.is (scalar_itself s)) h.0.place);
+        is = given_kind (holds_scalar (object_type l) s && is_place p f l) (loaded_type s) (both (holds_scalar (object_type l) s) (is_place p f l) (rw h.0.is (scalar_itself s)) h.0.place);
         elements = loaded_elements s;
-        constant = varies_is p f (loaded s);
+        constant = varies_is p f (loaded_type s);
       }
   as_value_typed (IsObject (object.Array element count) l k) h =
       record {
@@ -106,7 +106,7 @@ module _ (p : ProgramTree) (f : TypedFunctionTree) where
   counted_typed t v h e = counted_kind (kind_of p f (to_integer (promoted t) v).tree) (promoted t) (to_integer_kind (promoted t) t v h e) (promoted_once t)
 
   -- `a[b]`
-  pub element_typed : (a b : ValueTree) → IsTyped p f a → IsTyped p f b → HoldsOf (Means p f) (element_of a b)
+  pub element_typed : (a b : ValueTree) → IsTyped p f a → IsTyped p f b → HoldsOf (Means p f) (subscript a b)
   element_typed a b h g = by a.of b.of refl refl
     where
       by : (t u : ValueType) → a.of ≡ t → b.of ≡ u → HoldsOf (Means p f) (elements t u a b)
@@ -202,7 +202,7 @@ module _ (p : ProgramTree) (f : TypedFunctionTree) where
           (other_operand o (common t u) (kind_of p f (to_integer (common t u) b).tree) s (of_integer_kind (kind_of p f (to_integer (common t u) b).tree) (common t u) (to_integer_kind (common t u) u b g d)))
 
   -- a pointer moved by an integer
-  moved_typed : (d : Direction) (o : ObjectType) (t : IntegerType) (a b : ValueTree) → IsTyped p f a → IsTyped p f b → a.of ≡ Pointer o → b.of ≡ Integer t → IsTyped p f (moved d o t a b)
+  moved_typed : (d : Direction) (o : ObjectType) (t : IntegerType) (a b : ValueTree) → IsTyped p f a → IsTyped p f b → a.of ≡ Pointer o → b.of ≡ Integer t → IsTyped p f (moved_pointer d o t a b)
   moved_typed d o t a b h g e c =
       record {
         is = given_kind (is_of (kind a) (Pointer o) && is_counted (kind_of p f (to_integer (promoted t) b).tree)) (Pointer o)
@@ -220,7 +220,7 @@ module _ (p : ProgramTree) (f : TypedFunctionTree) where
         constant = refl;
       }
 
-  moved_by_typed : (q : declared-arithmetic.Arithmetic) (o : ObjectType) (t : IntegerType) (a b : ValueTree) → IsTyped p f a → IsTyped p f b → a.of ≡ Pointer o → b.of ≡ Integer t → HoldsOf (Means p f) (option_map IsValue (moved_by q o t a b))
+  moved_by_typed : (q : declared-arithmetic.Arithmetic) (o : ObjectType) (t : IntegerType) (a b : ValueTree) → IsTyped p f a → IsTyped p f b → a.of ≡ Pointer o → b.of ≡ Integer t → HoldsOf (Means p f) (option_map IsValue (pointer_sum q o t a b))
   moved_by_typed arithmetic.Add o t a b h g e c = moved_typed _ o t a b h g e c
   moved_by_typed arithmetic.Subtract o t a b h g e c = moved_typed _ o t a b h g e c
   moved_by_typed _ o t a b h g e c = tt
@@ -234,7 +234,7 @@ module _ (p : ProgramTree) (f : TypedFunctionTree) where
   same_pointer : (a b : ValueTree) (o r : ObjectType) → IsTyped p f b → b.of ≡ Pointer r → same_object o r ≡ true → is_of (kind_of p f b.tree) (Pointer o) ≡ true
   same_pointer a b o r g d s = subst (λ q. is_of (kind b) (Pointer q) ≡ true) (sym (object_is o r s)) (of_pointer b r g d)
 
-  difference_typed : (o r : ObjectType) (a b : ValueTree) → IsTyped p f a → IsTyped p f b → a.of ≡ Pointer o → b.of ≡ Pointer r → same_object o r ≡ true → IsTyped p f (operation.difference o a b)
+  difference_typed : (o r : ObjectType) (a b : ValueTree) → IsTyped p f a → IsTyped p f b → a.of ≡ Pointer o → b.of ≡ Pointer r → same_object o r ≡ true → IsTyped p f (operation.element_difference o a b)
   difference_typed o r a b h g e d s =
       record {
         is = given_kind (is_of (kind a) (Pointer o) && is_of (kind b) (Pointer o)) (Integer Int) (both (is_of (kind a) (Pointer o)) (is_of (kind b) (Pointer o)) (of_pointer a o h e) (same_pointer a b o r g d s));
@@ -246,7 +246,7 @@ module _ (p : ProgramTree) (f : TypedFunctionTree) where
       → HoldsOf (Means p f) (option_map IsValue (difference_by q o r a b))
   difference_by_typed arithmetic.Subtract o r a b h g e d = by (same_object o r) refl
     where
-      by : (s : Bool) → same_object o r ≡ s → HoldsOf (Means p f) (option_map IsValue (if s then Some (operation.difference o a b) else None))
+      by : (s : Bool) → same_object o r ≡ s → HoldsOf (Means p f) (option_map IsValue (if s then Some (operation.element_difference o a b) else None))
       by true s = difference_typed o r a b h g e d s
       by false s = tt
   difference_by_typed _ o r a b h g e d = tt
@@ -276,22 +276,22 @@ module _ (p : ProgramTree) (f : TypedFunctionTree) where
         constant = comparison_number o (to_integer (common t u) a).constant (to_integer (common t u) b).constant;
       }
 
-  pointers_typed : (o : Comparison) (r : ObjectType) (a b : ValueTree) → is_of (kind_of p f a.tree) (Pointer r) ≡ true → is_of (kind_of p f b.tree) (Pointer r) ≡ true → IsTyped p f (pointers_compared o a b)
+  pointers_typed : (o : Comparison) (r : ObjectType) (a b : ValueTree) → is_of (kind_of p f a.tree) (Pointer r) ≡ true → is_of (kind_of p f b.tree) (Pointer r) ≡ true → IsTyped p f (comparison_of_pointers o a b)
   pointers_typed o r a b h g =
       record { is = given_kind (is_pointer (joined (kind a) (kind b))) (Integer Int) (pointer_kind (joined (kind a) (kind b)) r (joined_kinds (kind a) (kind b) (Pointer r) h g)); elements = refl; constant = refl }
 
   pub compared_typed : (o : Comparison) (a b : ValueTree) (az bz : Bool) → IsTyped p f a → IsTyped p f b → HoldsOf (Means p f) (option_map IsValue (compared_value o a b az bz))
   compared_typed o a b az bz h g = by a.of b.of refl refl
     where
-      if_same : (r q : ObjectType) → a.of ≡ Pointer r → b.of ≡ Pointer q → (s : Bool) → same_object r q ≡ s → HoldsOf (Means p f) (option_map IsValue (if s then Some (pointers_compared o a b) else None))
+      if_same : (r q : ObjectType) → a.of ≡ Pointer r → b.of ≡ Pointer q → (s : Bool) → same_object r q ≡ s → HoldsOf (Means p f) (option_map IsValue (if s then Some (comparison_of_pointers o a b) else None))
       if_same r q e d true s = pointers_typed o r a b (of_pointer a r h e) (same_pointer a b r q g d s)
       if_same r q e d false s = tt
 
-      right_null : (r : ObjectType) → a.of ≡ Pointer r → (s : Bool) → HoldsOf (Means p f) (option_map IsValue (if s then Some (pointers_compared o a (null a.of)) else None))
+      right_null : (r : ObjectType) → a.of ≡ Pointer r → (s : Bool) → HoldsOf (Means p f) (option_map IsValue (if s then Some (comparison_of_pointers o a (null a.of)) else None))
       right_null r e true = pointers_typed o r a (null a.of) (of_pointer a r h e) refl
       right_null r e false = tt
 
-      left_null : (r : ObjectType) → b.of ≡ Pointer r → (s : Bool) → HoldsOf (Means p f) (option_map IsValue (if s then Some (pointers_compared o (null b.of) b) else None))
+      left_null : (r : ObjectType) → b.of ≡ Pointer r → (s : Bool) → HoldsOf (Means p f) (option_map IsValue (if s then Some (comparison_of_pointers o (null b.of) b) else None))
       left_null r e true = pointers_typed o r (null b.of) b refl (of_pointer b r g e)
       left_null r e false = tt
 
@@ -318,7 +318,7 @@ module _ (p : ProgramTree) (f : TypedFunctionTree) where
       by true s = record { is = given_kind (is_scalar (kind a) && is_scalar (kind b)) (Integer Int) (scalars_typed a b h g s); elements = refl; constant = and_number a.constant b.constant }
       by false s = tt
 
-  pub either_typed : (a b : ValueTree) → IsTyped p f a → IsTyped p f b → HoldsOf (Means p f) (option_map IsValue (either a b))
+  pub either_typed : (a b : ValueTree) → IsTyped p f a → IsTyped p f b → HoldsOf (Means p f) (option_map IsValue (logical_or a b))
   either_typed a b h g = by (operation.is_scalar a.of && operation.is_scalar b.of) refl
     where
       by : (s : Bool) → (operation.is_scalar a.of && operation.is_scalar b.of) ≡ s
@@ -339,10 +339,10 @@ module _ (p : ProgramTree) (f : TypedFunctionTree) where
 
   -- `a?b:c`
   chosen_typed : (t : ValueType) (c a b : ValueTree) (k : Constancy) → is_scalar (kind_of p f c.tree) ≡ true → is_of (kind_of p f a.tree) t ≡ true → is_of (kind_of p f b.tree) t ≡ true → leads_to_elements t ≡ true
-      → is_constant_of p t k ≡ true → IsTyped p f (chosen t c a b k)
+      → is_constant_of p t k ≡ true → IsTyped p f (conditional_value t c a b k)
   chosen_typed t c a b k s h g e n = record { is = rw s (joined_kinds (kind a) (kind b) t h g); elements = e; constant = n }
 
-  pub conditional_typed : (c a b : ValueTree) (az bz : Bool) → IsTyped p f c → IsTyped p f a → IsTyped p f b → HoldsOf (Means p f) (option_map IsValue (conditional c a b az bz))
+  pub conditional_typed : (c a b : ValueTree) (az bz : Bool) → IsTyped p f c → IsTyped p f a → IsTyped p f b → HoldsOf (Means p f) (option_map IsValue (conditional_meaning c a b az bz))
   conditional_typed c a b az bz i h g = by (operation.is_scalar c.of) refl
     where
       integers : (t u : IntegerType) → a.of ≡ Integer t → b.of ≡ Integer u → is_scalar (kind c) ≡ true → IsTyped p f (chosen_integer (common t u) c a b)
@@ -351,15 +351,15 @@ module _ (p : ProgramTree) (f : TypedFunctionTree) where
           (of_integer_kind (kind_of p f (to_integer (common t u) a).tree) (common t u) (to_integer_kind (common t u) t a h e))
           (of_integer_kind (kind_of p f (to_integer (common t u) b).tree) (common t u) (to_integer_kind (common t u) u b g d)) refl (conditional_number c.constant (to_integer (common t u) a).constant (to_integer (common t u) b).constant)
 
-      right_null : (r : ObjectType) → a.of ≡ Pointer r → is_scalar (kind c) ≡ true → (z : Bool) → HoldsOf (Means p f) (option_map IsValue (if z then Some (chosen a.of c a (null a.of) Varies) else None))
+      right_null : (r : ObjectType) → a.of ≡ Pointer r → is_scalar (kind c) ≡ true → (z : Bool) → HoldsOf (Means p f) (option_map IsValue (if z then Some (conditional_value a.of c a (null a.of) Varies) else None))
       right_null r e s true = chosen_typed a.of c a (null a.of) Varies s h.is (subst (λ q. is_of NullPointer q ≡ true) (sym e) refl) h.elements (varies_is p f a.of)
       right_null r e s false = tt
 
-      left_null : (r : ObjectType) → b.of ≡ Pointer r → is_scalar (kind c) ≡ true → (z : Bool) → HoldsOf (Means p f) (option_map IsValue (if z then Some (chosen b.of c (null b.of) b Varies) else None))
+      left_null : (r : ObjectType) → b.of ≡ Pointer r → is_scalar (kind c) ≡ true → (z : Bool) → HoldsOf (Means p f) (option_map IsValue (if z then Some (conditional_value b.of c (null b.of) b Varies) else None))
       left_null r e s true = chosen_typed b.of c (null b.of) b Varies s (subst (λ q. is_of NullPointer q ≡ true) (sym e) refl) g.is g.elements (varies_is p f b.of)
       left_null r e s false = tt
 
-      one_type : (t u : ValueType) → a.of ≡ t → b.of ≡ u → is_scalar (kind c) ≡ true → (z : Bool) → same_value t u ≡ z → HoldsOf (Means p f) (option_map IsValue (if z then Some (chosen t c a b Varies) else None))
+      one_type : (t u : ValueType) → a.of ≡ t → b.of ≡ u → is_scalar (kind c) ≡ true → (z : Bool) → same_value t u ≡ z → HoldsOf (Means p f) (option_map IsValue (if z then Some (conditional_value t c a b Varies) else None))
       one_type t u e d s true z =
           chosen_typed t c a b Varies s (subst (λ q. is_of (kind a) q ≡ true) e h.is) (subst (λ q. is_of (kind b) q ≡ true) (d ∙ sym (value_is t u z)) g.is) (ap leads_to_elements (sym e) ∙ h.elements) (varies_is p f t)
       one_type t u e d s false z = tt
@@ -378,7 +378,7 @@ module _ (p : ProgramTree) (f : TypedFunctionTree) where
       by false z = tt
 
   -- a value as if assigned to an object of a type
-  pub converted_typed : (v : ValueTree) (to : ValueType) (zero : Bool) → IsTyped p f v → HoldsOf (λ (r : ValueTree). is_of (kind_of p f r.tree) to ≡ true) (converted v to zero)
+  pub converted_typed : (v : ValueTree) (to : ValueType) (zero : Bool) → IsTyped p f v → HoldsOf (λ (r : ValueTree). is_of (kind_of p f r.tree) to ≡ true) (converted_value v to zero)
   converted_typed v to zero h = by to v.of refl
     where
       unchanged_typed : (to : ValueType) (z : Bool) → same_value v.of to ≡ z → HoldsOf (λ (r : ValueTree). is_of (kind_of p f r.tree) to ≡ true) (if z then Some v else None)
@@ -399,7 +399,7 @@ module _ (p : ProgramTree) (f : TypedFunctionTree) where
       by (Pointer o) (Pointer q) e = unchanged_typed (Pointer o) (same_value v.of (Pointer o)) refl
 
   -- of such a value a constant is one of the type
-  pub converted_constant_is : (v : ValueTree) (to : ValueType) (zero : Bool) → IsTyped p f v → HoldsOf (λ (r : ValueTree). is_constant_of p to r.constant ≡ true) (converted v to zero)
+  pub converted_constant_is : (v : ValueTree) (to : ValueType) (zero : Bool) → IsTyped p f v → HoldsOf (λ (r : ValueTree). is_constant_of p to r.constant ≡ true) (converted_value v to zero)
   converted_constant_is v to zero h = by to v.of refl
     where
       unchanged_is : (to : ValueType) (z : Bool) → same_value v.of to ≡ z → HoldsOf (λ (r : ValueTree). is_constant_of p to r.constant ≡ true) (if z then Some v else None)

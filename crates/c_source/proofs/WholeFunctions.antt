@@ -2,7 +2,7 @@
 use Rattle.std.proofs.Common.{◌≡◌, ◌≤◌, ℕ, zero, suc, ◌+◌, List, [], ◌∷◌, ◌++◌, length, slice_get, nat_le, Bool, true, false, ◌&&◌, Option, Some, None, refl, sym, ap, ◌∙◌, subst, arith}
 use Rattle.std.proofs.lemmas.List.Sums.{sum_by-cons}
 use Rattle.c_tree.specs.Declarations.{ParameterTree}
-use Rattle.c_tree.specs.Statements.{BlockTree, chain}
+use Rattle.c_tree.specs.Statements.{BlockTree, chain_of_statements}
 use Rattle.c_tree.specs.Trees.{FunctionTree, ItemTree, Include, Declares, Defines}
 use Rattle.c_tree.specs.TypedStatements.{TypedStatementTrees}
 use Rattle.c_tree.specs.Programs.{TypedFunctionTree, ProgramTree}
@@ -52,12 +52,12 @@ parameters_weigh (d ∷ ds) =
     let e : parameters_weight (d ∷ ds) ≡ parameter_weight d + parameters_weight ds = sum_by-cons parameter_weight d ds in
     omega (arith, h, e)
 
-made_heavy : (f : FunctionTree) (g : SignatureTree) (b : BlockTree) (start : ℕ) (m : Met TypedStatementTrees) → Ensures (AtMost weighed_statements (statements_weight (chain b.statements))) m → Ensures HaveHeavy (next_met m (function_made f g b start))
+made_heavy : (f : FunctionTree) (g : SignatureTree) (b : BlockTree) (start : ℕ) (m : Met TypedStatementTrees) → Ensures (AtMost weighed_statements (statements_weight (chain_of_statements b.statements))) m → Ensures HaveHeavy (next_met m (function_made f g b start))
 unfolding next_met
 made_heavy f g b start (means ts t) h = ((definition_weight f.parameters b, refl, (let p = parameters_weigh f.parameters in omega (arith, h, p))), tt)
 
 rest_heavy : (f : FunctionTree) (g : SignatureTree) (b : Option BlockTree) (q : ProgressTree) → Ensures HaveHeavy (rest_met f g b q)
-rest_heavy f g (Some b) q = made_heavy f g b (length q.automatics) _ (all_few (setting_of g) (chain b.statements) (parameters_met f.parameters (opened q)))
+rest_heavy f g (Some b) q = made_heavy f g b (length q.automatics) _ (all_few (setting_of g) (chain_of_statements b.statements) (parameters_met f.parameters (opened q)))
 rest_heavy f g None q = tt
 
 item_heavy : (names : List (List ℕ)) (k : ℕ) (i : ItemTree) (q : ProgressTree) → Ensures HaveHeavy (item_met names k i q)

@@ -13,10 +13,10 @@ use Rattle.c_tree.specs.declared.typed_expression.Given.{Given}
 use Rattle.c_tree.specs.TypedExpressions.{LvalueTree, Step, StepPointer}
 use Rattle.c_tree.specs.Programs.{TypedFunctionTree, ProgramTree}
 use Rattle.c_type_rules.specs.Integers.{common, promoted}
-use Rattle.c_type_rules.specs.Types.{loaded, pointed_to, same_integer, same_value}
+use Rattle.c_type_rules.specs.Types.{loaded_type, pointed_to, same_integer, same_value}
 use Rattle.c_type_values.specs.Values.{ValueTree, MeantTree, IsObject, IsValue, meant_type, to_integer}
 use Rattle.c_type_values.specs.Operations.{is_shift}
-use Rattle.c_type_values.specs.Writing.{is_modifiable, stepped, assigned, is_updatable, update_type, integer_updated, pointer_updated, updated_by, updated}
+use Rattle.c_type_values.specs.Writing.{is_modifiable, stepped, simple_assignment, is_updatable, update_type, integer_updated, pointer_updated, updated_by, compound_assignment}
 use Rattle.c_type_rules.specs.ValueTypes.{object_type}
 use Rattle.c_type_laws.specs.Kinds.{is_promoted, is_of, is_counted, is_operand, holds_scalar, holds_integer, holds_pointer}
 use Rattle.c_type_laws.specs.Expressions.{kind_of, is_place}
@@ -50,7 +50,7 @@ module _ (p : ProgramTree) (f : TypedFunctionTree) where
   pub stepped_typed : (d : Direction) (g : Given) (m : MeantTree) → is_modifiable m ≡ true → Means p f m → IsTyped p f (stepped d g m)
   stepped_typed d g (IsValue v) fine h = cc
   stepped_typed d g (IsObject (object.Array e n) l k) fine h = cc
-  stepped_typed d g (IsObject (object.Scalar s) l k) fine h = record { is = by (s.stars == 0) refl; elements = loaded_elements s; constant = varies_is p f (loaded s) }
+  stepped_typed d g (IsObject (object.Scalar s) l k) fine h = record { is = by (s.stars == 0) refl; elements = loaded_elements s; constant = varies_is p f (loaded_type s) }
     where
       by : (b : Bool) → (s.stars == 0) ≡ b → is_of (kind_of p f (if b then Step d g s.base (promoted s.base) l else StepPointer d g (object.Scalar (pointed_to s)) l)) (if b then Integer s.base else Pointer (object.Scalar (pointed_to s))) ≡ true
       by true z =
@@ -61,15 +61,15 @@ module _ (p : ProgramTree) (f : TypedFunctionTree) where
           (both (holds_pointer (object_type l) (object.Scalar (pointed_to s))) (is_place p f l) (own_pointer (object_type l) s h.0.is z) h.0.place)
 
   -- `a=b`
-  pub assigned_typed : (m : MeantTree) (v : ValueTree) → is_modifiable m ≡ true → Means p f m → is_of (kind_of p f v.tree) (meant_type m) ≡ true → IsTyped p f (assigned m (Some v))
+  pub assigned_typed : (m : MeantTree) (v : ValueTree) → is_modifiable m ≡ true → Means p f m → is_of (kind_of p f v.tree) (meant_type m) ≡ true → IsTyped p f (simple_assignment m (Some v))
   assigned_typed (IsValue w) v fine h g = cc
   assigned_typed (IsObject (object.Array e n) l k) v fine h g = cc
   assigned_typed (IsObject (object.Scalar s) l k) v fine h g =
       record {
-        is = given_kind (holds_scalar (object_type l) s && is_place p f l && is_of (kind_of p f v.tree) (loaded s)) (loaded s)
-            (all_three (holds_scalar (object_type l) s) (is_place p f l) (is_of (kind_of p f v.tree) (loaded s)) (rw h.0.is (scalar_itself s)) h.0.place g);
+        is = given_kind (holds_scalar (object_type l) s && is_place p f l && is_of (kind_of p f v.tree) (loaded_type s)) (loaded_type s)
+            (all_three (holds_scalar (object_type l) s) (is_place p f l) (is_of (kind_of p f v.tree) (loaded_type s)) (rw h.0.is (scalar_itself s)) h.0.place g);
         elements = loaded_elements s;
-        constant = varies_is p f (loaded s);
+        constant = varies_is p f (loaded_type s);
       }
 
   -- the type that an operator that assigns calculates in
@@ -97,7 +97,7 @@ module _ (p : ProgramTree) (f : TypedFunctionTree) where
       (all_three (holds_pointer (object_type l) (object.Scalar (pointed_to s))) (is_place p f l) (is_counted k) (own_pointer (object_type l) s h.is z) h.place (counted_typed p f u v g e))
 
   -- `a+=b`
-  pub updated_typed : (o : Arithmetic) (m : MeantTree) (v : ValueTree) → is_modifiable m ≡ true → is_updatable o (meant_type m) v.of ≡ true → Means p f m → IsTyped p f v → IsTyped p f (updated o m v)
+  pub updated_typed : (o : Arithmetic) (m : MeantTree) (v : ValueTree) → is_modifiable m ≡ true → is_updatable o (meant_type m) v.of ≡ true → Means p f m → IsTyped p f v → IsTyped p f (compound_assignment o m v)
   updated_typed o (IsValue w) v fine fit h g = cc
   updated_typed o (IsObject (object.Array e n) l k) v fine fit h g = cc
   updated_typed o (IsObject (object.Scalar s) l k) v fine fit h g = by v.of refl
@@ -108,6 +108,6 @@ module _ (p : ProgramTree) (f : TypedFunctionTree) where
       of_scalar u e false z = pointer_updated_typed o s u l v h.0 z g e
 
       by : (t : ValueType) → v.of ≡ t → IsTyped p f (updated_by o (IsObject (object.Scalar s) l k) t v)
-      by (Integer u) e = record { is = of_scalar u e (s.stars == 0) refl; elements = loaded_elements s; constant = varies_is p f (loaded s) }
-      by Void e = let no : is_updatable o (loaded s) Void ≡ true = subst (λ q. is_updatable o (loaded s) q ≡ true) e fit in let other = void_right o (loaded s) in cc
-      by (Pointer r) e = let no : is_updatable o (loaded s) (Pointer r) ≡ true = subst (λ q. is_updatable o (loaded s) q ≡ true) e fit in let other = pointer_right o (loaded s) r in cc
+      by (Integer u) e = record { is = of_scalar u e (s.stars == 0) refl; elements = loaded_elements s; constant = varies_is p f (loaded_type s) }
+      by Void e = let no : is_updatable o (loaded_type s) Void ≡ true = subst (λ q. is_updatable o (loaded_type s) q ≡ true) e fit in let other = void_right o (loaded_type s) in cc
+      by (Pointer r) e = let no : is_updatable o (loaded_type s) (Pointer r) ≡ true = subst (λ q. is_updatable o (loaded_type s) q ≡ true) e fit in let other = pointer_right o (loaded_type s) r in cc

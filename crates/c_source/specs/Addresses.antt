@@ -1,4 +1,5 @@
--- What the constants in an accepted source are: numbers, null pointers, and addresses of objects of static storage with their types (ISO/IEC 9899:2011, 6.6).
+-- What the constants in an accepted source are: numbers, null pointers, and addresses of objects of static storage with
+-- their types (ISO/IEC 9899:2011, 6.6).
 use Rattle.std.specs.Prelude.{ℕ, zero, suc, ◌%◌, ◌==◌, ◌&&◌, nat_le, ℤ, pos, negsuc, Bool, true, false, Option, Some, None, is_some, slice_get}
 use Rattle.c_tree.specs.declared.types.IntegerType.TheVariants.{Char}
 use Rattle.c_tree.specs.declared.object_type.Scalar.{Scalar}
@@ -16,7 +17,8 @@ use Rattle.c_type_laws.specs.Objects.{element_of}
 
 -- an offset in an object of a type that has such elements: that of an element, or directly behind the last one
 abbrev pub is_offset : Scalar → ℕ → ObjectType → Bool
-is_offset element offset of = same_scalar (element_of of) element && nat_le offset (object_size of) && offset % scalar_size (element_of of) == 0
+is_offset element offset of =
+    same_scalar (element_of of) element && nat_le offset (object_size of) && offset % scalar_size (element_of of) == 0
 
 -- the same in an object that has to be there
 abbrev pub is_offset_if : Scalar → ℕ → Option StaticTree → Bool
@@ -26,7 +28,8 @@ is_offset_if element offset (Some v) = is_offset element offset v.of
 -- an address in an object of static storage with such elements, or of the beginning of a literal
 abbrev pub is_address_of : ProgramTree → Scalar → designator.Object → ℕ → Bool
 is_address_of p element (object.Static n) offset = is_offset_if element offset (slice_get p.statics n)
-is_address_of p element (object.Literal n) offset = is_some (slice_get p.literals n) && offset == 0 && same_scalar element (record { base = Char; stars = 0 })
+is_address_of p element (object.Literal n) offset =
+    is_some (slice_get p.literals n) && offset == 0 && same_scalar element (record { base = Char; stars = 0 })
 is_address_of p element (object.Automatic x) offset = false
 
 -- the number zero

@@ -1,4 +1,5 @@
--- Trees whose constant tokens are numbers of their types and whose literals are of bytes, as those of parsed texts are (ISO/IEC 9899:2011, 6.4.4.1 and 6.4.5).
+-- Trees whose constant tokens are numbers of their types and whose literals are of bytes, as those of parsed texts are
+-- (ISO/IEC 9899:2011, 6.4.4.1 and 6.4.5).
 use Rattle.std.specs.Prelude.{◌≡◌, pos, true}
 use Rattle.c_tree.specs.Expressions.{ExpressionTree, ExpressionTrees, Name, Constant, Literal, Parenthesized, Index, Call, PostIncrement, PostDecrement, Prefix, Cast, SizeofExpression, SizeofType, SizeofArray, Binary, Conditional, Assignment, Comma, none, first}
 use Rattle.c_type_rules.specs.Integers.{fits}

@@ -3,7 +3,7 @@ use Rattle.std.specs.Prelude.{◌≡◌, ◌&&◌, ℕ, List, [], ◌∷◌, len
 use Rattle.c_tree.specs.declared.typed_expression.Callee.{Callee}
 use Rattle.c_tree.specs.Expressions.{NameTree}
 use Rattle.c_tree.specs.Declarations.{ParameterTree}
-use Rattle.c_tree.specs.Statements.{BlockTree, chain}
+use Rattle.c_tree.specs.Statements.{BlockTree, chain_of_statements}
 use Rattle.c_tree.specs.Trees.{ItemTree, Include, Declares, Defines}
 use Rattle.c_tree.specs.Programs.{TypedFunctionTree, ProgramTree}
 use Rattle.c_type_expressions.specs.Names.{SignatureTree}
@@ -45,7 +45,7 @@ AreNamesFormed (d ∷ more) = IsNameFormed d.name × AreNamesFormed more
 -- a function's parameters by their names, and its block, if it has one
 abbrev pub IsBodyFormed : List ParameterTree → Option BlockTree → Type 0
 IsBodyFormed ps None = AreNamesFormed ps
-IsBodyFormed ps (Some b) = HaveNames ps × AreFormed (chain b.statements) × AreNamesFormed ps
+IsBodyFormed ps (Some b) = HaveNames ps × AreFormed (chain_of_statements b.statements) × AreNamesFormed ps
 
 -- what stands at file scope
 abbrev pub IsItemFormed : ItemTree → Type 0
@@ -73,13 +73,15 @@ pub record Reaches (p : ProgramTree) (t : ProgressTree) : Type 0 where
   pub automatics : StandAmong t.automatics p.automatics
   pub array_literals : Begins t.array_literals p.array_literals
   pub statics : Begins t.statics p.statics
-  pub functions : (k : ℕ) (g : SignatureTree) (c : Callee) → slice_get t.names.signatures k ≡ Some g → g.callee ≡ Some c → IsCalled p g c
+  pub functions : (k : ℕ) (g : SignatureTree) (c : Callee) → slice_get t.names.signatures k ≡ Some g → g.callee ≡ Some c
+      → IsCalled p g c
 
 -- at file scope each variable that a name means is known, whichever function is looked at
 abbrev pub IsFileKnown : ProgramTree → ProgressTree → Type 0
 IsFileKnown p q = (f : TypedFunctionTree) → AreScopesKnown p f q.names.scopes
 
--- A check comes from one point of a source to another, at file scope, and declares no automatic variable. In an accepted program what it stores keeps the laws of static storage.
+-- A check comes from one point of a source to another, at file scope, and declares no automatic variable. In an
+-- accepted program what it stores keeps the laws of static storage.
 pub record Passes (p : ProgramTree) (q t : ProgressTree) : Type 0 where
   pub extends : Extends q t
   pub known : IsFileKnown p q → Begins t.statics p.statics → IsFileKnown p t
@@ -91,8 +93,10 @@ abbrev pub are_typed : ProgramTree → List TypedFunctionTree → Bool
 are_typed p [] = true
 are_typed p (f ∷ more) = (are_statements p f false false None f.body && declares_its_own f) && are_typed p more
 
--- An item defines functions, of which each has the variables that come next, and which are well typed in an accepted program; static storage keeps its laws.
-pub record Defined (p : ProgramTree) (q : ProgressTree) (more : List TypedFunctionTree) (t : ProgressTree) : Type 0 where
+-- An item defines functions, of which each has the variables that come next, and which are well typed in an accepted
+-- program; static storage keeps its laws.
+pub record Defined (p : ProgramTree) (q : ProgressTree) (more : List TypedFunctionTree) (t : ProgressTree)
+    : Type 0 where
   pub extends : Extends q t
   pub known : IsFileKnown p q → Begins t.statics p.statics → IsFileKnown p t
   pub follows : follow (length q.automatics) (length t.automatics) more ≡ true

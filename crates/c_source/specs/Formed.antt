@@ -1,4 +1,5 @@
--- Trees as the grammar forms them: constant tokens are numbers of their types, and no declaration stands where a statement has to (ISO/IEC 9899:2011, 6.4.4.1 and 6.8).
+-- Trees as the grammar forms them: constant tokens are numbers of their types, and no declaration stands where a
+-- statement has to (ISO/IEC 9899:2011, 6.4.4.1 and 6.8).
 use Rattle.std.specs.Prelude.{◌≡◌, List, [], ◌∷◌, Bool, true, false, Option, Some, None}
 use Rattle.c_tree.specs.Expressions.{ExpressionTree}
 use Rattle.c_tree.specs.Declarations.{BracketsTree, Absent, Empty, Sized, InitializerTree, InitializerTrees, Braces, DeclaratorTree}
@@ -68,10 +69,12 @@ abbrev mutual
   IsFormed (statement.Empty spot) = Unit {0}
   IsFormed (Run e last) = HasNumbers e
   IsFormed (If spot e s) = HasNumbers e × IsFormed s × (is_no_declaration s ≡ true)
-  IsFormed (IfElse spot e s t) = HasNumbers e × IsFormed s × IsFormed t × (is_no_declaration s ≡ true) × (is_no_declaration t ≡ true)
+  IsFormed (IfElse spot e s t) =
+      HasNumbers e × IsFormed s × IsFormed t × (is_no_declaration s ≡ true) × (is_no_declaration t ≡ true)
   IsFormed (While spot e s) = HasNumbers e × IsFormed s × (is_no_declaration s ≡ true)
   IsFormed (DoWhile extent s e) = IsFormed s × HasNumbers e × (is_no_declaration s ≡ true)
-  IsFormed (For spot start e step s) = IsStartFormed start × HasNumbersIfAny e × HasNumbersIfAny step × IsFormed s × (is_no_declaration s ≡ true)
+  IsFormed (For spot start e step s) =
+      IsStartFormed start × HasNumbersIfAny e × HasNumbersIfAny step × IsFormed s × (is_no_declaration s ≡ true)
   IsFormed (Switch spot e opening all closing) = HasNumbers e × AreFormed all × declare_nothing all
   IsFormed (Case extent e s) = HasNumbers e × IsFormed s × (is_no_declaration s ≡ true)
   IsFormed (Default extent s) = IsFormed s × (is_no_declaration s ≡ true)

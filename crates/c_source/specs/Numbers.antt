@@ -3,7 +3,8 @@ use Rattle.std.specs.Prelude.{◌≡◌, ℕ, ◌+◌, List, ◌++◌, length, t
 use Rattle.c_type_declarations.specs.Progress.{ProgressTree}
 use Rattle.c_type_laws.specs.Orders.{is_numbered}
 
--- What a part declares stands behind what is declared before, and has the numbers of the variables that come to those of before.
+-- What a part declares stands behind what is declared before, and has the numbers of the variables that come to those
+-- of before.
 pub record Numbers (q t : ProgressTree) (declared : List ℕ → List ℕ) : Type 0 where
   pub more : List ℕ
   pub adds : (vs : List ℕ) → declared vs ≡ vs ++ more

@@ -7,7 +7,8 @@ use Rattle.c_tree.specs.Programs.{ProgramTree}
 use Rattle.c_parse.specs.Reading.{tree_of}
 use Rattle.c_type.specs.Programs.{checked}
 
--- the program of a source, by its tokens, the grammar and the rules of names and types; or the code and the line of its first fault
+-- the program of a source, by its tokens, the grammar and the rules of names and types; or the code and the line of its
+-- first fault
 unfoldable pub program_of_source : List ℕ → Result ProgramTree (Code × ℕ)
 program_of_source text = tokens_of text >>= tree_of >>= checked
 

@@ -9,7 +9,8 @@ use Rattle.c_source.specs.Tokens.{AreSound}
 pub data Stand : List Spot → List Lexeme → List Lexeme → Type 0 where
   none : {rest : List Lexeme} → Stand [] rest rest
   passed : {spots : List Spot} {ts rest : List Lexeme} (t : Lexeme) → Stand spots ts rest → Stand spots (t ∷ ts) rest
-  told : {spots : List Spot} {ts rest : List Lexeme} (t : Lexeme) → Stand spots ts rest → Stand (t.spot ∷ spots) (t ∷ ts) rest
+  told : {spots : List Spot} {ts rest : List Lexeme} (t : Lexeme) → Stand spots ts rest
+      → Stand (t.spot ∷ spots) (t ∷ ts) rest
 
 -- What is asked of the trees of one sort: the spots that they tell, and their form.
 pub record Shape (A : Type 0) : Type 1 where

@@ -1,4 +1,5 @@
--- What initializers put into objects of static storage in an accepted source: bytes and addresses that the objects hold.
+-- What initializers put into objects of static storage in an accepted source: bytes and addresses that the objects
+-- hold.
 use Rattle.std.specs.Prelude.{◌≡◌, ℕ, ◌*◌, ◌==◌, ◌&&◌, ◌||◌, nat_le, nat_lt, Bool, true, List, [], ◌∷◌, length}
 use Rattle.c_tree.specs.declared.object_type.Scalar.{Scalar}
 use Rattle.c_tree.specs.declared.object_type.ObjectType.{ObjectType}
@@ -37,4 +38,6 @@ pub record Fits (p : ProgramTree) (of : ObjectType) (c : Contents) : Type 0 wher
 
 -- static objects keep the laws of static storage, and have names and elements
 abbrev pub AreStored : ProgramTree → List StaticTree → Type 0
-AreStored p all = (are_static p all ≡ true) × (statics_sound all ≡ true) × (statics_named all ≡ true) × (statics_have_elements all ≡ true)
+AreStored p all =
+    (are_static p all ≡ true) × (statics_sound all ≡ true) × (statics_named all ≡ true)
+    × (statics_have_elements all ≡ true)

@@ -11,7 +11,8 @@ use Rattle.c_type_laws.specs.Orders.{ascends, never_falls}
 use Rattle.c_type_laws.specs.Spots.{are_below}
 
 abbrev mutual
-  -- where the tokens of an expression stand that its tree tells, in the order of the text: its names, constants and literals, and what begins its parts
+  -- where the tokens of an expression stand that its tree tells, in the order of the text: its names, constants and
+  -- literals, and what begins its parts
   pub spots_of : ExpressionTree → List Spot
   spots_of (Name n) = n.spot ∷ []
   spots_of (Constant spot value type) = spot ∷ []
@@ -89,8 +90,10 @@ abbrev mutual
   spots_of_statement (IfElse spot e s t) = spot ∷ spots_of e ++ spots_of_statement s ++ spots_of_statement t
   spots_of_statement (While spot e s) = spot ∷ spots_of e ++ spots_of_statement s
   spots_of_statement (DoWhile extent s e) = extent.first ∷ spots_of_statement s ++ spots_of e
-  spots_of_statement (For spot start e step s) = spot ∷ spots_of_start start ++ spots_if_any e ++ spots_if_any step ++ spots_of_statement s
-  spots_of_statement (Switch spot e opening all closing) = spot ∷ spots_of e ++ opening ∷ spots_of_statements all ++ closing ∷ []
+  spots_of_statement (For spot start e step s) =
+      spot ∷ spots_of_start start ++ spots_if_any e ++ spots_if_any step ++ spots_of_statement s
+  spots_of_statement (Switch spot e opening all closing) =
+      spot ∷ spots_of e ++ opening ∷ spots_of_statements all ++ closing ∷ []
   spots_of_statement (Case extent e s) = extent.first ∷ spots_of e ++ spots_of_statement s
   spots_of_statement (Default extent s) = extent.first ∷ spots_of_statement s
   spots_of_statement (Break extent) = extent.first ∷ []
@@ -115,7 +118,7 @@ spots_of_parameters (d ∷ more) = spots_of_name d.name ++ spots_of_brackets d.b
 -- those of a function's block, if it has one
 abbrev pub spots_of_body : Option BlockTree → List Spot
 spots_of_body None = []
-spots_of_body (Some b) = b.opening ∷ spots_of_statements (statement.chain b.statements) ++ b.closing ∷ []
+spots_of_body (Some b) = b.opening ∷ spots_of_statements (statement.chain_of_statements b.statements) ++ b.closing ∷ []
 
 -- those of what stands at file scope
 abbrev pub spots_of_item : ItemTree → List Spot

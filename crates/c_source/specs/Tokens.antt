@@ -1,4 +1,5 @@
--- What is so of the tokens of each text: their names are identifiers, their constants are numbers of their types, their literals are of bytes (ISO/IEC 9899:2011, 6.4.2.1, 6.4.4.1 and 6.4.5).
+-- What is so of the tokens of each text: their names are identifiers, their constants are numbers of their types, their
+-- literals are of bytes (ISO/IEC 9899:2011, 6.4.2.1, 6.4.4.1 and 6.4.5).
 use Rattle.std.specs.Prelude.{◌≡◌, pos, true, List, [], ◌∷◌, map}
 use Rattle.debug_records.specs.declared.source.Spot.{Spot}
 use Rattle.c_token.specs.Lexemes.{Word, Lexeme, Name, Keyword, Constant, Literal, Punctuator, Include}

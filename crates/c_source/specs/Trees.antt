@@ -1,7 +1,7 @@
 -- What is asked of the parts of a source's tree: the spots that they tell, and their form.
 use Rattle.std.specs.Prelude.{◌≡◌, Bool, true, false, List, [], ◌∷◌, ◌++◌, Option}
 use Rattle.debug_records.specs.declared.source.Spot.{Spot}
-use Rattle.c_tree.specs.Expressions.{NameTree, ExpressionTree, SuffixTree, Indexes, Calls, Increments, Decrements, chain}
+use Rattle.c_tree.specs.Expressions.{NameTree, ExpressionTree, SuffixTree, Indexes, Calls, Increments, Decrements, chain_of_arguments}
 use Rattle.c_tree.specs.Declarations.{BracketsTree, InitializerTree, DeclaratorTree, DeclarationTree, ParameterTree}
 use Rattle.c_tree.specs.Declarations as declaration
 use Rattle.c_tree.specs.Statements.{StartTree, StatementTree, BlockTree, BranchTree, LabelTree, CaseLabel, DefaultLabel}
@@ -19,7 +19,8 @@ abbrev pub expressions : Shape ExpressionTree
 expressions = record { spots = spots_of; formed = HasNumbers }
 
 abbrev pub argument_lists : Shape (List ExpressionTree)
-argument_lists = record { spots = λ es. spots_of_all (chain es); formed = λ es. HaveNumbers (chain es) }
+argument_lists =
+    record { spots = λ es. spots_of_all (chain_of_arguments es); formed = λ es. HaveNumbers (chain_of_arguments es) }
 
 abbrev pub optional_expressions : Shape (Option ExpressionTree)
 optional_expressions = record { spots = spots_if_any; formed = HasNumbersIfAny }
@@ -27,14 +28,14 @@ optional_expressions = record { spots = spots_if_any; formed = HasNumbersIfAny }
 -- the spots that a suffix tells
 abbrev pub spots_of_suffix : SuffixTree → List Spot
 spots_of_suffix (Indexes e last) = spots_of e
-spots_of_suffix (Calls all last) = spots_of_all (chain all)
+spots_of_suffix (Calls all last) = spots_of_all (chain_of_arguments all)
 spots_of_suffix (Increments last) = []
 spots_of_suffix (Decrements last) = []
 
 -- the constants within a suffix are numbers of their types
 abbrev pub IsSuffixFormed : SuffixTree → Type 0
 IsSuffixFormed (Indexes e last) = HasNumbers e
-IsSuffixFormed (Calls all last) = HaveNumbers (chain all)
+IsSuffixFormed (Calls all last) = HaveNumbers (chain_of_arguments all)
 IsSuffixFormed (Increments last) = Unit {0}
 IsSuffixFormed (Decrements last) = Unit {0}
 
@@ -51,7 +52,11 @@ abbrev pub initializers : Shape InitializerTree
 initializers = record { spots = spots_of_initializer; formed = IsInitializerFormed }
 
 abbrev pub initializer_lists : Shape (List InitializerTree)
-initializer_lists = record { spots = λ all. spots_of_initializers (declaration.chain all); formed = λ all. AreInitializersFormed (declaration.chain all) }
+initializer_lists =
+    record {
+      spots = λ all. spots_of_initializers (declaration.chain_of_initializers all);
+      formed = λ all. AreInitializersFormed (declaration.chain_of_initializers all);
+    }
 
 abbrev pub optional_initializers : Shape (Option InitializerTree)
 optional_initializers = record { spots = spots_of_initial; formed = IsInitialFormed }
@@ -60,13 +65,18 @@ abbrev pub declarators : Shape DeclaratorTree
 declarators = record { spots = spots_of_declarator; formed = IsDeclaratorFormed }
 
 abbrev pub declarations : Shape DeclarationTree
-declarations = record { spots = λ d. spots_of_declarators d.declarators; formed = λ d. AreDeclaratorsFormed d.declarators }
+declarations =
+    record { spots = λ d. spots_of_declarators d.declarators; formed = λ d. AreDeclaratorsFormed d.declarators }
 
 abbrev pub starts : Shape StartTree
 starts = record { spots = spots_of_start; formed = IsStartFormed }
 
 abbrev pub headers : Shape HeaderTree
-headers = record { spots = λ h. spots_of_start h.start ++ spots_if_any h.condition ++ spots_if_any h.step; formed = λ h. IsStartFormed h.start × HasNumbersIfAny h.condition × HasNumbersIfAny h.step }
+headers =
+    record {
+      spots = λ h. spots_of_start h.start ++ spots_if_any h.condition ++ spots_if_any h.step;
+      formed = λ h. IsStartFormed h.start × HasNumbersIfAny h.condition × HasNumbersIfAny h.step;
+    }
 
 -- the spots that a label tells
 abbrev pub spots_of_label : LabelTree → List Spot
@@ -90,23 +100,33 @@ statements may_declare = record { spots = spots_of_statement; formed = IsStateme
 
 -- the spots that a block tells
 abbrev pub spots_of_block : BlockTree → List Spot
-spots_of_block b = b.opening ∷ spots_of_statements (statement.chain b.statements) ++ b.closing ∷ []
+spots_of_block b = b.opening ∷ spots_of_statements (statement.chain_of_statements b.statements) ++ b.closing ∷ []
 
 -- statements in braces, among which declarations may stand or not
 abbrev pub IsBlockFormed : (may_declare : Bool) → BlockTree → Type 0
-IsBlockFormed may_declare b = AreFormed (statement.chain b.statements) × (may_declare ≡ false → declare_nothing (statement.chain b.statements))
+IsBlockFormed may_declare b =
+    AreFormed (statement.chain_of_statements b.statements)
+    × (may_declare ≡ false → declare_nothing (statement.chain_of_statements b.statements))
 
 abbrev pub blocks : (may_declare : Bool) → Shape BlockTree
 blocks may_declare = record { spots = spots_of_block; formed = IsBlockFormed may_declare }
 
 abbrev pub branches : Shape BranchTree
-branches = record { spots = λ b. b.spot ∷ spots_of b.condition ++ spots_of_statement b.then; formed = λ b. HasNumbers b.condition × IsFormed b.then × (is_no_declaration b.then ≡ true) }
+branches =
+    record {
+      spots = λ b. b.spot ∷ spots_of b.condition ++ spots_of_statement b.then;
+      formed = λ b. HasNumbers b.condition × IsFormed b.then × (is_no_declaration b.then ≡ true);
+    }
 
 abbrev pub optional_names : Shape (Option NameTree)
 optional_names = record { spots = spots_of_name; formed = IsNameFormed }
 
 abbrev pub parameters : Shape ParameterTree
-parameters = record { spots = λ d. spots_of_name d.name ++ spots_of_brackets d.brackets; formed = λ d. IsSizeFormed d.brackets × IsNameFormed d.name }
+parameters =
+    record {
+      spots = λ d. spots_of_name d.name ++ spots_of_brackets d.brackets;
+      formed = λ d. IsSizeFormed d.brackets × IsNameFormed d.name;
+    }
 
 abbrev pub parameter_lists : Shape (List ParameterTree)
 parameter_lists = record { spots = spots_of_parameters; formed = λ all. AreSizesFormed all × AreNamesFormed all }

@@ -24,7 +24,8 @@ leads_to_elements Void = true
 leads_to_elements (Integer t) = true
 leads_to_elements (Pointer of) = has_elements of
 
--- A value is well typed: its tree is of its type, which leads to no array without elements, and a constant is one of its type.
+-- A value is well typed: its tree is of its type, which leads to no array without elements, and a constant is one of
+-- its type.
 pub record IsTyped (p : ProgramTree) (f : TypedFunctionTree) (v : ValueTree) : Type 0 where
   pub is : is_of (kind_of p f v.tree) v.of ≡ true
   pub elements : leads_to_elements v.of ≡ true

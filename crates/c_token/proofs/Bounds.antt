@@ -13,7 +13,7 @@ use Rattle.c_token.specs.declared.fault.Fault.{Fault}
 use Rattle.c_token.specs.declared.token.Constant as constant
 use Rattle.c_token.specs.declared.token.Header.{Header}
 use Rattle.c_token.specs.declared.token.Punctuator.{Punctuator}
-use Rattle.c_token.specs.Bytes.{is_blank, is_letter, is_word_byte, stands, is_replaced}
+use Rattle.c_token.specs.Bytes.{is_blank, is_letter, is_word_byte, text_has, is_replaced}
 use Rattle.c_token.specs.Blanks.{line_comment, block_comment, blank_at, blanks_from, blanks_end}
 use Rattle.c_token.specs.Constants.{is_number_byte, constant_of, constant_at}
 use Rattle.c_token.specs.Includes.{header_at, is_include_at, is_line_end, is_inside, include_at}
@@ -22,7 +22,7 @@ use Rattle.c_token.specs.Lexemes.{Word}
 use Rattle.c_token.specs.Literals.{unit_at, literal_from, literal_at, character_at, only_byte}
 use Rattle.c_token.specs.Punctuators.{punctuators, is_digraph_at, find_punctuator, longest_punctuator, punctuator_at}
 use Rattle.c_token.specs.Reading.{◌>>=◌, fault}
-use Rattle.c_token.specs.Words.{word_in, word_at}
+use Rattle.c_token.specs.Words.{keyword_or_name, word_at}
 use Rattle.c_token.proofs.Firsts.{letter_begins, number_begins}
 use Rattle.c_token.proofs.Runs.{some_front, and_left, and_right}
 use Rattle.base_laws.proofs.Booleans.{by_test, not_false}
@@ -76,8 +76,8 @@ lower_pair low least high (Err f) le e = tt
 same_length : (word front : List ℕ) → bytes_eq word front ≡ true → length word ≡ length front
 same_length word front h = ap length ((bytes_eq-Decides word front).0 h)
 
-pub stands_within : (text : List ℕ) (at : ℕ) (word : List ℕ) → at ≤ length text → stands text at word ≡ true → at + length word ≤ length text
-unfolding stands
+pub stands_within : (text : List ℕ) (at : ℕ) (word : List ℕ) → at ≤ length text → text_has text at word ≡ true → at + length word ≤ length text
+unfolding text_has
 stands_within text at word le h =
     omega (arith, same_length word (take (length word) (drop at text)) h, length-take (length word) (drop at text), length-drop at text)
 
@@ -92,7 +92,7 @@ line_comment_ends text at high (b ∷ rest) le =
 block_comment_ends : (text : List ℕ) (begin at : ℕ) (rest : List ℕ) → at + length rest ≤ length text → EndsIn at (length text) (block_comment text begin at rest)
 block_comment_ends text begin at [] le = tt
 block_comment_ends text begin at (b ∷ rest) le =
-    by_test (EndsIn at (length text)) (stands text at (codes "*/")) _ _ (λ h. let there : at + 2 ≤ length text = stands_within text at (codes "*/") (omega arith) h in (omega arith, there))
+    by_test (EndsIn at (length text)) (text_has text at (codes "*/")) _ _ (λ h. let there : at + 2 ≤ length text = stands_within text at (codes "*/") (omega arith) h in (omega arith, there))
     (λ _. by_test (EndsIn at (length text)) (is_replaced text at) _ _ (λ _. tt) (λ _. lower (at + 1) at (length text) _ (omega arith) (block_comment_ends text begin (at + 1) rest (omega arith))))
 
 behind_two : (text : List ℕ) (at : ℕ) → at + 2 ≤ length text → at + 2 + length (drop (at + 2) text) ≤ length text
@@ -102,10 +102,10 @@ pub blank_ends : (text : List ℕ) (at : ℕ) → at < length text → MayEnd (a
 unfolding blank_at
 blank_ends text at lt =
     by_test P (is_blank (get_or text at 0)) _ _ (λ _. (omega arith, omega arith))
-    (λ _. by_test P (stands text at (codes "//")) _ _
+    (λ _. by_test P (text_has text at (codes "//")) _ _
     (λ h. let there : at + 2 ≤ length text = stands_within text at (codes "//") (omega arith) h in
     by_read P _ _ (λ e. tt) (λ end same. comment at end there (end_is _ end (line_comment_ends text (at + 2) (length text) (drop (at + 2) text) (behind_two text at there)) same)))
-    (λ _. by_test P (stands text at (codes "/*")) _ _
+    (λ _. by_test P (text_has text at (codes "/*")) _ _
     (λ h. let there : at + 2 ≤ length text = stands_within text at (codes "/*") (omega arith) h in
     by_read P _ _ (λ e. tt) (λ end same. comment at end there (end_is _ end (block_comment_ends text at (at + 2) (drop (at + 2) text) (behind_two text at there)) same)))
     (λ _. tt)))
@@ -138,7 +138,7 @@ word_ends : (text : List ℕ) (at : ℕ) → at < length text → is_word_byte (
 unfolding word_at
 word_ends text at lt h =
     let size = prefix_len is_word_byte (drop at text) in
-    by_read {A = Word} (Ends {A = Word} (at + 1) (length text)) (word_in at (take size (drop at text))) (λ w. Ok (w, at + size)) (λ e. tt) (λ w _. front_ends is_word_byte text at lt h)
+    by_read {A = Word} (Ends {A = Word} (at + 1) (length text)) (keyword_or_name at (take size (drop at text))) (λ w. Ok (w, at + size)) (λ e. tt) (λ w _. front_ends is_word_byte text at lt h)
 
 constant_ends : (text : List ℕ) (at : ℕ) → at < length text → is_number_byte (get_or text at 0) ≡ true → Ends (at + 1) (length text) (constant_at text at)
 unfolding constant_at
@@ -168,7 +168,7 @@ character_ends text at lt =
 find_ends : (ms : List (List ℕ × Punctuator)) (text : List ℕ) (at : ℕ) → at < length text → OptionEnds (at + 1) (length text) (find_punctuator ms text at)
 find_ends [] text at lt = tt
 find_ends (m ∷ ms) text at lt =
-    by_test (OptionEnds (at + 1) (length text)) (ltb 0 (length m.0) && stands text at m.0) _ _
+    by_test (OptionEnds (at + 1) (length text)) (ltb 0 (length m.0) && text_has text at m.0) _ _
     (λ h. (omega (arith, ltb-true 0 (length m.0) (and_left _ _ h)), stands_within text at m.0 (omega arith) (and_right _ _ h)))
     (λ _. find_ends ms text at lt)
 
@@ -181,8 +181,8 @@ punctuator_ends text at lt =
 header_ends : (text : List ℕ) (at : ℕ) → at ≤ length text → OptionEnds (at + 1) (length text) (header_at text at)
 unfolding header_at
 header_ends text at le =
-    by_test (OptionEnds (at + 1) (length text)) (stands text at (codes "<stdio.h>")) _ _ (λ h. let there : at + 9 ≤ length text = stands_within text at (codes "<stdio.h>") le h in (omega arith, there))
-    (λ _. by_test (OptionEnds (at + 1) (length text)) (stands text at (codes "<stdlib.h>")) _ _ (λ h. let there : at + 10 ≤ length text = stands_within text at (codes "<stdlib.h>") le h in (omega arith, there)) (λ _. tt))
+    by_test (OptionEnds (at + 1) (length text)) (text_has text at (codes "<stdio.h>")) _ _ (λ h. let there : at + 9 ≤ length text = stands_within text at (codes "<stdio.h>") le h in (omega arith, there))
+    (λ _. by_test (OptionEnds (at + 1) (length text)) (text_has text at (codes "<stdlib.h>")) _ _ (λ h. let there : at + 10 ≤ length text = stands_within text at (codes "<stdlib.h>") le h in (omega arith, there)) (λ _. tt))
 
 include_within : (text : List ℕ) (at : ℕ) → at ≤ length text → is_include_at text at ≡ true → at + 7 ≤ length text
 unfolding is_include_at

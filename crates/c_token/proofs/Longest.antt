@@ -6,7 +6,7 @@ use Rattle.std.proofs.lemmas.Bool.{leb-true}
 use Rattle.c_token.specs.declared.fault.Fault.{Fault}
 use Rattle.c_token.specs.declared.token.Constant as constant
 use Rattle.c_token.specs.declared.token.Punctuator.{Punctuator}
-use Rattle.c_token.specs.Bytes.{is_letter, is_digit, is_word_byte, stands}
+use Rattle.c_token.specs.Bytes.{is_letter, is_digit, is_word_byte, text_has}
 use Rattle.c_token.specs.Constants.{is_number_byte, constant_at}
 use Rattle.c_token.specs.Laws.{WordsAreLongest, ConstantsAreLongest, PunctuatorsAreLongest}
 use Rattle.c_token.specs.Lexemes.{Word}
@@ -58,7 +58,7 @@ abbrev longest_first : List (List ℕ × Punctuator) → Bool
 longest_first [] = true
 longest_first (m ∷ ms) = (ltb 0 (length m.0) && list_all (λ k. leb (length k.0) (length m.0)) ms) && longest_first ms
 
-below : (text : List ℕ) (at n : ℕ) (ms : List (List ℕ × Punctuator)) → list_all (λ k. leb (length k.0) n) ms ≡ true → AllByRecursion (λ k. stands text at k.0 ≡ true → at + length k.0 ≤ at + n) ms
+below : (text : List ℕ) (at n : ℕ) (ms : List (List ℕ × Punctuator)) → list_all (λ k. leb (length k.0) n) ms ≡ true → AllByRecursion (λ k. text_has text at k.0 ≡ true → at + length k.0 ≤ at + n) ms
 below text at n [] e = tt
 below text at n (m ∷ ms) e =
     let p = and_parts (leb (length m.0) n) (list_all (λ k. leb (length k.0) n) ms) e in
@@ -72,12 +72,12 @@ not_both : {b : Bool} → b ≡ false → b ≡ true → ⊥
 not_both e f = cc
 
 longest : (ms : List (List ℕ × Punctuator)) (text : List ℕ) (at end : ℕ) (p : Punctuator) → longest_first ms ≡ true → find_punctuator ms text at ≡ Some (p, end)
-    → AllByRecursion (λ k. stands text at k.0 ≡ true → at + length k.0 ≤ end) ms
+    → AllByRecursion (λ k. text_has text at k.0 ≡ true → at + length k.0 ≤ end) ms
 longest [] text at end p sorted e = tt
 longest (m ∷ ms) text at end p sorted e =
     let parts = and_parts (ltb 0 (length m.0) && list_all (λ k. leb (length k.0) (length m.0)) ms) (longest_first ms) sorted in
     let first = and_parts (ltb 0 (length m.0)) (list_all (λ k. leb (length k.0) (length m.0)) ms) parts.0 in
-    elim (chosen (ltb 0 (length m.0) && stands text at m.0) (Some (m.1, at + length m.0)) (find_punctuator ms text at) (Some (p, end)) e) [
+    elim (chosen (ltb 0 (length m.0) && text_has text at m.0) (Some (m.1, at + length m.0)) (find_punctuator ms text at) (Some (p, end)) e) [
       | inl h ↦ let same : at + length m.0 ≡ end = found_end _ _ _ _ h.1 in (λ _. omega (arith, same), rw same at (below text at (length m.0) ms first.1))
       | inr h ↦ (λ b. absurd (not_both h.0 (rw (first.0, b) refl)), longest ms text at end p parts.1 h.1)
     ]

@@ -5,7 +5,7 @@ use Rattle.std.proofs.lemmas.List.{drop-drop}
 use Rattle.std.proofs.lemmas.Bool.{ne_eqb}
 use Rattle.debug_records.specs.declared.code.TheConstants.Code.{UNKNOWN_BYTE}
 use Rattle.c_token.specs.declared.fault.Fault.{Fault}
-use Rattle.c_token.specs.Bytes.{stands, is_replaced}
+use Rattle.c_token.specs.Bytes.{text_has, is_replaced}
 use Rattle.c_token.specs.Blanks.{block_comment, blank_at, blanks_from, blanks_end}
 use Rattle.c_token.specs.Literals.{unit_at, literal_from, with_bytes}
 use Rattle.c_token.specs.Reading.{fault}
@@ -15,13 +15,13 @@ pub cut : (text : List ℕ) (at : ℕ) → at < length text → drop at text ≡
 cut text at lt = let next : at + 1 ≡ suc at = omega arith in rw next (drop-cons text at 0 lt)
 
 -- a comment that ends here, that breaks a rule here, and that goes on
-pub block_ends : (text : List ℕ) (start at : ℕ) (total : Result ℕ Fault) → at < length text → stands text at (codes "*/") ≡ true → block_comment text start at (drop at text) ≡ total → Ok (at + 2) ≡ total
+pub block_ends : (text : List ℕ) (start at : ℕ) (total : Result ℕ Fault) → at < length text → text_has text at (codes "*/") ≡ true → block_comment text start at (drop at text) ≡ total → Ok (at + 2) ≡ total
 block_ends text start at total lt h same = let here = rw (cut text at lt) at same in rw h at here
 
-pub block_breaks : (text : List ℕ) (start at : ℕ) (total : Result ℕ Fault) → at < length text → stands text at (codes "*/") ≡ false → is_replaced text at ≡ true → block_comment text start at (drop at text) ≡ total → Err (fault UNKNOWN_BYTE at) ≡ total
+pub block_breaks : (text : List ℕ) (start at : ℕ) (total : Result ℕ Fault) → at < length text → text_has text at (codes "*/") ≡ false → is_replaced text at ≡ true → block_comment text start at (drop at text) ≡ total → Err (fault UNKNOWN_BYTE at) ≡ total
 block_breaks text start at total lt h r same = let here = rw (cut text at lt) at same in rw (h, r) at here
 
-pub block_on : (text : List ℕ) (start at : ℕ) (total : Result ℕ Fault) → at < length text → stands text at (codes "*/") ≡ false → is_replaced text at ≡ false → block_comment text start at (drop at text) ≡ total → block_comment text start (at + 1) (drop (at + 1) text) ≡ total
+pub block_on : (text : List ℕ) (start at : ℕ) (total : Result ℕ Fault) → at < length text → text_has text at (codes "*/") ≡ false → is_replaced text at ≡ false → block_comment text start at (drop at text) ≡ total → block_comment text start (at + 1) (drop (at + 1) text) ≡ total
 block_on text start at total lt h r same = let here = rw (cut text at lt) at same in rw (h, r) at here
 
 blanks_inside : (text : List ℕ) (k at : ℕ) (rest : List ℕ) → k ≤ length rest → blanks_from text k at rest ≡ blanks_from text 0 (at + k) (drop k rest)

@@ -13,10 +13,10 @@ use Rattle.c_token.specs.declared.token.Kind.{Kind}
 use Rattle.c_token.specs.declared.token.Token.{Token}
 use Rattle.c_token.specs.Items as items
 use Rattle.c_token.specs.declared.context.Context.{Context}
-use Rattle.c_token.specs.Includes.{start}
-use Rattle.c_token.specs.Items.{Piece, LineFeed, Blank, item_view, item_at, behind}
+use Rattle.c_token.specs.Includes.{context_at_start}
+use Rattle.c_token.specs.Items.{Piece, LineFeed, Blank, item_view, item_at, context_behind}
 use Rattle.c_token.specs.Lexemes.{Word, Lexeme, lexeme, lexemes}
-use Rattle.c_token.specs.Texts.{line_of, tokens_at, located, with_tokens, tokens_from, tokens_of}
+use Rattle.c_token.specs.Texts.{line_of, tokens_at, with_line, with_tokens, tokens_from, tokens_of}
 use Rattle.c_token.proofs.Steps.{cut}
 
 tokens_inside : (text : List ℕ) (k at : ℕ) (c : Context) (rest : List ℕ) → k ≤ length rest → tokens_from text k at c rest ≡ tokens_from text 0 (at + k) c (drop k rest)
@@ -27,20 +27,20 @@ tokens_inside text (suc k) at c (b ∷ rest) le =
     tokens_inside text k (at + 1) c rest (omega arith) ∙ ap (λ (x : ℕ). tokens_from text 0 x c (drop k rest)) a
 
 -- what stands at an offset, and what comes behind it
-pub one_piece : (text : List ℕ) (at end : ℕ) (c : Context) (p : Piece) → at < end → end ≤ length text → located text (item_at c text at) ≡ Ok (p, end)
-    → tokens_from text 0 at c (drop at text) ≡ with_tokens (tokens_at text at p) (tokens_from text 0 end (behind c p) (drop end text))
+pub one_piece : (text : List ℕ) (at end : ℕ) (c : Context) (p : Piece) → at < end → end ≤ length text → with_line text (item_at c text at) ≡ Ok (p, end)
+    → tokens_from text 0 at c (drop at text) ≡ with_tokens (tokens_at text at p) (tokens_from text 0 end (context_behind c p) (drop end text))
 one_piece text at end c p lt le item =
     let k = end - (at + 1) in
     let enough : k ≤ length (drop (at + 1) text) = omega (arith, length-drop (at + 1) text) in
     let far : at + 1 + k ≡ end = omega arith in
-    let rest : tokens_from text k (at + 1) (behind c p) (drop (at + 1) text) ≡ tokens_from text 0 end (behind c p) (drop end text) =
-    tokens_inside text k (at + 1) (behind c p) (drop (at + 1) text) enough
-    ∙ ap (tokens_from text 0 (at + 1 + k) (behind c p)) (drop-drop k (at + 1) text)
-    ∙ ap (λ (x : ℕ). tokens_from text 0 x (behind c p) (drop x text)) far in
+    let rest : tokens_from text k (at + 1) (context_behind c p) (drop (at + 1) text) ≡ tokens_from text 0 end (context_behind c p) (drop end text) =
+    tokens_inside text k (at + 1) (context_behind c p) (drop (at + 1) text) enough
+    ∙ ap (tokens_from text 0 (at + 1 + k) (context_behind c p)) (drop-drop k (at + 1) text)
+    ∙ ap (λ (x : ℕ). tokens_from text 0 x (context_behind c p) (drop x text)) far in
     ap (tokens_from text 0 at c) (cut text at (omega arith)) ∙ rw item (ap (with_tokens (tokens_at text at p)) rest)
 
 -- what breaks a rule at an offset
-pub one_fault : (text : List ℕ) (at : ℕ) (c : Context) (f : Code × ℕ) → at < length text → located text (item_at c text at) ≡ Err f → tokens_from text 0 at c (drop at text) ≡ Err f
+pub one_fault : (text : List ℕ) (at : ℕ) (c : Context) (f : Code × ℕ) → at < length text → with_line text (item_at c text at) ≡ Err f → tokens_from text 0 at c (drop at text) ≡ Err f
 one_fault text at c f lt item = ap (tokens_from text 0 at c) (cut text at lt) ∙ rw item refl
 
 regroup : (front more : List Lexeme) (read : Result (List Lexeme) (Code × ℕ)) → with_tokens front (with_tokens more read) ≡ with_tokens (front ++ more) read
@@ -49,22 +49,22 @@ regroup front more (Err e) = refl
 
 -- an iteration of the loop
 pub goes_on : (text : List ℕ) (at end : ℕ) (c : Context) (p : Piece) (front : List Lexeme) (total : Result (List Lexeme) (Code × ℕ)) → at < end → end ≤ length text
-    → located text (item_at c text at) ≡ Ok (p, end)
+    → with_line text (item_at c text at) ≡ Ok (p, end)
     → with_tokens front (tokens_from text 0 at c (drop at text)) ≡ total
-    → with_tokens (front ++ tokens_at text at p) (tokens_from text 0 end (behind c p) (drop end text)) ≡ total
+    → with_tokens (front ++ tokens_at text at p) (tokens_from text 0 end (context_behind c p) (drop end text)) ≡ total
 goes_on text at end c p front total lt le item same =
     sym (regroup front (tokens_at text at p) _) ∙ ap (with_tokens front) (sym (one_piece text at end c p lt le item)) ∙ same
 
 pub breaks_off : (text : List ℕ) (at : ℕ) (c : Context) (f : Code × ℕ) (front : List Lexeme) (total : Result (List Lexeme) (Code × ℕ)) → at < length text
-    → located text (item_at c text at) ≡ Err f
+    → with_line text (item_at c text at) ≡ Err f
     → with_tokens front (tokens_from text 0 at c (drop at text)) ≡ total → total ≡ Err f
 breaks_off text at c f front total lt item same = sym same ∙ ap (with_tokens front) (one_fault text at c f lt item)
 
-pub begins_with : (text : List ℕ) → length text ≤ 1048576 → with_tokens [] (tokens_from text 0 0 start text) ≡ tokens_of text
+pub begins_with : (text : List ℕ) → length text ≤ 1048576 → with_tokens [] (tokens_from text 0 0 context_at_start text) ≡ tokens_of text
 unfolding tokens_of
 begins_with text le =
     let short : ltb 1048576 (length text) ≡ false = fits (length text) le in
-    rw short (nothing_before (tokens_from text 0 0 start text))
+    rw short (nothing_before (tokens_from text 0 0 context_at_start text))
   where
     fits : (n : ℕ) → n ≤ 1048576 → ltb 1048576 n ≡ false
     fits n le = le-ltb 1048576 n le

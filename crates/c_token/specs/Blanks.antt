@@ -3,10 +3,11 @@ use Rattle.std.specs.Prelude.{ℕ, zero, suc, ◌+◌, ◌-◌, ◌==◌, if◌t
 use Rattle.std.specs.Option.{option_map_or}
 use Rattle.debug_records.specs.declared.code.TheConstants.Code.{UNKNOWN_BYTE, UNENDED_COMMENT}
 use Rattle.c_token.specs.declared.fault.Fault.{Fault}
-use Rattle.c_token.specs.Bytes.{is_blank, stands, is_replaced}
+use Rattle.c_token.specs.Bytes.{is_blank, text_has, is_replaced}
 use Rattle.c_token.specs.Reading.{◌>>=◌, fault}
 
--- where the comment ends that began with two slashes, read from these bytes on: before the line feed, or at the end of the text
+-- where the comment ends that began with two slashes, read from these bytes on: before the line feed, or at the end of
+-- the text
 abbrev pub line_comment : List ℕ → ℕ → List ℕ → Result ℕ Fault
 line_comment text at [] = Ok at
 line_comment text at (b ∷ rest) =
@@ -14,11 +15,12 @@ line_comment text at (b ∷ rest) =
     else (if is_replaced text at then Err (fault UNKNOWN_BYTE at)
     else line_comment text (at + 1) rest)
 
--- where the comment ends that began at `start` with a slash and a star, read from these bytes on: behind a star and a slash
+-- where the comment ends that began at `start` with a slash and a star, read from these bytes on: behind a star and a
+-- slash
 abbrev pub block_comment : List ℕ → ℕ → ℕ → List ℕ → Result ℕ Fault
 block_comment text start at [] = Err (fault UNENDED_COMMENT start)
 block_comment text start at (b ∷ rest) =
-    if stands text at (codes "*/") then Ok (at + 2)
+    if text_has text at (codes "*/") then Ok (at + 2)
     else (if is_replaced text at then Err (fault UNKNOWN_BYTE at)
     else block_comment text start (at + 1) rest)
 
@@ -26,8 +28,12 @@ block_comment text start at (b ∷ rest) =
 unfoldable pub blank_at : List ℕ → ℕ → Result (Option ℕ) Fault
 blank_at text at =
     if is_blank (slice_index text at) then Ok (Some (at + 1))
-    else (if stands text at (codes "//") then (line_comment text (at + 2) (drop (at + 2) text) >>= λ end. Ok (Some end))
-    else (if stands text at (codes "/*") then (block_comment text at (at + 2) (drop (at + 2) text) >>= λ end. Ok (Some end))
+    else
+    (if text_has text at (codes "//")
+    then (line_comment text (at + 2) (drop (at + 2) text) >>= λ end. Ok (Some end))
+    else
+    (if text_has text at (codes "/*")
+    then (block_comment text at (at + 2) (drop (at + 2) text) >>= λ end. Ok (Some end))
     else Ok None))
 
 -- where white space and comments end, from these bytes on, of which the first few belong to a comment before them

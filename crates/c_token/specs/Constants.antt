@@ -5,7 +5,7 @@ use Rattle.std.specs.Option.{option_map_or}
 use Rattle.debug_records.specs.declared.code.TheConstants.Code.{MALFORMED_CONSTANT}
 use Rattle.c_token.specs.declared.fault.Fault.{Fault}
 use Rattle.c_token.specs.declared.token.Constant.{Constant}
-use Rattle.c_token.specs.Bytes.{is_word_byte, stands}
+use Rattle.c_token.specs.Bytes.{is_word_byte, text_has}
 use Rattle.c_token.specs.Reading.{fault}
 
 -- what a digit stands for; 99 where the byte is none
@@ -41,8 +41,8 @@ suffix_of (a ∷ b ∷ c ∷ rest) = None
 
 -- The constant of a value and a suffix. It is unsigned with a u, and where no signed type of 32 bits has the value;
 -- a decimal constant without a u has to fit the signed type.
-unfoldable pub typed : Bool → ℕ → Bool × Bool → Option Constant
-typed is_decimal value suffix =
+unfoldable pub typed_constant : Bool → ℕ → Bool × Bool → Option Constant
+typed_constant is_decimal value suffix =
     let is_large = nat_lt 2147483647 value in
     if is_decimal && (is_large && not suffix.0) then None
     else Some (record { value = value; is_unsigned = suffix.0 || is_large; is_long = suffix.1 })
@@ -54,13 +54,13 @@ constant_in base word =
     let value = value_of base (take size word) in
     if size == 0 then None
     else (if nat_lt 4294967295 value then None
-    else option_and_then (typed (base == 10) value) (suffix_of (drop size word)))
+    else option_and_then (typed_constant (base == 10) value) (suffix_of (drop size word)))
 
 -- hexadecimal behind 0x, octal behind another 0, decimal otherwise
 unfoldable pub constant_of : List ℕ → Option Constant
 constant_of word =
-    if stands word 0 (codes "0x") || stands word 0 (codes "0X") then constant_in 16 (drop 2 word)
-    else (if stands word 0 (codes "0") then constant_in 8 word
+    if text_has word 0 (codes "0x") || text_has word 0 (codes "0X") then constant_in 16 (drop 2 word)
+    else (if text_has word 0 (codes "0") then constant_in 8 word
     else constant_in 10 word)
 
 -- a byte of a constant, right or wrong: a letter, a digit, the underscore or a point

@@ -29,7 +29,8 @@ item_view (item.Token kind) = Token (word_view kind)
 
 -- a constant begins with a digit, or with a point and a digit
 unfoldable pub begins_constant : List ℕ → ℕ → Bool
-begins_constant text at = is_digit (slice_index text at) || (slice_index text at == 46 && is_digit (slice_index text (at + 1)))
+begins_constant text at =
+    is_digit (slice_index text at) || (slice_index text at == 46 && is_digit (slice_index text (at + 1)))
 
 -- the token at an offset that is no include line, and where it ends: which kind it is, its first byte tells
 unfoldable pub plain_token_at : List ℕ → ℕ → Result (Word × ℕ) Fault
@@ -56,7 +57,7 @@ item_at c text at =
     option_map_or (λ end. Ok (Blank, end)) blank (token_at c text at >>= λ t. Ok (Token t.0, t.1)))
 
 -- the context behind what stands at an offset
-abbrev pub behind : Context → Piece → Context
-behind c LineFeed = record c { starts_line = true }
-behind c Blank = c
-behind c (Token word) = behind_word c word
+abbrev pub context_behind : Context → Piece → Context
+context_behind c LineFeed = record c { starts_line = true }
+context_behind c Blank = c
+context_behind c (Token word) = behind_word c word

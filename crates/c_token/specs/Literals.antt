@@ -10,9 +10,12 @@ use Rattle.c_token.specs.Bytes.{is_replaced}
 use Rattle.c_token.specs.Constants.{is_digit_in, value_of}
 use Rattle.c_token.specs.Reading.{◌>>=◌, fault, fault_at}
 
--- the byte behind a backslash, and the byte that both stand for: a, b, f, n, r, t, v, and four that stand for themselves
+-- the byte behind a backslash, and the byte that both stand for: a, b, f, n, r, t, v, and four that stand for
+-- themselves
 abbrev pub simple_escapes : List (ℕ × ℕ)
-simple_escapes = (97, 7) ∷ (98, 8) ∷ (102, 12) ∷ (110, 10) ∷ (114, 13) ∷ (116, 9) ∷ (118, 11) ∷ (92, 92) ∷ (39, 39) ∷ (34, 34) ∷ (63, 63) ∷ []
+simple_escapes =
+    (97, 7) ∷ (98, 8) ∷ (102, 12) ∷ (110, 10) ∷ (114, 13) ∷ (116, 9) ∷ (118, 11) ∷ (92, 92) ∷ (39, 39) ∷ (34, 34)
+    ∷ (63, 63) ∷ []
 
 -- the byte that a table gives for a byte
 abbrev pub find_byte : List (ℕ × ℕ) → ℕ → Option ℕ
@@ -49,8 +52,8 @@ escape_at text at =
     else (if nat_le 48 b && nat_le b 55 then octal_escape text at
     else option_map_or (λ v. Ok (v, at + 1)) (simple_escape b) (Err UNKNOWN_ESCAPE)))
 
--- The byte that is spelled at an offset of a literal that began at `start`, and where its spelling ends: itself, or an escape.
--- A literal holds no line end.
+-- The byte that is spelled at an offset of a literal that began at `start`, and where its spelling ends: itself, or an
+-- escape. A literal holds no line end.
 unfoldable pub unit_at : List ℕ → ℕ → ℕ → Result (ℕ × ℕ) Fault
 unit_at text start at =
     let b = slice_index text at in
@@ -64,14 +67,16 @@ unit_at text start at =
 abbrev pub with_bytes : List ℕ → Result (List ℕ × ℕ) Fault → Result (List ℕ × ℕ) Fault
 with_bytes front read = read >>= λ more. Ok (front ++ more.0, more.1)
 
--- The bytes of a literal that began at `start` with this quote, and where it ends, read from these bytes on, of which the
--- first few belong to an escape before them.
+-- The bytes of a literal that began at `start` with this quote, and where it ends, read from these bytes on, of which
+-- the first few belong to an escape before them.
 abbrev pub literal_from : List ℕ → ℕ → ℕ → ℕ → ℕ → List ℕ → Result (List ℕ × ℕ) Fault
 literal_from text quote start inside at [] = Err (fault MALFORMED_LITERAL start)
 literal_from text quote start (suc inside) at (b ∷ rest) = literal_from text quote start inside (at + 1) rest
 literal_from text quote start zero at (b ∷ rest) =
     if b == quote then Ok ([], at + 1)
-    else (unit_at text start at >>= λ u. with_bytes (u.0 ∷ []) (literal_from text quote start (u.1 - (at + 1)) (at + 1) rest))
+    else
+    (unit_at text start at
+    >>= λ u. with_bytes (u.0 ∷ []) (literal_from text quote start (u.1 - (at + 1)) (at + 1) rest))
 
 -- the bytes of the literal at an offset, and where it ends
 unfoldable pub literal_at : List ℕ → ℕ → Result (List ℕ × ℕ) Fault

@@ -6,7 +6,7 @@ use Rattle.debug_records.specs.declared.code.TheConstants.Code.{UNKNOWN_BYTE}
 use Rattle.c_token.specs.declared.fault.Fault.{Fault}
 use Rattle.c_token.specs.declared.token.Punctuator.{Punctuator}
 use Rattle.c_token.specs.declared.token.Punctuator.TheVariants as mark
-use Rattle.c_token.specs.Bytes.{stands}
+use Rattle.c_token.specs.Bytes.{text_has}
 use Rattle.c_token.specs.Reading.{fault}
 
 -- the punctuators and how each is spelled, the longer ones first
@@ -35,13 +35,13 @@ digraphs = codes "<:" ∷ codes ":>" ∷ codes "<%" ∷ codes "%>" ∷ codes "%:
 
 -- one of the digraphs stands at a position of the text
 unfoldable pub is_digraph_at : List ℕ → ℕ → Bool
-is_digraph_at text at = list_any (stands text at) digraphs
+is_digraph_at text at = list_any (text_has text at) digraphs
 
 -- the first of the table that stands at an offset, and where it ends
 abbrev pub find_punctuator : List (List ℕ × Punctuator) → List ℕ → ℕ → Option (Punctuator × ℕ)
 find_punctuator [] text at = None
 find_punctuator (m ∷ table) text at =
-    if nat_lt 0 (length m.0) && stands text at m.0 then Some (m.1, at + length m.0) else find_punctuator table text at
+    if nat_lt 0 (length m.0) && text_has text at m.0 then Some (m.1, at + length m.0) else find_punctuator table text at
 
 -- the longest punctuator at an offset, and where it ends
 unfoldable pub longest_punctuator : List ℕ → ℕ → Option (Punctuator × ℕ)

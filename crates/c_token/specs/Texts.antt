@@ -4,8 +4,8 @@ use Rattle.debug_records.specs.declared.code.Code.{Code}
 use Rattle.debug_records.specs.declared.code.TheConstants.Code.{TEXT_SIZE}
 use Rattle.c_token.specs.declared.context.Context.{Context}
 use Rattle.c_token.specs.declared.fault.Fault.{Fault}
-use Rattle.c_token.specs.Includes.{start}
-use Rattle.c_token.specs.Items.{Piece, LineFeed, Blank, Token, item_at, behind}
+use Rattle.c_token.specs.Includes.{context_at_start}
+use Rattle.c_token.specs.Items.{Piece, LineFeed, Blank, Token, item_at, context_behind}
 use Rattle.c_token.specs.Lexemes.{Word, Lexeme}
 use Rattle.c_token.specs.Reading.{◌>>=◌}
 
@@ -24,9 +24,9 @@ tokens_at text at Blank = []
 tokens_at text at (Token word) = lexeme_at text at word ∷ []
 
 -- a fault with the line of its offset
-abbrev pub located : {A : Type 0} → List ℕ → Result A Fault → Result A (Code × ℕ)
-located text (Ok x) = Ok x
-located text (Err f) = Err (f.code, line_of text f.at)
+abbrev pub with_line : {A : Type 0} → List ℕ → Result A Fault → Result A (Code × ℕ)
+with_line text (Ok x) = Ok x
+with_line text (Err f) = Err (f.code, line_of text f.at)
 
 -- tokens before those of the rest of a text
 abbrev pub with_tokens : List Lexeme → Result (List Lexeme) (Code × ℕ) → Result (List Lexeme) (Code × ℕ)
@@ -37,9 +37,9 @@ abbrev pub tokens_from : List ℕ → ℕ → ℕ → Context → List ℕ → R
 tokens_from text inside at c [] = Ok []
 tokens_from text (suc inside) at c (b ∷ rest) = tokens_from text inside (at + 1) c rest
 tokens_from text zero at c (b ∷ rest) =
-    located text (item_at c text at) >>= λ i.
-    with_tokens (tokens_at text at i.0) (tokens_from text (i.1 - (at + 1)) (at + 1) (behind c i.0) rest)
+    with_line text (item_at c text at) >>= λ i.
+    with_tokens (tokens_at text at i.0) (tokens_from text (i.1 - (at + 1)) (at + 1) (context_behind c i.0) rest)
 
 -- the tokens of a text of at most 1,048,576 bytes, or its first fault and the line of it
 unfoldable pub tokens_of : List ℕ → Result (List Lexeme) (Code × ℕ)
-tokens_of text = if nat_lt 1048576 (length text) then Err (TEXT_SIZE, 1) else tokens_from text 0 0 start text
+tokens_of text = if nat_lt 1048576 (length text) then Err (TEXT_SIZE, 1) else tokens_from text 0 0 context_at_start text

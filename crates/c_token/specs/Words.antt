@@ -28,7 +28,8 @@ keywords =
     ∷ (codes "unsigned", keyword.Unsigned) ∷ (codes "void", keyword.Void) ∷ (codes "volatile", keyword.Volatile)
     ∷ (codes "while", keyword.While) ∷ (codes "_Alignas", keyword.Alignas) ∷ (codes "_Alignof", keyword.Alignof)
     ∷ (codes "_Atomic", keyword.Atomic) ∷ (codes "_Bool", keyword.Bool) ∷ (codes "_Complex", keyword.Complex)
-    ∷ (codes "_Generic", keyword.Generic) ∷ (codes "_Imaginary", keyword.Imaginary) ∷ (codes "_Noreturn", keyword.Noreturn)
+    ∷ (codes "_Generic", keyword.Generic) ∷ (codes "_Imaginary", keyword.Imaginary)
+    ∷ (codes "_Noreturn", keyword.Noreturn)
     ∷ (codes "_Static_assert", keyword.StaticAssert) ∷ (codes "_Thread_local", keyword.ThreadLocal) ∷ []
 
 -- the keyword that is spelled so
@@ -41,8 +42,8 @@ unfoldable pub keyword_of : List ℕ → Option Keyword
 keyword_of s = find_keyword keywords s
 
 -- a keyword, or a name of at most 63 bytes
-unfoldable pub word_in : ℕ → List ℕ → Result Word Fault
-word_in at s =
+unfoldable pub keyword_or_name : ℕ → List ℕ → Result Word Fault
+keyword_or_name at s =
     option_map_or (λ k. Ok (word.Keyword k)) (keyword_of s)
     (if nat_lt 63 (length s) then Err (fault NAME_SIZE at) else Ok (word.Name s))
 
@@ -50,4 +51,4 @@ word_in at s =
 unfoldable pub word_at : List ℕ → ℕ → Result (Word × ℕ) Fault
 word_at text at =
     let size = prefix_len is_word_byte (drop at text) in
-    word_in at (take size (drop at text)) >>= λ w. Ok (w, at + size)
+    keyword_or_name at (take size (drop at text)) >>= λ w. Ok (w, at + size)

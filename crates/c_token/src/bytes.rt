@@ -1,7 +1,7 @@
 //! Bytes of a text.
 
 ghost use Rattle.std.specs.Prelude.{◌≡◌, ◌≤◌, ◌+◌, IsTrue, length, slice_index};
-ghost use Rattle.c_token.specs.Bytes.{is_blank, is_digit, is_letter, is_replaced, is_trigraph_end, is_word_byte, stands};
+ghost use Rattle.c_token.specs.Bytes.{is_blank, is_digit, is_letter, is_replaced, is_trigraph_end, is_word_byte, text_has};
 
 /// The byte at an offset; 0 behind the end.
 pub fn byte_at(text: &[u8], at: usize) -> u8
@@ -11,10 +11,10 @@ pub fn byte_at(text: &[u8], at: usize) -> u8
 }
 
 /// These bytes stand at the offset.
-#[tactic(auto, unfolding(crate::specs::Bytes::stands))]
+#[tactic(auto, unfolding(crate::specs::Bytes::text_has))]
 pub fn stands(text: &[u8], at: usize, word: &[u8]) -> bool
     requires { at ≤ length text.now }
-    ensures exact { result ≡ stands text.now at word.now }
+    ensures exact { result ≡ text_has text.now at word.now }
     ensures within { IsTrue result → at + length word.now ≤ length text.now }
 {
     text[at..].starts_with(word)

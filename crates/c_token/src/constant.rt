@@ -2,7 +2,7 @@
 
 ghost use Rattle.std.specs.Prelude.{◌≡◌, ◌≤◌, ◌<◌, ◌==◌, length, slice_index, IsTrue, nat_lt, if◌then◌else◌, None, Some, IfOk};
 ghost use Rattle.std.specs.List.{prefix_len};
-ghost use Rattle.c_token.specs.Constants.{constant_at, constant_in, constant_of, digit_value, is_digit_in, is_l, is_number_byte, is_u, suffix_of, typed, value_of};
+ghost use Rattle.c_token.specs.Constants.{constant_at, constant_in, constant_of, digit_value, is_digit_in, is_l, is_number_byte, is_u, suffix_of, typed_constant, value_of};
 
 use crate::bytes::{is_word_byte, stands};
 use crate::fault::Fault;
@@ -95,9 +95,9 @@ fn suffix_of(word: &[u8]) -> Option<(bool, bool)>
 }
 
 /// The constant of a value and a suffix: a decimal one without a `u` has to be an `int`.
-#[tactic(auto, unfolding(crate::specs::Constants::typed))]
+#[tactic(auto, unfolding(crate::specs::Constants::typed_constant))]
 fn typed(is_decimal: bool, value: u32, suffix: (bool, bool)) -> Option<Constant>
-    ensures { result ≡ typed is_decimal value suffix }
+    ensures { result ≡ typed_constant is_decimal value suffix }
 {
     let (says_unsigned, is_long) = suffix;
     let is_large = value > 0x7fff_ffff;

@@ -1,7 +1,7 @@
 //! What the tokens before a byte say of a line that begins with `#` there.
 
 ghost use Rattle.std.specs.Prelude.{◌≡◌, ◌<◌, ◌≤◌, ◌+◌, ◌-◌, ◌^◌, true};
-ghost use Rattle.c_token.specs.Includes.{behind_close_brace, behind_open_brace, behind_other, behind_punctuator, behind_word, is_inside, start};
+ghost use Rattle.c_token.specs.Includes.{behind_close_brace, behind_open_brace, behind_other, behind_punctuator, behind_word, is_inside, context_at_start};
 ghost use Rattle.c_token.specs.Lexemes.{word_view};
 
 use crate::token::{Kind, Punctuator};
@@ -22,7 +22,7 @@ pub struct Context {
 impl Context {
     /// The context at the beginning of a text.
     pub fn start() -> Context
-        ensures { result ≡ start }
+        ensures { result ≡ context_at_start }
     {
         Context {
             starts_line: true,

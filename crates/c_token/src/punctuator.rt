@@ -2,7 +2,7 @@
 
 ghost use Rattle.std.specs.Prelude.{◌≡◌, ◌≤◌, ◌<◌, ◌+◌, ◌&&◌, length, map, nat_lt, slice_index, IfOk, IfSome, IsTrue};
 ghost use Rattle.std.specs.List.{list_any};
-ghost use Rattle.c_token.specs.Bytes.{stands};
+ghost use Rattle.c_token.specs.Bytes.{text_has};
 ghost use Rattle.c_token.specs.Punctuators.{find_punctuator, is_digraph_at, longest_punctuator, punctuator_at};
 ghost use Rattle.c_token.specs.Tables.{spelled};
 
@@ -68,7 +68,7 @@ static DIGRAPHS: [&[u8]; 5] = [b"<:", b":>", b"<%", b"%>", b"%:"];
 /// One of the digraphs of the table stands at an offset.
 fn is_listed_at(table: &[&[u8]], text: &[u8], at: usize) -> bool
     requires { at ≤ length text.now }
-    ensures { result ≡ list_any (stands text.now at) (map (λ entry. entry.now) table.now) }
+    ensures { result ≡ list_any (text_has text.now at) (map (λ entry. entry.now) table.now) }
 {
     for entry in table {
         if stands(text, at, entry) {
@@ -87,11 +87,11 @@ fn is_digraph_at(text: &[u8], at: usize) -> bool
 }
 
 /// A spelling that is not empty stands at an offset, where `first` is the byte there.
-#[tactic(auto, unfolding(crate::specs::Bytes::stands))]
+#[tactic(auto, unfolding(crate::specs::Bytes::text_has))]
 fn stands_behind(first: u8, text: &[u8], at: usize, spelling: &[u8]) -> bool
     requires inside { at ≤ length text.now }
     requires first { first ≡ slice_index text.now at }
-    ensures exact { result ≡ (nat_lt 0 (length spelling.now) && stands text.now at spelling.now) }
+    ensures exact { result ≡ (nat_lt 0 (length spelling.now) && text_has text.now at spelling.now) }
     ensures some { IsTrue result → 0 < length spelling.now }
     ensures within { IsTrue result → at + length spelling.now ≤ length text.now }
 {

@@ -1,12 +1,12 @@
 //! The tokens of a text.
 
 ghost use Rattle.std.specs.Prelude.{◌≡◌, ◌≤◌, ◌<◌, ◌+◌, ◌-◌, ◌==◌, ◌^◌, length, count_by, IfOk, IfErr};
-ghost use Rattle.c_token.specs.Includes.{start};
-ghost use Rattle.c_token.specs.Items.{behind, item_at, item_view};
+ghost use Rattle.c_token.specs.Includes.{context_at_start};
+ghost use Rattle.c_token.specs.Items.{context_behind, item_at, item_view};
 ghost use Rattle.c_token.specs.Lexemes.{lexemes};
 ghost use Rattle.c_token.specs.Spells.{IsRefusal, Spells};
 ghost use Rattle.debug_records.specs.Refusals.{Answers};
-ghost use Rattle.c_token.specs.Texts.{line_of, located, tokens_of};
+ghost use Rattle.c_token.specs.Texts.{line_of, with_line, tokens_of};
 
 use crate::context::Context;
 use crate::fault::TokenErr;
@@ -44,7 +44,7 @@ fn located_item(
 ) -> Result<(Item, usize), SourceErr>
     requires inside { at < length text.now }
     requires small { length text.now ≤ 1048576 }
-    ensures exact { Answers (λ x. (item_view x.0, x.1)) result (located text.now (item_at context text.now at)) }
+    ensures exact { Answers (λ x. (item_view x.0, x.1)) result (with_line text.now (item_at context text.now at)) }
     ensures within { IfOk result (λ x. (at < x.1) × (x.1 ≤ length text.now)) }
 {
     match item_at(alloc, context, text, at) {
@@ -60,7 +60,7 @@ fn located_item(
 /// The context behind what stands at a byte.
 fn behind(context: Context, item: &Item) -> Context
     requires { context.depth < 2 ^ 32 - 1 }
-    ensures exact { result ≡ behind context (item_view item.now) }
+    ensures exact { result ≡ context_behind context (item_view item.now) }
     ensures within { result.depth ≤ context.depth + 1 }
 {
     match item {

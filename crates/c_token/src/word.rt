@@ -5,7 +5,7 @@ ghost use Rattle.std.specs.List.{list_all, prefix_len};
 ghost use Rattle.c_token.specs.Bytes.{is_word_byte};
 ghost use Rattle.c_token.specs.Lexemes.{word_view};
 ghost use Rattle.c_token.specs.Reading.{GivesItem};
-ghost use Rattle.c_token.specs.Words.{find_keyword, keyword_of, word_at, word_in};
+ghost use Rattle.c_token.specs.Words.{find_keyword, keyword_of, word_at, keyword_or_name};
 ghost use Rattle.c_token.specs.Tables.{spelled};
 
 use crate::bytes::is_word_byte;
@@ -96,10 +96,10 @@ fn word_len(text: &[u8]) -> usize
 }
 
 /// The keyword or the name that a word is, which stands at an offset.
-#[tactic(auto, unfolding(crate::specs::Words::word_in))]
+#[tactic(auto, unfolding(crate::specs::Words::keyword_or_name))]
 fn word_in(alloc: Global, word: &[u8], at: usize) -> Result<Kind, TokenErr>
     requires { list_all is_word_byte word.now ≡ true }
-    ensures { GivesItem word_view result (word_in at word.now) }
+    ensures { GivesItem word_view result (keyword_or_name at word.now) }
 {
     if let Some(keyword) = keyword_of(word) {
         return Ok(Kind::Keyword(keyword));

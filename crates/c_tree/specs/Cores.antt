@@ -7,7 +7,8 @@ use Rattle.c_tree.specs.declared.expression.Core.{Core}
 use Rattle.c_tree.specs.declared.expression.Core.TheVariants as core
 use Rattle.c_tree.specs.Expressions.{ExpressionTree, NameTree, identifier_view, Name, Constant, Literal, Parenthesized}
 
--- what an expression is, once the parentheses around all of it are left out: a name, a constant, string literals, or an expression with operators
+-- what an expression is, once the parentheses around all of it are left out: a name, a constant, string literals, or an
+-- expression with operators
 pub data CoreTree : Type 0 where
   Named : NameTree → CoreTree
   Constantly : Spot → (value : ℕ) → IntegerType → CoreTree

@@ -36,14 +36,14 @@ mutual
     first : InitializerTree → InitializerTrees → InitializerTrees
 
 -- the initializers in braces, in a list of the tree's own
-abbrev pub chain : List InitializerTree → InitializerTrees
-chain [] = none
-chain (i ∷ more) = first i (chain more)
+abbrev pub chain_of_initializers : List InitializerTree → InitializerTrees
+chain_of_initializers [] = none
+chain_of_initializers (i ∷ more) = first i (chain_of_initializers more)
 
 -- one initializer, with the trees of its parts in their places
 abbrev pub initializer_step : Initializer-F InitializerTree → InitializerTree
 initializer_step (Initializer-F.Expression value) = Value (expression_view value)
-initializer_step (Initializer-F.List initializers) = Braces (chain initializers.items)
+initializer_step (Initializer-F.List initializers) = Braces (chain_of_initializers initializers.items)
 
 abbrev pub initializer_view : Initializer → InitializerTree
 initializer_view = fold-Initializer InitializerTree initializer_step
@@ -58,7 +58,13 @@ pub record DeclaratorTree : Type 0 where
 
 abbrev pub declarator_view : Declarator → DeclaratorTree
 declarator_view d =
-    record { extent = d.extent; stars = d.stars; name = identifier_view d.identifier; brackets = brackets_view d.brackets; initializer = option_map initializer_view d.initializer }
+    record {
+      extent = d.extent;
+      stars = d.stars;
+      name = identifier_view d.identifier;
+      brackets = brackets_view d.brackets;
+      initializer = option_map initializer_view d.initializer;
+    }
 
 -- a declaration: its type, and the variables that it declares
 pub record DeclarationTree : Type 0 where
@@ -67,7 +73,8 @@ pub record DeclarationTree : Type 0 where
   pub declarators : List DeclaratorTree
 
 abbrev pub declaration_view : Declaration → DeclarationTree
-declaration_view d = record { extent = d.extent; type = d.integer_type; declarators = map declarator_view d.declarators.items }
+declaration_view d =
+    record { extent = d.extent; type = d.integer_type; declarators = map declarator_view d.declarators.items }
 
 -- a parameter: its type, its stars, its name, if it has one, and its brackets
 pub record ParameterTree : Type 0 where
@@ -79,4 +86,10 @@ pub record ParameterTree : Type 0 where
 
 abbrev pub parameter_view : Parameter → ParameterTree
 parameter_view p =
-    record { extent = p.extent; type = p.integer_type; stars = p.stars; name = option_map identifier_view p.identifier; brackets = brackets_view p.brackets }
+    record {
+      extent = p.extent;
+      type = p.integer_type;
+      stars = p.stars;
+      name = option_map identifier_view p.identifier;
+      brackets = brackets_view p.brackets;
+    }

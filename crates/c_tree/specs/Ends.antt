@@ -4,24 +4,24 @@ use Rattle.debug_records.specs.declared.source.Spot.{Spot}
 use Rattle.c_tree.specs.Expressions.{ExpressionTree, Name, Constant, Literal, Parenthesized, Index, Call, PostIncrement, PostDecrement, Prefix, Cast, SizeofExpression, SizeofType, SizeofArray, Binary, Conditional, Assignment, Comma, SuffixTree, Indexes, Calls, Increments, Decrements}
 
 -- where the first token of an expression stands
-abbrev pub first_of : ExpressionTree → Spot
-first_of (Name n) = n.spot
-first_of (Constant spot value type) = spot
-first_of (Literal extent bytes) = extent.first
-first_of (Parenthesized extent e) = extent.first
-first_of (Index e index last) = first_of e
-first_of (Call e arguments last) = first_of e
-first_of (PostIncrement e last) = first_of e
-first_of (PostDecrement e last) = first_of e
-first_of (Prefix spot operator e) = spot
-first_of (Cast spot type e) = spot
-first_of (SizeofExpression spot e) = spot
-first_of (SizeofType extent type stars) = extent.first
-first_of (SizeofArray extent type stars size) = extent.first
-first_of (Binary operator left right) = first_of left
-first_of (Conditional condition a b) = first_of condition
-first_of (Assignment operator target value) = first_of target
-first_of (Comma left right) = first_of left
+abbrev pub first_spot : ExpressionTree → Spot
+first_spot (Name n) = n.spot
+first_spot (Constant spot value type) = spot
+first_spot (Literal extent bytes) = extent.first
+first_spot (Parenthesized extent e) = extent.first
+first_spot (Index e index last) = first_spot e
+first_spot (Call e arguments last) = first_spot e
+first_spot (PostIncrement e last) = first_spot e
+first_spot (PostDecrement e last) = first_spot e
+first_spot (Prefix spot operator e) = spot
+first_spot (Cast spot type e) = spot
+first_spot (SizeofExpression spot e) = spot
+first_spot (SizeofType extent type stars) = extent.first
+first_spot (SizeofArray extent type stars size) = extent.first
+first_spot (Binary operator left right) = first_spot left
+first_spot (Conditional condition a b) = first_spot condition
+first_spot (Assignment operator target value) = first_spot target
+first_spot (Comma left right) = first_spot left
 
 -- the offset of the last token of an expression
 abbrev pub last_of : ExpressionTree → ℕ

@@ -48,9 +48,9 @@ mutual
     first : ExpressionTree → ExpressionTrees → ExpressionTrees
 
 -- the arguments of a call, in a list of the tree's own
-abbrev pub chain : List ExpressionTree → ExpressionTrees
-chain [] = none
-chain (e ∷ es) = first e (chain es)
+abbrev pub chain_of_arguments : List ExpressionTree → ExpressionTrees
+chain_of_arguments [] = none
+chain_of_arguments (e ∷ es) = first e (chain_of_arguments es)
 
 -- one operator and its right operand, behind what stands to the left
 abbrev pub operation : ExpressionTree → BinaryOperator × ExpressionTree → ExpressionTree
@@ -66,7 +66,7 @@ pub data SuffixTree : Type 0 where
 -- one suffix, behind its operand
 abbrev pub suffixed : ExpressionTree → SuffixTree → ExpressionTree
 suffixed operand (Indexes index last) = Index operand index last
-suffixed operand (Calls arguments last) = Call operand (chain arguments) last
+suffixed operand (Calls arguments last) = Call operand (chain_of_arguments arguments) last
 suffixed operand (Increments last) = PostIncrement operand last
 suffixed operand (Decrements last) = PostDecrement operand last
 

@@ -20,7 +20,14 @@ pub record StaticTree : Type 0 where
   pub relocations : List Relocation
 
 abbrev pub static_view : StaticVariable → StaticTree
-static_view v = record { name = string_bytes v.name; spot = v.spot; of = v.of; bytes = v.bytes.items; relocations = v.relocations.items }
+static_view v =
+    record {
+      name = string_bytes v.name;
+      spot = v.spot;
+      of = v.of;
+      bytes = v.bytes.items;
+      relocations = v.relocations.items;
+    }
 
 -- a named object of automatic storage
 pub record AutomaticTree : Type 0 where
@@ -40,7 +47,8 @@ pub record LiteralTree : Type 0 where
 abbrev pub literal_view : StringLiteral → LiteralTree
 literal_view l = record { spot = l.spot; bytes = l.bytes.items }
 
--- a function's definition: its automatic variables are so many from the first on, and its parameters come first among them
+-- a function's definition: its automatic variables are so many from the first on, and its parameters come first among
+-- them
 pub record TypedFunctionTree : Type 0 where
   pub name : List ℕ
   pub spot : Spot
@@ -54,7 +62,17 @@ pub record TypedFunctionTree : Type 0 where
 
 abbrev pub function_view : TypedFunction → TypedFunctionTree
 function_view f =
-    record { name = string_bytes f.name; spot = f.spot; result = f.result; first_variable = f.first_variable; parameters = f.parameters; variables = f.variables; body = statements_view f.body; close = f.close; weight = f.weight }
+    record {
+      name = string_bytes f.name;
+      spot = f.spot;
+      result = f.result;
+      first_variable = f.first_variable;
+      parameters = f.parameters;
+      variables = f.variables;
+      body = statements_view f.body;
+      close = f.close;
+      weight = f.weight;
+    }
 
 -- a program that the compiler accepts
 pub record ProgramTree : Type 0 where
@@ -68,4 +86,12 @@ pub record ProgramTree : Type 0 where
 
 abbrev pub program_view : Program → ProgramTree
 program_view p =
-    record { functions = map function_view p.functions.items; main = p.main; statics = map static_view p.statics.items; automatics = map automatic_view p.automatics.items; literals = map literal_view p.literals.items; array_literals = map literal_view p.array_literals.items; weight = p.weight }
+    record {
+      functions = map function_view p.functions.items;
+      main = p.main;
+      statics = map static_view p.statics.items;
+      automatics = map automatic_view p.automatics.items;
+      literals = map literal_view p.literals.items;
+      array_literals = map literal_view p.array_literals.items;
+      weight = p.weight;
+    }

@@ -27,7 +27,8 @@ start_view (for_start.Expression value) = Value (expression_view value)
 start_view (for_start.Declaration d) = Declares (declaration_view d)
 
 mutual
-  -- spots are of first tokens; those around the statements of a block or of a switch are its braces'; the number behind an expression is its semicolon's offset
+  -- spots are of first tokens; those around the statements of a block or of a switch are its braces'; the number behind
+  -- an expression is its semicolon's offset
   pub data StatementTree : Type 0 where
     Compound : (opening : Spot) → StatementTrees → (closing : Spot) → StatementTree
     Declare : DeclarationTree → StatementTree
@@ -51,9 +52,9 @@ mutual
     first : StatementTree → StatementTrees → StatementTrees
 
 -- the statements of a block, in a list of the tree's own
-abbrev pub chain : List StatementTree → StatementTrees
-chain [] = none
-chain (s ∷ more) = first s (chain more)
+abbrev pub chain_of_statements : List StatementTree → StatementTrees
+chain_of_statements [] = none
+chain_of_statements (s ∷ more) = first s (chain_of_statements more)
 
 -- statements in braces, and where the braces stand
 pub record BlockTree : Type 0 where
@@ -98,7 +99,7 @@ behind_labels (l ∷ more) s = labeled l (behind_labels more s)
 
 -- a statement in a block of its own
 abbrev pub block_tree : BlockTree → StatementTree
-block_tree b = Compound b.opening (chain b.statements) b.closing
+block_tree b = Compound b.opening (chain_of_statements b.statements) b.closing
 
 -- one statement, with the trees of its parts in their places
 abbrev pub statement_step : Statement-F StatementTree BlockTree BranchTree → StatementTree
@@ -107,12 +108,14 @@ statement_step (Statement-F.Declaration d) = Declare (declaration_view d)
 statement_step (Statement-F.Empty spot) = Empty spot
 statement_step (Statement-F.Expression value last) = Run (expression_view value) last
 statement_step (Statement-F.If b others None) = if_tree b.value (else_tree others.items None)
-statement_step (Statement-F.If b others (Some otherwise)) = if_tree b.value (else_tree others.items (Some otherwise.value))
+statement_step (Statement-F.If b others (Some otherwise)) =
+    if_tree b.value (else_tree others.items (Some otherwise.value))
 statement_step (Statement-F.While spot condition body) = While spot (expression_view condition) body.value
 statement_step (Statement-F.DoWhile extent body condition) = DoWhile extent body.value (expression_view condition)
 statement_step (Statement-F.For spot start condition step body) =
     For spot (start_view start) (option_map expression_view condition) (option_map expression_view step) body.value
-statement_step (Statement-F.Switch spot value b) = Switch spot (expression_view value) b.opening (chain b.statements) b.closing
+statement_step (Statement-F.Switch spot value b) =
+    Switch spot (expression_view value) b.opening (chain_of_statements b.statements) b.closing
 statement_step (Statement-F.Labeled labels s) = behind_labels (map label_view labels.items) s.value
 statement_step (Statement-F.Break extent) = Break extent
 statement_step (Statement-F.Continue extent) = Continue extent

@@ -24,7 +24,14 @@ pub record FunctionTree : Type 0 where
 
 abbrev pub function_view : Function → FunctionTree
 function_view f =
-    record { extent = f.extent; base = f.base; stars = f.stars; name = identifier_view f.identifier; parameters = map parameter_view f.parameters.items; body = option_map block_view f.body }
+    record {
+      extent = f.extent;
+      base = f.base;
+      stars = f.stars;
+      name = identifier_view f.identifier;
+      parameters = map parameter_view f.parameters.items;
+      body = option_map block_view f.body;
+    }
 
 -- what stands at file scope
 pub data ItemTree : Type 0 where

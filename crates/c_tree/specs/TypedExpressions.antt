@@ -40,7 +40,8 @@ mutual
     Conditional : (condition then otherwise : RvalueTree) → RvalueTree
     Comma : (left right : RvalueTree) → RvalueTree
     Assign : Scalar → (target : LvalueTree) → (value : RvalueTree) → RvalueTree
-    Update : declared-arithmetic.Arithmetic → (target_type integer_type : IntegerType) → (target : LvalueTree) → (value : RvalueTree) → RvalueTree
+    Update : declared-arithmetic.Arithmetic → (target_type integer_type : IntegerType) → (target : LvalueTree)
+        → (value : RvalueTree) → RvalueTree
     UpdatePointer : Direction → (element : ObjectType) → (target : LvalueTree) → (by : RvalueTree) → RvalueTree
     Step : Direction → Given → (target_type integer_type : IntegerType) → (target : LvalueTree) → RvalueTree
     StepPointer : Direction → Given → (element : ObjectType) → (target : LvalueTree) → RvalueTree
@@ -69,21 +70,30 @@ abbrev mutual
   rvalue_view (rvalue.Discard' p operand) = Discard (rvalue_view operand)
   rvalue_view (rvalue.Signed' sign type p operand) = Signed sign type (rvalue_view operand)
   rvalue_view (rvalue.Not' p operand) = Not (rvalue_view operand)
-  rvalue_view (rvalue.Arithmetic' operator type p left q right) = Arithmetic operator type (rvalue_view left) (rvalue_view right)
-  rvalue_view (rvalue.Compare' operator type p left q right) = Compare operator type (rvalue_view left) (rvalue_view right)
-  rvalue_view (rvalue.ComparePointers' operator p left q right) = ComparePointers operator (rvalue_view left) (rvalue_view right)
-  rvalue_view (rvalue.Move' direction element p pointer q by) = Move direction element (rvalue_view pointer) (rvalue_view by)
+  rvalue_view (rvalue.Arithmetic' operator type p left q right) =
+      Arithmetic operator type (rvalue_view left) (rvalue_view right)
+  rvalue_view (rvalue.Compare' operator type p left q right) =
+      Compare operator type (rvalue_view left) (rvalue_view right)
+  rvalue_view (rvalue.ComparePointers' operator p left q right) =
+      ComparePointers operator (rvalue_view left) (rvalue_view right)
+  rvalue_view (rvalue.Move' direction element p pointer q by) =
+      Move direction element (rvalue_view pointer) (rvalue_view by)
   rvalue_view (rvalue.MoveFrom' p by element q pointer) = MoveFrom (rvalue_view by) element (rvalue_view pointer)
   rvalue_view (rvalue.Difference' element p left q right) = Difference element (rvalue_view left) (rvalue_view right)
   rvalue_view (rvalue.And' p left q right) = And (rvalue_view left) (rvalue_view right)
   rvalue_view (rvalue.Or' p left q right) = Or (rvalue_view left) (rvalue_view right)
-  rvalue_view (rvalue.Conditional' p condition q chosen r other) = Conditional (rvalue_view condition) (rvalue_view chosen) (rvalue_view other)
+  rvalue_view (rvalue.Conditional' p condition q chosen r other) =
+      Conditional (rvalue_view condition) (rvalue_view chosen) (rvalue_view other)
   rvalue_view (rvalue.Comma' p left q right) = Comma (rvalue_view left) (rvalue_view right)
   rvalue_view (rvalue.Assign' scalar p target q value) = Assign scalar (lvalue_view target) (rvalue_view value)
-  rvalue_view (rvalue.Update' operator target_type type p target q value) = Update operator target_type type (lvalue_view target) (rvalue_view value)
-  rvalue_view (rvalue.UpdatePointer' direction element p target q by) = UpdatePointer direction element (lvalue_view target) (rvalue_view by)
-  rvalue_view (rvalue.Step' direction given target_type type p target) = Step direction given target_type type (lvalue_view target)
-  rvalue_view (rvalue.StepPointer' direction given element p target) = StepPointer direction given element (lvalue_view target)
+  rvalue_view (rvalue.Update' operator target_type type p target q value) =
+      Update operator target_type type (lvalue_view target) (rvalue_view value)
+  rvalue_view (rvalue.UpdatePointer' direction element p target q by) =
+      UpdatePointer direction element (lvalue_view target) (rvalue_view by)
+  rvalue_view (rvalue.Step' direction given target_type type p target) =
+      Step direction given target_type type (lvalue_view target)
+  rvalue_view (rvalue.StepPointer' direction given element p target) =
+      StepPointer direction given element (lvalue_view target)
   rvalue_view (rvalue.Call' callee p all) = Call callee (arguments_view all)
 
   pub lvalue_view : declared-lvalue.Lvalue → LvalueTree

@@ -66,7 +66,8 @@ mutual
     IfElse : Spot → (condition : RvalueTree) → (chosen other : TypedStatementTree) → TypedStatementTree
     While : Spot → (condition : RvalueTree) → TypedStatementTree → TypedStatementTree
     DoWhile : TypedStatementTree → Spot → (condition : RvalueTree) → TypedStatementTree
-    For : TypedStartTree → Spot → (condition : Option RvalueTree) → (step : Option StepTree) → TypedStatementTree → TypedStatementTree
+    For : TypedStartTree → Spot → (condition : Option RvalueTree) → (step : Option StepTree) → TypedStatementTree
+        → TypedStatementTree
     Switch : Spot → RvalueTree → TypedStatementTrees → TypedStatementTree
     Break : Spot → TypedStatementTree
     Continue : Spot → TypedStatementTree
@@ -86,7 +87,8 @@ abbrev mutual
   statement_view (statement.Empty spot) = Empty spot
   statement_view (statement.Expression spot value) = Run spot (rvalue_view value)
   statement_view (statement.If' spot condition p chosen) = If spot (rvalue_view condition) (statement_view chosen)
-  statement_view (statement.IfElse' spot condition p chosen q other) = IfElse spot (rvalue_view condition) (statement_view chosen) (statement_view other)
+  statement_view (statement.IfElse' spot condition p chosen q other) =
+      IfElse spot (rvalue_view condition) (statement_view chosen) (statement_view other)
   statement_view (statement.While' spot condition p body) = While spot (rvalue_view condition) (statement_view body)
   statement_view (statement.DoWhile' p body spot condition) = DoWhile (statement_view body) spot (rvalue_view condition)
   statement_view (statement.For' begin spot condition step p body) =

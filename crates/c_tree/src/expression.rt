@@ -3,7 +3,7 @@
 ghost use Rattle.std.specs.Prelude.{◌≡◌};
 ghost use Rattle.c_tree.specs.Expressions.{expression_view, suffix_view};
 ghost use Rattle.c_tree.specs.Cores.{core_of, core_view};
-ghost use Rattle.c_tree.specs.Ends.{first_of, last_of, suffix_last};
+ghost use Rattle.c_tree.specs.Ends.{first_spot, last_of, suffix_last};
 
 use crate::extent::{Extent, Identifier};
 use crate::operator::{AssignmentOperator, BinaryOperator, PrefixOperator};
@@ -182,7 +182,7 @@ impl Expression {
     /// Where its first token stands.
     #[tactic(auto, using(crate::proofs::Chains::suffixes_first, crate::proofs::Chains::operations_first, crate::proofs::Chains::commas_first))]
     pub fn first(&self) -> Spot
-        ensures { result ≡ first_of (expression_view self.now) }
+        ensures { result ≡ first_spot (expression_view self.now) }
     {
         match self {
             Expression::Name(identifier) => identifier.spot,

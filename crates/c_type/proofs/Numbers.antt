@@ -4,7 +4,7 @@ use Rattle.std.specs.Option.{option_map, option_copied}
 use Rattle.std.proofs.lemmas.Option.{none-some}
 use Rattle.std.proofs.lemmas.Slice.Eq.{bytes_eq-Decides}
 use Rattle.std.specs.Str.{bytes_eq}
-use Rattle.c_type.specs.Functions.{number_of}
+use Rattle.c_type.specs.Functions.{definition_number}
 use Rattle.c_type.specs.Programs.{or_else}
 
 -- the number that a last definition has, where it is the first of its name
@@ -21,10 +21,10 @@ one_more true k = refl
 one_more false k = refl
 
 -- the number of a name behind one more definition
-pub number_behind : (q n : List ℕ) (names : List (List ℕ)) → number_of q (names ++ n ∷ []) ≡ or_else (number_of q names) (last_number q n (length names))
+pub number_behind : (q n : List ℕ) (names : List (List ℕ)) → definition_number q (names ++ n ∷ []) ≡ or_else (definition_number q names) (last_number q n (length names))
 number_behind q n [] = refl
 number_behind q n (m ∷ ms) =
-    rw (number_behind q n ms, behind_first (bytes_eq m q) (number_of q ms) (last_number q n (length ms)), one_more (bytes_eq n q) (length ms), add-one) refl
+    rw (number_behind q n ms, behind_first (bytes_eq m q) (definition_number q ms) (last_number q n (length ms)), one_more (bytes_eq n q) (length ms), add-one) refl
 
 none_is : is_some {T = ℕ} None ≡ true → ⊥
 none_is h = grind (arith, h)
@@ -41,14 +41,14 @@ merged None true k h = refl
 merged None false k h = refl
 
 -- a further definition of a name that is defined changes nothing
-pub kept : (q n : List ℕ) (names : List (List ℕ)) → is_some (number_of n names) ≡ true → number_of q (names ++ n ∷ []) ≡ number_of q names
+pub kept : (q n : List ℕ) (names : List (List ℕ)) → is_some (definition_number n names) ≡ true → definition_number q (names ++ n ∷ []) ≡ definition_number q names
 kept q n names h =
-    number_behind q n names ∙ absorbed (number_of q names) (bytes_eq n q) (length names) (λ y. subst (λ x. is_some (number_of x names) ≡ true) ((bytes_eq-Decides n q).0 y) h)
+    number_behind q n names ∙ absorbed (definition_number q names) (bytes_eq n q) (length names) (λ y. subst (λ x. is_some (definition_number x names) ≡ true) ((bytes_eq-Decides n q).0 y) h)
 
 -- the first definition of a name
-pub fresh : (q n : List ℕ) (names : List (List ℕ)) → number_of n names ≡ None → number_of q (names ++ n ∷ []) ≡ (if bytes_eq n q then Some (length names) else number_of q names)
+pub fresh : (q n : List ℕ) (names : List (List ℕ)) → definition_number n names ≡ None → definition_number q (names ++ n ∷ []) ≡ (if bytes_eq n q then Some (length names) else definition_number q names)
 fresh q n names h =
-    number_behind q n names ∙ merged (number_of q names) (bytes_eq n q) (length names) (λ y. subst (λ x. number_of x names ≡ None) ((bytes_eq-Decides n q).0 y) h)
+    number_behind q n names ∙ merged (definition_number q names) (bytes_eq n q) (length names) (λ y. subst (λ x. definition_number x names ≡ None) ((bytes_eq-Decides n q).0 y) h)
 
 -- what is copied is there or is not
 pub copied_some : (o : Option (Bor ℕ)) → is_some o ≡ true → is_some (option_copied o) ≡ true

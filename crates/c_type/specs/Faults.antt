@@ -2,10 +2,16 @@
 use Rattle.std.specs.Prelude.{nat_lt, ◌==◌, List, [], ◌∷◌, Bool, ◌&&◌, ◌||◌, Option, Some, None, if◌then◌else◌}
 use Rattle.c_type_expressions.specs.declared.findings.Fault.{Fault}
 
--- a fault comes before another: it ends at an earlier token; or at the same one with a lesser code; or with the same code in a smaller construct
+-- a fault comes before another: it ends at an earlier token; or at the same one with a lesser code; or with the same
+-- code in a smaller construct
 abbrev pub comes_before : Fault → Fault → Bool
 comes_before f g =
-    nat_lt f.last g.last || (f.last == g.last && (nat_lt f.code.number g.code.number || (f.code.number == g.code.number && nat_lt g.first.at f.first.at)))
+    nat_lt f.last g.last
+    ||
+    (f.last == g.last
+    &&
+    (nat_lt f.code.number g.code.number
+    || (f.code.number == g.code.number && nat_lt g.first.at f.first.at)))
 
 -- the earlier of a fault and one that may be there; of two that tie the one that was found first
 abbrev pub earlier : Option Fault → Fault → Fault

@@ -16,17 +16,17 @@ use Rattle.c_tree.specs.declared.typed_expression.Callee.{Callee}
 use Rattle.c_tree.specs.declared.typed_expression.Callee.TheVariants as callee
 use Rattle.c_tree.specs.Expressions.{NameTree}
 use Rattle.c_tree.specs.Declarations.{ParameterTree, BracketsTree, Absent, Sized}
-use Rattle.c_tree.specs.Statements.{BlockTree, chain}
+use Rattle.c_tree.specs.Statements.{BlockTree, chain_of_statements}
 use Rattle.c_tree.specs.Programs.{TypedFunctionTree}
 use Rattle.c_tree.specs.Trees.{FunctionTree, ItemTree, Include, Declares, Defines}
 use Rattle.c_tree.specs.TypedStatements.{TypedStatementTrees}
-use Rattle.c_type_rules.specs.Types.{loaded}
+use Rattle.c_type_rules.specs.Types.{loaded_type}
 use Rattle.c_type_bounds.specs.Counts.{capped}
 use Rattle.c_type_bounds.specs.Weights.{definition_weight}
 use Rattle.c_type_expressions.specs.declared.names.Meaning.{Meaning}
 use Rattle.c_type_expressions.specs.declared.names.Meaning.TheVariants.{Variable, Function}
 use Rattle.c_type_expressions.specs.Names.{SignatureTree, meaning_of}
-use Rattle.c_type_declarations.specs.Progress.{ProgressTree, Met, means, next_met, reached_by, breaks, declares, opened, closed}
+use Rattle.c_type_declarations.specs.Progress.{ProgressTree, Met, means, next_met, reached_by, breaks, declares, opened, scope_left}
 use Rattle.c_type_declarations.specs.Objects.{size_met}
 use Rattle.c_type_declarations.specs.Declarations.{with_automatic}
 use Rattle.c_type_statements.specs.declared.setting.Setting.{Setting}
@@ -60,7 +60,8 @@ parameter_sizes (d ∷ ds) p = parameter_sizes ds (parameter_size d.extent d.bra
 -- a parameter as a variable of its function's scope, where it has a name
 abbrev pub parameter_named : Extent → Scalar → NameTree → ProgressTree → ProgressTree
 parameter_named extent s n p =
-    with_automatic n (object_type.Scalar s) (declares extent n.name (Variable (object.Automatic (length p.automatics)) (object_type.Scalar s)) p)
+    with_automatic n (object_type.Scalar s)
+    (declares extent n.name (Variable (object.Automatic (length p.automatics)) (object_type.Scalar s)) p)
 
 -- a parameter is declared, if it has a name
 abbrev pub parameter_met : ParameterTree → ProgressTree → ProgressTree
@@ -74,7 +75,7 @@ parameters_met (d ∷ ds) p = parameters_met ds (parameter_met d p)
 -- what a function gives: nothing, or a value of a scalar type
 abbrev pub result_type : Base → ℕ → ValueType
 result_type base.Void stars = value.Void
-result_type (base.Integer t) stars = loaded (record { base = t; stars = stars })
+result_type (base.Integer t) stars = loaded_type (record { base = t; stars = stars })
 
 -- the names of the functions that a source defines, in text order
 abbrev pub names_if : FunctionTree → List (List ℕ)
@@ -92,21 +93,27 @@ defined [] = []
 defined (i ∷ rest) = defined_by i ++ defined rest
 
 -- the number of a definition of a name: that of the first one
-abbrev pub number_of : List ℕ → List (List ℕ) → Option ℕ
-number_of name [] = None
-number_of name (n ∷ ns) = if bytes_eq n name then Some 0 else option_map (λ k. k + 1) (number_of name ns)
+abbrev pub definition_number : List ℕ → List (List ℕ) → Option ℕ
+definition_number name [] = None
+definition_number name (n ∷ ns) =
+    if bytes_eq n name then Some 0 else option_map (λ k. k + 1) (definition_number name ns)
 
 -- a map that tells the number of each name that is defined
 abbrev pub IsNumbering : {Y S : Type 0} → HashMap (String Y) ℕ S → List (List ℕ) → Type 0
-IsNumbering numbers names = (name : List ℕ) → get_by_text numbers name ≡ number_of name names
+IsNumbering numbers names = (name : List ℕ) → get_by_text numbers name ≡ definition_number name names
 
 -- the function of this name among those that are defined, if it is one of them
 abbrev pub callee_of : List (List ℕ) → List ℕ → Option Callee
-callee_of names name = option_map (λ k. callee.Function k) (number_of name names)
+callee_of names name = option_map (λ k. callee.Function k) (definition_number name names)
 
 -- what a function takes and gives as it is declared
 abbrev pub signature_of : List (List ℕ) → FunctionTree → SignatureTree
-signature_of names f = record { result = result_type f.base f.stars; parameters = parameter_types f.parameters; callee = callee_of names f.name.name }
+signature_of names f =
+    record {
+      result = result_type f.base f.stars;
+      parameters = parameter_types f.parameters;
+      callee = callee_of names f.name.name;
+    }
 
 -- a definition is the first of its name: its number is how many stand before it
 abbrev pub is_callee : ℕ → Option Callee → Bool
@@ -114,12 +121,12 @@ is_callee k (Some (callee.Function j)) = j == k
 is_callee k _ = false
 
 -- a function is only declared here, or this is its first definition
-abbrev pub is_first : ℕ → FunctionTree → SignatureTree → Bool
-is_first k f g = not (is_some f.body) || is_callee k g.callee
+abbrev pub is_first_definition : ℕ → FunctionTree → SignatureTree → Bool
+is_first_definition k f g = not (is_some f.body) || is_callee k g.callee
 
 -- a declaration beside an earlier one of its name: both are of one type, and one at most is a definition
 abbrev pub agrees : ℕ → FunctionTree → SignatureTree → Option SignatureTree → Bool
-agrees k f g (Some known) = same_type known g && is_first k f g
+agrees k f g (Some known) = same_type known g && is_first_definition k f g
 agrees k f g None = false
 
 -- a function is declared as it was declared before (C11 6.7 p4)
@@ -135,14 +142,26 @@ known_as k f g (Some m) p = if agrees_with k f g m p then p else breaks REDECLAR
 -- a function's name: no definition has one of the library's (E21), and declarations agree (E21)
 abbrev pub name_met : ℕ → FunctionTree → SignatureTree → ProgressTree → ProgressTree
 name_met k f g p =
-    if is_some f.body && is_library_name f.name.name then breaks REDECLARED f.extent p else known_as k f g (meaning_of p.names f.name.name) p
+    if is_some f.body && is_library_name f.name.name then breaks REDECLARED f.extent p
+    else known_as k f g (meaning_of p.names f.name.name) p
 
 -- the function that a block makes, whose variables are those from the first on
-abbrev pub function_made : FunctionTree → SignatureTree → BlockTree → ℕ → TypedStatementTrees → ProgressTree → Met (List TypedFunctionTree)
+abbrev pub function_made : FunctionTree → SignatureTree → BlockTree → ℕ → TypedStatementTrees → ProgressTree
+    → Met (List TypedFunctionTree)
 function_made f g b start ts p =
     means
-    (record { name = f.name.name; spot = f.name.spot; result = g.result; first_variable = start; parameters = length f.parameters; variables = length p.automatics - start; body = ts; close = b.closing; weight = capped (definition_weight f.parameters b) } ∷ [])
-    (closed p)
+    (record {
+      name = f.name.name;
+      spot = f.name.spot;
+      result = g.result;
+      first_variable = start;
+      parameters = length f.parameters;
+      variables = length p.automatics - start;
+      body = ts;
+      close = b.closing;
+      weight = capped (definition_weight f.parameters b);
+    } ∷ [])
+    (scope_left p)
 
 -- the setting of a function's body: its result, and outside each loop and switch
 abbrev pub setting_of : SignatureTree → Setting
@@ -151,7 +170,8 @@ setting_of g = record { result = g.result; may_break = false; may_continue = fal
 -- a function's block has the scope of its parameters
 abbrev pub body_met : FunctionTree → SignatureTree → BlockTree → ProgressTree → Met (List TypedFunctionTree)
 body_met f g b p =
-    next_met (statements_met (setting_of g) (chain b.statements) (parameters_met f.parameters (opened p))) (function_made f g b (length p.automatics))
+    next_met (statements_met (setting_of g) (chain_of_statements b.statements) (parameters_met f.parameters (opened p)))
+    (function_made f g b (length p.automatics))
 
 -- of a function that is only declared the parameters are no variables, but no two have one name (E21)
 abbrev pub without_new : ℕ → ProgressTree → ProgressTree
@@ -159,7 +179,7 @@ without_new n p = record p { automatics = take n p.automatics }
 
 -- a function that is only declared leaves none of its parameters behind
 abbrev pub declared_only : FunctionTree → ProgressTree → Met (List TypedFunctionTree)
-declared_only f p = means [] (without_new (length p.automatics) (closed (parameters_met f.parameters (opened p))))
+declared_only f p = means [] (without_new (length p.automatics) (scope_left (parameters_met f.parameters (opened p))))
 
 -- the body of a function, if it has one
 abbrev pub rest_met : FunctionTree → SignatureTree → Option BlockTree → ProgressTree → Met (List TypedFunctionTree)

@@ -48,23 +48,26 @@ is_library None = false
 
 -- the names that only the library may define
 abbrev pub is_library_name : List ℕ → Bool
-is_library_name name = bytes_eq name (codes "getchar") || bytes_eq name (codes "putchar") || bytes_eq name (codes "exit")
+is_library_name name =
+    bytes_eq name (codes "getchar") || bytes_eq name (codes "putchar") || bytes_eq name (codes "exit")
 
 -- a function with a number of its own that a name means from here on
 abbrev pub with_function : List ℕ → SignatureTree → ProgressTree → ProgressTree
 with_function name g p =
-    with_name name (Function (length p.names.signatures)) (record p { names = record (p.names) { signatures = p.names.signatures ++ g ∷ [] } })
+    with_name name (Function (length p.names.signatures))
+    (record p { names = record (p.names) { signatures = p.names.signatures ++ g ∷ [] } })
 
--- how a library function stands with a function of its name: that one may be the library's already, or be declared with the same type
+-- how a library function stands with a function of its name: that one may be the library's already, or be declared with
+-- the same type
 abbrev pub stands_with : SignatureTree → Option SignatureTree → Standing
 stands_with g None = Taken
 stands_with g (Some other) = if is_library other.callee then Known else (if same_type other g then New else Taken)
 
 -- how it stands with what its name means, among functions
-abbrev pub stands : SignatureTree → List SignatureTree → Option Meaning → Standing
-stands g functions None = New
-stands g functions (Some (Function k)) = stands_with g (slice_get functions k)
-stands g functions (Some m) = Taken
+abbrev pub standing_of : SignatureTree → List SignatureTree → Option Meaning → Standing
+standing_of g functions None = New
+standing_of g functions (Some (Function k)) = stands_with g (slice_get functions k)
+standing_of g functions (Some m) = Taken
 
 -- the name is the library's from here on, unless something else has it (E21)
 abbrev pub placed : Standing → Extent → List ℕ → SignatureTree → ProgressTree → ProgressTree
@@ -74,7 +77,8 @@ placed Taken extent name g p = breaks REDECLARED extent p
 
 -- a function of the library is declared by its header, and a fault where its name is taken by something else
 abbrev pub library_met : Extent → List ℕ → Callee → ProgressTree → ProgressTree
-library_met extent name c p = placed (stands (library c) p.names.signatures (meaning_of p.names name)) extent name (library c) p
+library_met extent name c p =
+    placed (standing_of (library c) p.names.signatures (meaning_of p.names name)) extent name (library c) p
 
 -- `EOF`, which nothing else may be called (E21)
 abbrev pub end_beside : Extent → Option Meaning → ProgressTree → ProgressTree
@@ -93,5 +97,7 @@ at_spot spot = record { first = spot; last = spot.at }
 -- what an include declares: getchar, putchar and EOF, or exit
 abbrev pub included : Spot → Header → ProgressTree → ProgressTree
 included spot header.Stdio p =
-    end_met (at_spot spot) (library_met (at_spot spot) (codes "putchar") callee.Putchar (library_met (at_spot spot) (codes "getchar") callee.Getchar p))
+    end_met (at_spot spot)
+    (library_met (at_spot spot) (codes "putchar") callee.Putchar
+    (library_met (at_spot spot) (codes "getchar") callee.Getchar p))
 included spot header.Stdlib p = library_met (at_spot spot) (codes "exit") callee.Exit p

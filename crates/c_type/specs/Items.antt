@@ -19,14 +19,21 @@ abbrev pub behind_item : List (List ℕ) → List TypedFunctionTree → ItemTree
 behind_item names fs i p = next_met (item_met names (length fs) i p) (λ more. means (fs ++ more))
 
 -- the items of a program, one after the other, behind these functions
-abbrev pub items_met : List (List ℕ) → List TypedFunctionTree → List ItemTree → ProgressTree → Met (List TypedFunctionTree)
+abbrev pub items_met : List (List ℕ) → List TypedFunctionTree → List ItemTree → ProgressTree
+    → Met (List TypedFunctionTree)
 items_met names fs [] p = means fs p
 items_met names fs (i ∷ rest) p = next_met (behind_item names fs i p) (λ gs. items_met names gs rest)
 
 -- before the first item nothing is declared
 abbrev pub beginning : ProgressTree
 beginning =
-    record { names = record { signatures = []; scopes = empty_scope ∷ [] }; found = record { faults = []; undefined = []; literals = [] }; statics = []; automatics = []; array_literals = [] }
+    record {
+      names = record { signatures = []; scopes = empty_scope ∷ [] };
+      found = record { faults = []; undefined = []; literals = [] };
+      statics = [];
+      automatics = [];
+      array_literals = [];
+    }
 
 -- a source
 abbrev pub source_met : List ItemTree → Met (List TypedFunctionTree)

@@ -18,7 +18,7 @@ use Rattle.c_type_bounds.specs.Bounds.{behind_functions, program_breach}
 use Rattle.c_type_expressions.specs.declared.findings.Fault.{Fault}
 use Rattle.c_type_declarations.specs.Progress.{ProgressTree, means}
 use Rattle.c_type.specs.Faults.{first_fault}
-use Rattle.c_type.specs.Functions.{defined, number_of, result_type}
+use Rattle.c_type.specs.Functions.{defined, definition_number, result_type}
 use Rattle.c_type.specs.Items.{source_met}
 
 -- a refusal: a code and a line
@@ -99,12 +99,20 @@ main_refusal items None = Some (no_definition (first_misdeclared items))
 
 -- the number of `main` among the functions
 abbrev pub main_number : List ItemTree → ℕ
-main_number items = option_map_or (λ k. k) (number_of main (defined items)) 0
+main_number items = option_map_or (λ k. k) (definition_number main (defined items)) 0
 
 -- a program of such functions, objects and literals
 abbrev pub program_with : List TypedFunctionTree → ℕ → ProgressTree → List AutomaticTree → ℕ → ProgramTree
 program_with fs main p vs weight =
-    record { functions = fs; main = main; statics = p.statics; automatics = vs; literals = p.found.literals; array_literals = p.array_literals; weight = weight }
+    record {
+      functions = fs;
+      main = main;
+      statics = p.statics;
+      automatics = vs;
+      literals = p.found.literals;
+      array_literals = p.array_literals;
+      weight = weight;
+    }
 
 -- the program of a source, whose names and types are in order
 abbrev pub program_of : List ItemTree → List TypedFunctionTree → ProgressTree → List AutomaticTree → ProgramTree
@@ -116,12 +124,15 @@ within_program_limits program = option_map_or (λ code. Err (code, 1)) (program_
 
 -- the fourth step: the limits of each function, in text order, and then those of the program
 abbrev pub within_function_limits : List ItemTree → List TypedFunctionTree → ProgressTree → Result ProgramTree Refusal
-within_function_limits items fs p = elim (behind_functions 0 fs p.automatics) [ Ok vs ↦ within_program_limits (program_of items fs p vs) | Err r ↦ Err r ]
+within_function_limits items fs p =
+    elim (behind_functions 0 fs p.automatics)
+    [ Ok vs ↦ within_program_limits (program_of items fs p vs) | Err r ↦ Err r ]
 
 -- the first three steps
 abbrev pub names_refusal : List ItemTree → ProgressTree → Option Refusal
 names_refusal items p =
-    or_else (fault_refusal (first_fault p.found.faults)) (or_else (undefined_refusal p.found.undefined) (main_refusal items (main_definition items)))
+    or_else (fault_refusal (first_fault p.found.faults))
+    (or_else (undefined_refusal p.found.undefined) (main_refusal items (main_definition items)))
 
 -- the last two, where the first three find no reason
 abbrev pub unless_refused : Option Refusal → Result ProgramTree Refusal → Result ProgramTree Refusal

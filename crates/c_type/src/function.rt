@@ -8,7 +8,7 @@ ghost use Rattle.c_tree.specs.Expressions.{identifier_view};
 ghost use Rattle.c_tree.specs.Statements.{block_view};
 ghost use Rattle.c_tree.specs.Programs.{function_view as typed_view};
 ghost use Rattle.c_tree.specs.Trees.{function_view};
-ghost use Rattle.c_type.specs.Functions.{IsNumbering, agrees_with, body_met, declared_only, function_met, is_first, name_met, parameter_met, parameter_named, parameter_size, parameter_sizes, parameter_type, parameter_types, parameters_met, result_type, signature_of};
+ghost use Rattle.c_type.specs.Functions.{IsNumbering, agrees_with, body_met, declared_only, function_met, is_first_definition, name_met, parameter_met, parameter_named, parameter_size, parameter_sizes, parameter_type, parameter_types, parameters_met, result_type, signature_of};
 ghost use Rattle.c_type_declarations.specs.Progress.{means, progress_view};
 ghost use Rattle.c_type_expressions.specs.Names.{SignatureTree, signature_view};
 
@@ -177,7 +177,7 @@ fn signature(
 
 /// Whether a function is no definition, or the first of its name, behind so many definitions.
 fn is_first(before: usize, f: &Function, signature: &Signature) -> bool
-    ensures { result ≡ is_first before (function_view f.now) (signature_view signature.now) }
+    ensures { result ≡ is_first_definition before (function_view f.now) (signature_view signature.now) }
 {
     if f.body.is_none() {
         return true;

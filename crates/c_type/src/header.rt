@@ -2,7 +2,7 @@
 
 ghost use Rattle.std.specs.Prelude.{◌≡◌, IfOk, OnOk, map};
 ghost use Rattle.std.specs.Option.{option_map};
-ghost use Rattle.c_type.specs.Headers.{end_beside, end_met, included, is_library, is_library_name, library, library_met, same_scalars, same_type, stands, with_function};
+ghost use Rattle.c_type.specs.Headers.{end_beside, end_met, included, is_library, is_library_name, library, library_met, same_scalars, same_type, standing_of, with_function};
 ghost use Rattle.c_type_declarations.specs.Progress.{progress_view};
 ghost use Rattle.c_type_expressions.specs.Names.{meaning_of, signature_view};
 
@@ -111,7 +111,7 @@ enum Standing {
 
 /// How a library function goes with what its name means.
 fn stands(progress: &Progress, name: &str, signature: &Signature) -> Standing
-    ensures { result ≡ stands (signature_view signature.now) (progress_view progress.now).names.signatures
+    ensures { result ≡ standing_of (signature_view signature.now) (progress_view progress.now).names.signatures
         (meaning_of (progress_view progress.now).names name.now) }
 {
     match progress.names.meaning(name) {

@@ -4,7 +4,7 @@ use Rattle.std.specs.Prelude.{fold, map, sum_by}
 use Rattle.std.proofs.lemmas.List.{map_push, take_more}
 use Rattle.std.proofs.lemmas.List.Sums.{fold-append, sum_by-cons}
 use Rattle.c_tree.specs.declared.expression.Suffix.{Suffix}
-use Rattle.c_tree.specs.Expressions.{ExpressionTree, chain, suffix_view, suffixed}
+use Rattle.c_tree.specs.Expressions.{ExpressionTree, chain_of_arguments, suffix_view, suffixed}
 use Rattle.c_tree.specs.Declarations.{InitializerTree}
 use Rattle.c_tree.specs.Declarations as declaration
 use Rattle.c_tree.specs.declared.statement.Statement.{Statement, Statement-F, fold-roll-Statement}
@@ -15,11 +15,11 @@ use Rattle.c_tree.specs.Statements.{StatementTree, BlockTree, BranchTree, LabelT
 use Rattle.c_tree.specs.Statements as statement
 use Rattle.c_type_bounds.specs.Weights.{weight_of, weight_of_all, initializer_weight, initializers_weight, statement_weight, statements_weight, branch_weight, label_weight}
 
-pub arguments_weigh : (es : List ExpressionTree) → weight_of_all (chain es) ≡ sum_by weight_of es
+pub arguments_weigh : (es : List ExpressionTree) → weight_of_all (chain_of_arguments es) ≡ sum_by weight_of es
 arguments_weigh [] = refl
 arguments_weigh (e ∷ es) = ap (λ n. weight_of e + n) (arguments_weigh es) ∙ sym (sum_by-cons weight_of e es)
 
-pub initializers_weigh : (is : List InitializerTree) → initializers_weight (declaration.chain is) ≡ sum_by initializer_weight is
+pub initializers_weigh : (is : List InitializerTree) → initializers_weight (declaration.chain_of_initializers is) ≡ sum_by initializer_weight is
 initializers_weigh [] = refl
 initializers_weigh (i ∷ is) = ap (λ n. initializer_weight i + n) (initializers_weigh is) ∙ sym (sum_by-cons initializer_weight i is)
 
@@ -30,7 +30,7 @@ suffix_more e xs i x here lt =
     ap (λ ys. fold suffixed e (map suffix_view ys)) (take_more xs i x lt ∙ ap (λ y. take i xs ++ y ∷ []) (sym here))
     ∙ ap (fold suffixed e) (map_push suffix_view (take i xs) x) ∙ fold-append suffixed e (map suffix_view (take i xs)) (suffix_view x ∷ [])
 
-pub statements_weigh : (ss : List StatementTree) → statements_weight (statement.chain ss) ≡ sum_by statement_weight ss
+pub statements_weigh : (ss : List StatementTree) → statements_weight (statement.chain_of_statements ss) ≡ sum_by statement_weight ss
 statements_weigh [] = refl
 statements_weigh (s ∷ ss) = ap (λ n. statement_weight s + n) (statements_weigh ss) ∙ sym (sum_by-cons statement_weight s ss)
 

@@ -10,15 +10,15 @@ use Rattle.c_places.specs.Memory.{kept_by_all}
 use Rattle.c_type_bounds.specs.Visible.{visible_pairs}
 
 -- variables of which one is in memory
-abbrev pub kept : ℕ → List AutomaticTree → List AutomaticTree
-kept k [] = []
-kept zero (v ∷ vs) = record v { in_memory = true } ∷ vs
-kept (suc k) (v ∷ vs) = v ∷ kept k vs
+abbrev pub with_one_in_memory : ℕ → List AutomaticTree → List AutomaticTree
+with_one_in_memory k [] = []
+with_one_in_memory zero (v ∷ vs) = record v { in_memory = true } ∷ vs
+with_one_in_memory (suc k) (v ∷ vs) = v ∷ with_one_in_memory k vs
 
 -- variables of which so many are in memory
-abbrev pub kept_all : List ℕ → List AutomaticTree → List AutomaticTree
-kept_all [] vs = vs
-kept_all (k ∷ ks) vs = kept_all ks (kept k vs)
+abbrev pub with_all_in_memory : List ℕ → List AutomaticTree → List AutomaticTree
+with_all_in_memory [] vs = vs
+with_all_in_memory (k ∷ ks) vs = with_all_in_memory ks (with_one_in_memory k vs)
 
 -- the bytes that an object takes where it is kept in memory
 abbrev pub kept_room : AutomaticTree → ℕ
@@ -48,14 +48,18 @@ text_room l = room (length l.bytes)
 abbrev pub literal_room : List LiteralTree → ℕ
 literal_room = sum_by text_room
 
--- the limits of a function: it weighs 3,000 at most (L03), its memory objects take 4,096 bytes at most (L05), it is one of the first 256, and has 8 parameters at most (L07)
+-- the limits of a function: it weighs 3,000 at most (L03), its memory objects take 4,096 bytes at most (L05), it is one
+-- of the first 256, and has 8 parameters at most (L07)
 abbrev pub function_breach : ℕ → TypedFunctionTree → List AutomaticTree → Option Code
 function_breach number f vs =
-    if nat_lt 3000 f.weight then Some FUNCTION_WEIGHT else (if nat_lt 4096 (memory_room (variables_of f vs)) then Some FUNCTION_OBJECTS else (if nat_lt 255 number || nat_lt 8 f.parameters then Some FUNCTION_COUNT else None))
+    if nat_lt 3000 f.weight then Some FUNCTION_WEIGHT
+    else
+    (if nat_lt 4096 (memory_room (variables_of f vs)) then Some FUNCTION_OBJECTS
+    else (if nat_lt 255 number || nat_lt 8 f.parameters then Some FUNCTION_COUNT else None))
 
 -- the automatic variables with what a function keeps in memory
 abbrev pub with_kept : TypedFunctionTree → List AutomaticTree → List AutomaticTree
-with_kept f vs = kept_all (kept_by_all f.body []) vs
+with_kept f vs = with_all_in_memory (kept_by_all f.body []) vs
 
 -- a breach is on the line of the function's name
 abbrev pub or_breach : Option Code → ℕ → List AutomaticTree → Result (List AutomaticTree) (Code × ℕ)
@@ -69,18 +73,24 @@ behind_function number f vs = or_breach (function_breach number f (with_kept f v
 -- the functions in text order, with the number of the first one
 abbrev pub behind_functions : ℕ → List TypedFunctionTree → List AutomaticTree → Result (List AutomaticTree) (Code × ℕ)
 behind_functions number [] vs = Ok vs
-behind_functions number (f ∷ fs) vs = elim (behind_function number f vs) [ Ok ws ↦ behind_functions (number + 1) fs ws | Err e ↦ Err e ]
+behind_functions number (f ∷ fs) vs =
+    elim (behind_function number f vs) [ Ok ws ↦ behind_functions (number + 1) fs ws | Err e ↦ Err e ]
 
 -- the bytes that the static objects of a program take, its literals among them, also those that initialise arrays
 abbrev pub objects_room : ProgramTree → ℕ
 objects_room p = static_room p.statics + literal_room p.literals + literal_room p.array_literals
 
--- the limits of a program: it weighs 4,000 at most (L04), its static objects take 1 MiB at most (L06), and at its places 1,000,000 variables are visible at most (L08)
+-- the limits of a program: it weighs 4,000 at most (L04), its static objects take 1 MiB at most (L06), and at its
+-- places 1,000,000 variables are visible at most (L08)
 abbrev pub program_breach : ProgramTree → Option Code
 program_breach p =
-    if nat_lt 4000 p.weight then Some PROGRAM_WEIGHT else (if nat_lt 1048576 (objects_room p) then Some STATIC_OBJECTS else (if nat_lt 1000000 (visible_pairs p) then Some VISIBLE_PAIRS else None))
+    if nat_lt 4000 p.weight then Some PROGRAM_WEIGHT
+    else
+    (if nat_lt 1048576 (objects_room p) then Some STATIC_OBJECTS
+    else (if nat_lt 1000000 (visible_pairs p) then Some VISIBLE_PAIRS else None))
 
--- what the check of functions answers: their variables as marked, or the refusal, but for the want of memory, which says nothing of them
+-- what the check of functions answers: their variables as marked, or the refusal, but for the want of memory, which
+-- says nothing of them
 abbrev pub Marks : {U X : Type 0} → Result U SourceErr → X → Result X (Code × ℕ) → Type 0
 Marks (Ok u) new outcome = outcome ≡ Ok new
 Marks (Err e) new outcome = Refuses e outcome

@@ -1,4 +1,5 @@
--- How many variables are visible at the places of a program, in all: at each place those automatic ones in whose scope it stands, but for those that an inner name hides.
+-- How many variables are visible at the places of a program, in all: at each place those automatic ones in whose scope
+-- it stands, but for those that an inner name hides.
 use Rattle.std.specs.Prelude.{ℕ, ◌+◌, List, [], ◌∷◌, ◌++◌, length, map, sum_by, Option, Some, None, if◌then◌else◌}
 use Rattle.std.specs.List.{list_any}
 use Rattle.std.specs.Borrow.{Bor}
@@ -17,7 +18,8 @@ visible_at automatics places = sum_by (λ (place : Place). length (visible autom
 abbrev pub visible_pairs : ProgramTree → ℕ
 visible_pairs p = visible_at p.automatics (places_of_program p)
 
--- The walk that counts them goes over the text once, and carries the visible names. What follows says what it counts and which names it carries.
+-- The walk that counts them goes over the text once, and carries the visible names. What follows says what it counts
+-- and which names it carries.
 
 -- names, as a program has them
 abbrev pub names_view : List (Bor (List ℕ)) → List (List ℕ)
@@ -84,7 +86,8 @@ module _ (automatics : List AutomaticTree) where
     at_statement (While spot c s) names = length names + at_statement s names
     at_statement (DoWhile s spot c) names = length names + at_statement s names
     at_statement (For start spot c step s) names =
-        at_start start names + at_head c (behind_start start names) names + at_step step (behind_start start names) + at_statement s (behind_start start names)
+        at_start start names + at_head c (behind_start start names) names + at_step step (behind_start start names)
+        + at_statement s (behind_start start names)
     at_statement (Switch spot a all) names = length names + at_statements all names
     at_statement (Break spot) names = length names
     at_statement (Continue spot) names = length names

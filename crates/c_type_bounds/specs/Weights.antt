@@ -1,5 +1,6 @@
--- What sources weigh: each node of an expression, each statement, block and label, each list in braces, each parameter and each function 1, a declarator and `++` and `--` 2.
--- Parentheses weigh nothing, nor do the name in a call and what is under `sizeof`.
+-- What sources weigh: each node of an expression, each statement, block and label, each list in braces, each parameter
+-- and each function 1, a declarator and `++` and `--` 2. Parentheses weigh nothing, nor do the name in a call and what
+-- is under `sizeof`.
 use Rattle.std.specs.Prelude.{ℕ, ◌+◌, List, sum_by, Bool, true, false, Option, Some, None, if◌then◌else◌}
 use Rattle.c_tree.specs.declared.operator.BinaryOperator.{BinaryOperator}
 use Rattle.c_tree.specs.declared.expression.Expression.{Expression}
@@ -10,7 +11,7 @@ use Rattle.c_tree.specs.Expressions.{ExpressionTree, expression_view, Name, Cons
 use Rattle.c_tree.specs.Expressions as expression
 use Rattle.c_tree.specs.Declarations.{BracketsTree, Absent, Empty, Sized, InitializerTree, Value, Braces, InitializerTrees, DeclaratorTree, DeclarationTree, ParameterTree}
 use Rattle.c_tree.specs.Declarations as declaration
-use Rattle.c_tree.specs.Statements.{StartTree, StatementTree, StatementTrees, BlockTree, BranchTree, LabelTree, CaseLabel, DefaultLabel, chain}
+use Rattle.c_tree.specs.Statements.{StartTree, StatementTree, StatementTrees, BlockTree, BranchTree, LabelTree, CaseLabel, DefaultLabel, chain_of_statements}
 use Rattle.c_tree.specs.Statements as statement
 use Rattle.c_tree.specs.Trees.{ItemTree, Include, Declares, Defines}
 
@@ -30,12 +31,12 @@ is_named (Named n) = true
 is_named _ = false
 
 -- an expression is a name, perhaps in parentheses
-abbrev pub is_name : ExpressionTree → Bool
-is_name e = is_named (core_of e)
+abbrev pub is_name_expression : ExpressionTree → Bool
+is_name_expression e = is_named (core_of e)
 
 -- the weight of what is called: a name is no node
 abbrev pub called_weight : ExpressionTree → ℕ → ℕ
-called_weight e weight = if is_name e then 0 else weight
+called_weight e weight = if is_name_expression e then 0 else weight
 
 abbrev mutual
   -- the weight of an expression: one for each of its parts
@@ -114,7 +115,8 @@ abbrev mutual
   statement_weight (statement.IfElse spot c s t) = 1 + weight_of c + statement_weight s + statement_weight t
   statement_weight (statement.While spot c s) = 1 + weight_of c + statement_weight s
   statement_weight (statement.DoWhile extent s c) = 1 + weight_of c + statement_weight s
-  statement_weight (statement.For spot start c step s) = 1 + start_weight start + weight_if_any c + weight_if_any step + statement_weight s
+  statement_weight (statement.For spot start c step s) =
+      1 + start_weight start + weight_if_any c + weight_if_any step + statement_weight s
   statement_weight (statement.Switch spot e opening all closing) = 2 + weight_of e + statements_weight all
   statement_weight (statement.Case extent e s) = 1 + weight_of e + statement_weight s
   statement_weight (statement.Default extent s) = 1 + statement_weight s
@@ -145,7 +147,7 @@ parameters_weight = sum_by parameter_weight
 
 -- a function's definition: it, its parameters and its block
 abbrev pub definition_weight : List ParameterTree → BlockTree → ℕ
-definition_weight ps b = 2 + parameters_weight ps + statements_weight (chain b.statements)
+definition_weight ps b = 2 + parameters_weight ps + statements_weight (chain_of_statements b.statements)
 
 -- a function that is only declared weighs nothing
 abbrev pub function_weight : List ParameterTree → Option BlockTree → ℕ

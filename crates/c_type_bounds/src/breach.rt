@@ -2,7 +2,7 @@
 
 ghost use Rattle.std.specs.Prelude.{◌≡◌, IfOk, OnOk, drop, map, take};
 ghost use Rattle.c_tree.specs.Programs.{automatic_view, function_view, program_view};
-ghost use Rattle.c_type_bounds.specs.Bounds.{Marks, behind_function, behind_functions, kept, kept_all, objects_room, program_breach, with_kept};
+ghost use Rattle.c_type_bounds.specs.Bounds.{Marks, behind_function, behind_functions, with_one_in_memory, with_all_in_memory, objects_room, program_breach, with_kept};
 ghost use Rattle.c_type_bounds.specs.Counts.{capped};
 
 use crate::count::plus;
@@ -15,7 +15,7 @@ use std::alloc::{AllocError, Global};
 
 /// Marks a variable as kept in memory.
 fn keep(automatics: &mut [AutomaticVariable], number: u32)
-    ensures { map automatic_view automatics.new ≡ kept number (map automatic_view automatics.old) }
+    ensures { map automatic_view automatics.new ≡ with_one_in_memory number (map automatic_view automatics.old) }
 {
     let place = number as usize;
     if place < automatics.len() {
@@ -25,7 +25,7 @@ fn keep(automatics: &mut [AutomaticVariable], number: u32)
 
 /// Marks variables as kept in memory.
 fn keep_all(automatics: &mut [AutomaticVariable], numbers: &[u32])
-    ensures { map automatic_view automatics.new ≡ kept_all numbers.now (map automatic_view automatics.old) }
+    ensures { map automatic_view automatics.new ≡ with_all_in_memory numbers.now (map automatic_view automatics.old) }
 {
     for number in numbers {
         keep(automatics, *number);

@@ -2,10 +2,10 @@
 
 ghost use Rattle.std.specs.Prelude.{◌≡◌, fold, map};
 ghost use Rattle.std.specs.Option.{option_map};
-ghost use Rattle.c_tree.specs.Declarations.{brackets_view, chain as initializer_chain, declarator_view, initializer_view};
-ghost use Rattle.c_tree.specs.Expressions.{Comma, ExpressionTree, chain, expression_view, operation, suffix_view, suffixed};
+ghost use Rattle.c_tree.specs.Declarations.{brackets_view, chain_of_initializers as initializer_chain, declarator_view, initializer_view};
+ghost use Rattle.c_tree.specs.Expressions.{Comma, ExpressionTree, chain_of_arguments, expression_view, operation, suffix_view, suffixed};
 ghost use Rattle.c_type_bounds.specs.Counts.{capped};
-ghost use Rattle.c_type_bounds.specs.Weights.{declarator_weight, declarators_weight, initial_weight, initializer_weight, initializers_weight, is_name as named, operation_view, prefix_weight, size_weight, weight_if_any, weight_of, weight_of_all};
+ghost use Rattle.c_type_bounds.specs.Weights.{declarator_weight, declarators_weight, initial_weight, initializer_weight, initializers_weight, is_name_expression as named, operation_view, prefix_weight, size_weight, weight_if_any, weight_of, weight_of_all};
 
 use crate::count::plus;
 use c_tree::{
@@ -134,7 +134,7 @@ fn suffix_weight(operand: u64, is_name: bool, suffix: &Suffix) -> u64
 /// What arguments weigh.
 #[cycle(weight)]
 fn weight_of_all(all: &[Expression]) -> u64
-    ensures { result ≡ capped (weight_of_all (chain (map expression_view all.now))) }
+    ensures { result ≡ capped (weight_of_all (chain_of_arguments (map expression_view all.now))) }
 {
     let mut total = 0;
     for e in all {

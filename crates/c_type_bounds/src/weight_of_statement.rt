@@ -2,7 +2,7 @@
 
 ghost use Rattle.std.specs.Prelude.{◌≡◌, map, sum_by};
 ghost use Rattle.c_tree.specs.Declarations.{parameter_view};
-ghost use Rattle.c_tree.specs.Statements.{block_view, branch_view, chain, label_view, start_view, statement_view};
+ghost use Rattle.c_tree.specs.Statements.{block_view, branch_view, chain_of_statements, label_view, start_view, statement_view};
 ghost use Rattle.c_tree.specs.Trees.{item_view, tree_view};
 ghost use Rattle.c_type_bounds.specs.Counts.{capped};
 ghost use Rattle.c_type_bounds.specs.Weights.{branch_weight, definition_weight, item_weight, items_weight, label_weight, parameter_weight, parameters_weight, start_weight, statement_weight, statements_weight};
@@ -120,7 +120,7 @@ fn branches_weight(all: &[Branch]) -> u64
 /// What statements weigh.
 #[cycle(statement_weight)]
 fn statements_weight(all: &[Statement]) -> u64
-    ensures { result ≡ capped (statements_weight (chain (map statement_view all.now))) }
+    ensures { result ≡ capped (statements_weight (chain_of_statements (map statement_view all.now))) }
 {
     let mut total = 0;
     for one in all {

@@ -20,16 +20,43 @@ is_array (object.Array element size) = true
 
 -- one more automatic object; an array is in memory, of a scalar its function tells later
 abbrev pub with_automatic : NameTree → ObjectType → ProgressTree → ProgressTree
-with_automatic n of p = record p { automatics = p.automatics ++ record { name = n.name; spot = n.spot; of = of; in_memory = is_array of } ∷ [] }
+with_automatic n of p =
+    record
+    p {
+      automatics = p.automatics ++ record {
+        name = n.name;
+        spot = n.spot;
+        of = of;
+        in_memory = is_array of;
+      } ∷ [];
+    }
 
 -- one more static object
-abbrev pub with_static : NameTree → ObjectType → Contents → ProgressTree → ProgressTree
-with_static n of c p = record p { statics = p.statics ++ record { name = n.name; spot = n.spot; of = of; bytes = c.bytes; relocations = c.relocations } ∷ [] }
+abbrev pub with_static_object : NameTree → ObjectType → Contents → ProgressTree → ProgressTree
+with_static_object n of c p =
+    record
+    p {
+      statics = p.statics ++ record {
+        name = n.name;
+        spot = n.spot;
+        of = of;
+        bytes = c.bytes;
+        relocations = c.relocations;
+      } ∷ [];
+    }
 
 -- a declarator in a function
 abbrev pub automatic_of_type : DeclaratorTree → ObjectType → ProgressTree → Met DeclaredTree
 automatic_of_type d of p =
-    next_met (initial_met of d.extent d.initializer (with_automatic d.name of (declares d.extent d.name.name (Variable (Automatic (length p.automatics)) of) p))) (λ i. means (record { variable = length p.automatics; spot = d.name.spot; initial = i }))
+    next_met
+    (initial_met of d.extent d.initializer
+    (with_automatic d.name of
+    (declares d.extent d.name.name (Variable (Automatic (length p.automatics)) of) p)))
+    (λ i. means (record {
+      variable = length p.automatics;
+      spot = d.name.spot;
+      initial = i;
+    }))
 
 -- an automatic variable is declared
 abbrev pub automatic_met : IntegerType → DeclaratorTree → ProgressTree → Met DeclaredTree
@@ -38,7 +65,8 @@ automatic_met t d p = next_met (type_met (record { base = t; stars = d.stars }) 
 -- automatic variables are declared, one after the other
 abbrev pub automatics_met : IntegerType → List DeclaratorTree → ProgressTree → Met (List DeclaredTree)
 automatics_met t [] p = means [] p
-automatics_met t (d ∷ ds) p = next_met (automatic_met t d p) (λ one q. next_met (automatics_met t ds q) (λ rest. means (one ∷ rest)))
+automatics_met t (d ∷ ds) p =
+    next_met (automatic_met t d p) (λ one q. next_met (automatics_met t ds q) (λ rest. means (one ∷ rest)))
 
 -- a declaration in a function
 abbrev pub declaration_met : DeclarationTree → ProgressTree → Met (List DeclaredTree)
@@ -47,7 +75,10 @@ declaration_met d p = automatics_met d.type d.declarators p
 -- a declarator at file scope
 abbrev pub static_of_type : DeclaratorTree → ObjectType → ProgressTree → ProgressTree
 static_of_type d of p =
-    reached_by (contents_met of d.extent d.initializer (declares d.extent d.name.name (Variable (Static (length p.statics)) of) p)) (with_static d.name of)
+    reached_by
+    (contents_met of d.extent d.initializer
+    (declares d.extent d.name.name (Variable (Static (length p.statics)) of) p))
+    (with_static_object d.name of)
 
 -- a static variable is declared
 abbrev pub static_met : IntegerType → DeclaratorTree → ProgressTree → ProgressTree

@@ -12,8 +12,8 @@ use Rattle.c_tree.specs.Declarations.{InitializerTree, Value, Braces, Initialize
 use Rattle.c_tree.specs.TypedExpressions.{RvalueTree, Null}
 use Rattle.c_tree.specs.TypedStatements as typed-tree
 use Rattle.c_tree.specs.TypedStatements.{InitialTree, Zero}
-use Rattle.c_type_rules.specs.Types.{loaded}
-use Rattle.c_type_values.specs.Values.{ValueTree, converted}
+use Rattle.c_type_rules.specs.Types.{loaded_type}
+use Rattle.c_type_values.specs.Values.{ValueTree, converted_value}
 use Rattle.c_type_expressions.specs.Expressions.{is_zero}
 use Rattle.c_type_declarations.specs.Progress.{ProgressTree, Met, means, next_met, reached_by, value_met, breaks}
 use Rattle.c_type_declarations.specs.Objects.{literal_for, only_in, count}
@@ -25,7 +25,7 @@ or_misfit None extent p = means None (breaks INITIALIZER extent p)
 
 -- a value as if assigned to an object of a scalar type (E27)
 abbrev pub fitted : Scalar → Extent → Bool → Option ValueTree → ProgressTree → Met (Option ValueTree)
-fitted s extent zero (Some v) p = or_misfit (converted v (loaded s) zero) extent p
+fitted s extent zero (Some v) p = or_misfit (converted_value v (loaded_type s) zero) extent p
 fitted s extent zero None p = means None p
 
 -- the value that initialises a scalar, and a fault where it does not fit (C11 6.7.9 p11)
@@ -47,7 +47,8 @@ abbrev pub misfit_met : Extent → ExpressionTree → ProgressTree → ProgressT
 misfit_met extent e p = reached_by (value_met e p) (λ v. breaks INITIALIZER extent)
 
 -- an initializer of a scalar: an expression, perhaps in braces of its own (E27)
-abbrev pub braces_met : Scalar → Extent → Option ExpressionTree → InitializerTrees → ProgressTree → Met (Option ValueTree)
+abbrev pub braces_met : Scalar → Extent → Option ExpressionTree → InitializerTrees → ProgressTree
+    → Met (Option ValueTree)
 braces_met s extent (Some e) all p = fitting s extent e p
 braces_met s extent None all p = means None (looked_at all (breaks INITIALIZER extent p))
 
@@ -57,14 +58,16 @@ scalar_met s extent (Value e) p = fitting s extent e p
 scalar_met s extent (Braces all) p = braces_met s extent (only_in all) all p
 
 -- what an expression computes; of one at fault nothing
-abbrev pub tree_of : Option ValueTree → RvalueTree
-tree_of (Some v) = v.tree
-tree_of None = Null
+abbrev pub computed_tree : Option ValueTree → RvalueTree
+computed_tree (Some v) = v.tree
+computed_tree None = Null
 
 -- initializers of elements, in order
 abbrev pub elements_met : Scalar → Extent → InitializerTrees → ProgressTree → Met (List RvalueTree)
 elements_met s extent none p = means [] p
-elements_met s extent (first i more) p = next_met (scalar_met s extent i p) (λ v q. next_met (elements_met s extent more q) (λ vs. means (tree_of v ∷ vs)))
+elements_met s extent (first i more) p =
+    next_met (scalar_met s extent i p)
+    (λ v q. next_met (elements_met s extent more q) (λ vs. means (computed_tree v ∷ vs)))
 
 -- there are no more initializers than elements (E27)
 abbrev pub within_count : ℕ → ℕ → Extent → ProgressTree → ProgressTree
@@ -72,20 +75,26 @@ within_count given size extent p = if nat_lt size given then breaks INITIALIZER 
 
 -- a literal that initialises an automatic array: all its bytes, but perhaps for the final zero, have room (E27)
 abbrev pub with_array_literal : Spot → List ℕ → ProgressTree → ProgressTree
-with_array_literal spot bytes p = record p { array_literals = p.array_literals ++ record { spot = spot; bytes = bytes ++ 0 ∷ [] } ∷ [] }
+with_array_literal spot bytes p =
+    record p { array_literals = p.array_literals ++ record { spot = spot; bytes = bytes ++ 0 ∷ [] } ∷ [] }
 
 -- what initialises an array of characters by a string literal (C11 6.7.9 p14)
 abbrev pub array_literal_met : ℕ → Extent → Spot × List ℕ → ProgressTree → Met InitialTree
-array_literal_met size extent l p = means (typed-tree.Literal (length p.array_literals)) (with_array_literal l.0 l.1 (within_count (length l.1) size extent p))
+array_literal_met size extent l p =
+    means (typed-tree.Literal (length p.array_literals))
+    (with_array_literal l.0 l.1 (within_count (length l.1) size extent p))
 
 -- an array's initializer: a list in braces (E27)
 abbrev pub list_met : Scalar → ℕ → Extent → InitializerTree → ProgressTree → Met InitialTree
-list_met element size extent (Braces all) p = next_met (elements_met element extent all (within_count (count all) size extent p)) (λ vs. means (typed-tree.Elements vs))
+list_met element size extent (Braces all) p =
+    next_met (elements_met element extent all (within_count (count all) size extent p))
+    (λ vs. means (typed-tree.Elements vs))
 list_met element size extent (Value e) p = means Zero (misfit_met extent e p)
 
 -- what an initializer writes into an automatic object
 abbrev pub written_met : ObjectType → Extent → InitializerTree → ProgressTree → Met InitialTree
-written_met (object.Scalar s) extent i p = next_met (scalar_met s extent i p) (λ v. means (typed-tree.Scalar (tree_of v)))
+written_met (object.Scalar s) extent i p =
+    next_met (scalar_met s extent i p) (λ v. means (typed-tree.Scalar (computed_tree v)))
 written_met (object.Array element size) extent i p =
     option_map_or (λ l. array_literal_met size extent l p) (literal_for element i) (list_met element size extent i p)
 

@@ -12,12 +12,12 @@ use Rattle.c_tree.specs.Expressions.{ExpressionTree}
 use Rattle.c_tree.specs.Declarations.{BracketsTree, Absent, Empty, Sized, InitializerTree, Value, Braces, InitializerTrees, none, first, DeclaratorTree}
 use Rattle.c_type_rules.specs.Types.{same_integer}
 use Rattle.c_type_values.specs.Values.{ValueTree}
-use Rattle.c_type_expressions.specs.Judgements.{count_of}
+use Rattle.c_type_expressions.specs.Judgements.{array_count}
 use Rattle.c_type_declarations.specs.Progress.{ProgressTree, Met, means, next_met, value_met, breaks}
 
 -- plain `char`
-abbrev pub is_char : Scalar → Bool
-is_char s = s.stars == 0 && same_integer s.base Char
+abbrev pub is_plain_char : Scalar → Bool
+is_plain_char s = s.stars == 0 && same_integer s.base Char
 
 -- a string literal, perhaps in parentheses: where it begins, and its bytes
 abbrev pub literal_of_core : CoreTree → Option (Spot × List ℕ)
@@ -50,9 +50,10 @@ count (first i more) = count more + 1
 
 -- the literal that initialises an array of such elements, if one does: only of `char` (6.7.9p14)
 abbrev pub literal_for : Scalar → InitializerTree → Option (Spot × List ℕ)
-literal_for element i = if is_char element then only_literal i else None
+literal_for element i = if is_plain_char element then only_literal i else None
 
--- how many elements an array has whose brackets are empty: as many as there are bytes of a literal with its final zero, else as many as there are initializers in braces
+-- how many elements an array has whose brackets are empty: as many as there are bytes of a literal with its final zero,
+-- else as many as there are initializers in braces
 abbrev pub initialized_count : Option (Spot × List ℕ) → InitializerTree → ℕ
 initialized_count (Some l) i = length l.1 + 1
 initialized_count None (Braces all) = max (count all) 1
@@ -64,17 +65,17 @@ implied_count element (Some i) = initialized_count (literal_for element i) i
 implied_count element None = 1
 
 -- how many elements an array has: one or more, and below 2 ^ 32 (E11, of the declarator); 1 stands for what is at fault
-abbrev pub counted : ℕ → Extent → ProgressTree → Met ℕ
-counted n extent p = if nat_lt n (2 ^ 32) then means n p else means 1 (breaks UNEXPECTED_KEYWORD extent p)
+abbrev pub declared_count : ℕ → Extent → ProgressTree → Met ℕ
+declared_count n extent p = if nat_lt n (2 ^ 32) then means n p else means 1 (breaks UNEXPECTED_KEYWORD extent p)
 
 -- the size in brackets has to be a positive integer constant expression (E11)
 abbrev pub count_or : Option ℕ → Extent → ProgressTree → Met ℕ
-count_or (Some n) extent p = counted n extent p
+count_or (Some n) extent p = declared_count n extent p
 count_or None extent p = means 1 (breaks UNEXPECTED_KEYWORD extent p)
 
 -- how many elements an array has of which the size is a value, which is checked
 abbrev pub sized_by : Extent → Option ValueTree → ProgressTree → Met ℕ
-sized_by extent (Some v) p = count_or (count_of v.of v.constant) extent p
+sized_by extent (Some v) p = count_or (array_count v.of v.constant) extent p
 sized_by extent None p = means 1 p
 
 -- how many elements an array has of which the size is an expression
@@ -84,7 +85,7 @@ size_met extent e p = next_met (value_met e p) (sized_by extent)
 -- the type of an object with such brackets behind its name
 abbrev pub type_by : BracketsTree → Scalar → Extent → Option InitializerTree → ProgressTree → Met ObjectType
 type_by Absent s extent i p = means (object.Scalar s) p
-type_by Empty s extent i p = next_met (counted (implied_count s i) extent p) (λ n. means (object.Array s n))
+type_by Empty s extent i p = next_met (declared_count (implied_count s i) extent p) (λ n. means (object.Array s n))
 type_by (Sized e) s extent i p = next_met (size_met extent e p) (λ n. means (object.Array s n))
 
 -- the type of the object that a declarator declares

@@ -24,7 +24,13 @@ pub record ProgressTree : Type 0 where
 
 abbrev pub progress_view : declared-progress.Progress → ProgressTree
 progress_view p =
-    record { names = names_view p.names; found = findings_view p.found; statics = map static_view p.statics.items; automatics = map automatic_view p.automatics.items; array_literals = map literal_view p.array_literals.items }
+    record {
+      names = names_view p.names;
+      found = findings_view p.found;
+      statics = map static_view p.statics.items;
+      automatics = map automatic_view p.automatics.items;
+      array_literals = map literal_view p.array_literals.items;
+    }
 
 -- what a part of the source means, and how far its check comes
 pub data Met (A : Type 0) : Type 0 where
@@ -39,12 +45,12 @@ unfoldable pub reached_by : {A : Type 0} → Met A → (A → ProgressTree → P
 reached_by (means a p) f = f a p
 
 -- what an expression's check gives and finds, in the whole
-abbrev pub within : {A : Type 0} → ProgressTree → Checked A → Met A
-within p (gives a s) = means a (record p { found = s })
+abbrev pub check_within : {A : Type 0} → ProgressTree → Checked A → Met A
+check_within p (gives a s) = means a (record p { found = s })
 
 -- the value of an expression
 unfoldable pub value_met : ExpressionTree → ProgressTree → Met (Option ValueTree)
-value_met e p = within p (valued (typed p.names e p.found))
+value_met e p = check_within p (valued (typed p.names e p.found))
 
 -- a construct breaks a rule
 abbrev pub breaks : Code → Extent → ProgressTree → ProgressTree
@@ -55,7 +61,8 @@ abbrev pub breaks_if : {A : Type 0} → Option A → Code → Extent → Progres
 breaks_if (Some a) code extent p = breaks code extent p
 breaks_if None code extent p = p
 
--- a declaration of a name in the innermost scope, where it may not be declared already (E21); the new meaning stands all the same
+-- a declaration of a name in the innermost scope, where it may not be declared already (E21); the new meaning stands
+-- all the same
 abbrev pub with_name : List ℕ → Meaning → ProgressTree → ProgressTree
 with_name name m p = record p { names = declared name m p.names }
 
@@ -68,5 +75,5 @@ abbrev pub opened : ProgressTree → ProgressTree
 opened p = record p { names = entered p.names }
 
 -- the innermost scope is left
-abbrev pub closed : ProgressTree → ProgressTree
-closed p = record p { names = left p.names }
+abbrev pub scope_left : ProgressTree → ProgressTree
+scope_left p = record p { names = left p.names }

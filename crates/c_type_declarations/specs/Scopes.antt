@@ -31,7 +31,8 @@ left names = record names { scopes = take (length names.scopes - 1) names.scopes
 
 -- names with a meaning of a name in the innermost scope
 abbrev pub declared : List ℕ → Meaning → Names → Names
-declared name m names = record names { scopes = with_innermost (with_meaning name m (innermost names.scopes)) names.scopes }
+declared name m names =
+    record names { scopes = with_innermost (with_meaning name m (innermost names.scopes)) names.scopes }
 
 -- the meaning that a name has in the innermost scope itself
 abbrev pub declared_here : Names → List ℕ → Option Meaning

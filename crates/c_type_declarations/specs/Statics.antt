@@ -1,4 +1,5 @@
--- What objects of static storage hold at first (6.7.9p4 and p10): constants, in the bytes of the machine, the lowest first.
+-- What objects of static storage hold at first (6.7.9p4 and p10): constants, in the bytes of the machine, the lowest
+-- first.
 use Rattle.std.specs.Prelude.{ℕ, zero, suc, ◌/◌, ◌%◌, ◌^◌, List, [], ◌∷◌, ◌++◌, length, take, Option, Some, None}
 use Rattle.std.specs.Option.{option_map_or}
 use Rattle.debug_records.specs.declared.code.TheConstants.Code.{INITIALIZER}
@@ -38,7 +39,10 @@ low_bytes (suc k) n = n % 256 ∷ low_bytes k (n / 256)
 abbrev pub with_constant : Scalar → Constancy → Contents → Contents
 with_constant s (Known z) c = record c { bytes = c.bytes ++ low_bytes (scalar_size s) (residue z (2 ^ 32)) }
 with_constant s (Address object offset) c =
-    record { bytes = c.bytes ++ low_bytes (scalar_size s) 0; relocations = c.relocations ++ record { at = length c.bytes; object = object; offset = offset } ∷ [] }
+    record {
+      bytes = c.bytes ++ low_bytes (scalar_size s) 0;
+      relocations = c.relocations ++ record { at = length c.bytes; object = object; offset = offset } ∷ [];
+    }
 with_constant s k c = record c { bytes = c.bytes ++ low_bytes (scalar_size s) 0 }
 
 -- a constant: a number, or the address of an object of static storage or a literal (E27)
@@ -55,7 +59,8 @@ filled s extent None c p = means (with_constant s Varies c) p
 -- initializers of elements, in order, behind bytes
 abbrev pub fills_met : Scalar → Extent → InitializerTrees → Contents → ProgressTree → Met Contents
 fills_met s extent none c p = means c p
-fills_met s extent (first i more) c p = next_met (scalar_met s extent i p) (λ v q. next_met (filled s extent v c q) (fills_met s extent more))
+fills_met s extent (first i more) c p =
+    next_met (scalar_met s extent i p) (λ v q. next_met (filled s extent v c q) (fills_met s extent more))
 
 -- the bytes of a literal with its final zero, as far as there is room, but for which all have room (E27)
 abbrev pub literal_bytes : ℕ → List ℕ → List ℕ
@@ -63,7 +68,8 @@ literal_bytes size bytes = take size (bytes ++ 0 ∷ [])
 
 -- the first bytes of a static array that a list initialises
 abbrev pub list_contents : Scalar → ℕ → Extent → InitializerTree → ProgressTree → Met Contents
-list_contents element size extent (Braces all) p = fills_met element extent all nothing (within_count (count all) size extent p)
+list_contents element size extent (Braces all) p =
+    fills_met element extent all nothing (within_count (count all) size extent p)
 list_contents element size extent (Value e) p = means nothing (misfit_met extent e p)
 
 -- what an initializer puts into an object of static storage

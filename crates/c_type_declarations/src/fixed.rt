@@ -3,9 +3,9 @@
 
 ghost use Rattle.std.specs.Prelude.{◌≡◌, [], ◌++◌, IfOk, OnOk, length, map};
 ghost use Rattle.std.specs.Option.{option_map};
-ghost use Rattle.c_tree.specs.Declarations.{chain, declaration_view, declarator_view, initializer_view};
+ghost use Rattle.c_tree.specs.Declarations.{chain_of_initializers, declaration_view, declarator_view, initializer_view};
 ghost use Rattle.c_tree.specs.Expressions.{identifier_view};
-ghost use Rattle.c_type_declarations.specs.Declarations.{static_met, static_of_type, statics_met, with_static};
+ghost use Rattle.c_type_declarations.specs.Declarations.{static_met, static_of_type, statics_met, with_static_object};
 ghost use Rattle.c_type_declarations.specs.Progress.{means, progress_view};
 ghost use Rattle.c_type_declarations.specs.Statics.{constant_met, contents_met, contents_view, filled, fills_met, list_contents, literal_bytes, low_bytes, nothing, put_met, with_constant};
 ghost use Rattle.c_type_values.specs.Values.{value_view};
@@ -127,7 +127,7 @@ fn fills(
 ) -> Result<Contents, AllocError>
     ensures { IfOk result (λ c.
         means (contents_view c) (progress_view progress.new) ≡ fills_met element extent
-        (chain (map initializer_view initializers.now)) nothing (progress_view progress.old)) }
+        (chain_of_initializers (map initializer_view initializers.now)) nothing (progress_view progress.old)) }
 {
     let mut contents = nothing(alloc);
     for one in initializers {
@@ -235,7 +235,7 @@ fn add_static(
 ) -> Result<(), AllocError>
     ensures { OnOk result
         (progress_view progress.new
-        ≡ with_static (identifier_view identifier.now) of (contents_view contents) (progress_view progress.old)) }
+        ≡ with_static_object (identifier_view identifier.now) of (contents_view contents) (progress_view progress.old)) }
 {
     let name = String::from_str(alloc, &identifier.name)?;
     progress.statics.push(StaticVariable {

@@ -3,11 +3,11 @@
 
 ghost use Rattle.std.specs.Prelude.{◌≡◌, IfOk, OnOk, map};
 ghost use Rattle.std.specs.Option.{option_map};
-ghost use Rattle.c_tree.specs.Declarations.{chain, initializer_view};
+ghost use Rattle.c_tree.specs.Declarations.{chain_of_initializers, initializer_view};
 ghost use Rattle.c_tree.specs.Expressions.{expression_view};
 ghost use Rattle.c_tree.specs.TypedExpressions.{rvalue_view};
 ghost use Rattle.c_tree.specs.TypedStatements.{initial_view};
-ghost use Rattle.c_type_declarations.specs.Initials.{array_literal_met, elements_met, fitted, fitting, initial_met, list_met, looked_at, looked_at_one, misfit_met, scalar_met, tree_of, with_array_literal, within_count, written_met};
+ghost use Rattle.c_type_declarations.specs.Initials.{array_literal_met, elements_met, fitted, fitting, initial_met, list_met, looked_at, looked_at_one, misfit_met, scalar_met, computed_tree, with_array_literal, within_count, written_met};
 ghost use Rattle.c_type_declarations.specs.Progress.{means, progress_view, reached_by, value_met};
 ghost use Rattle.c_type_values.specs.Values.{node_view, value_view};
 
@@ -97,7 +97,7 @@ fn look_at(
 ) -> Result<(), AllocError>
     ensures { OnOk result
         (progress_view progress.new
-        ≡ looked_at (chain (map initializer_view initializers.now)) (progress_view progress.old)) }
+        ≡ looked_at (chain_of_initializers (map initializer_view initializers.now)) (progress_view progress.old)) }
 {
     for one in initializers {
         given!(look_at_one(alloc, progress, one));
@@ -147,7 +147,7 @@ pub fn scalar(
 
 /// What a value computes. Of one at fault nothing.
 pub fn tree_of(alloc: Global, value: Option<Value>) -> Result<Box<Rvalue>, AllocError>
-    ensures { IfOk result (λ r. node_view r ≡ tree_of (option_map value_view value)) }
+    ensures { IfOk result (λ r. node_view r ≡ computed_tree (option_map value_view value)) }
 {
     match value {
         Some(value) => Ok(value.tree),
@@ -169,7 +169,7 @@ fn elements(
 ) -> Result<Vec<Rvalue>, AllocError>
     ensures { IfOk result (λ v.
         means (map rvalue_view v.items) (progress_view progress.new) ≡ elements_met of extent
-        (chain (map initializer_view initializers.now)) (progress_view progress.old)) }
+        (chain_of_initializers (map initializer_view initializers.now)) (progress_view progress.old)) }
 {
     let mut values = Vec::new(alloc);
     for one in initializers {

@@ -3,9 +3,9 @@
 
 ghost use Rattle.std.specs.Prelude.{◌≡◌, IfOk, map};
 ghost use Rattle.std.specs.Option.{option_map};
-ghost use Rattle.c_tree.specs.Declarations.{brackets_view, chain, declarator_view, initializer_view};
+ghost use Rattle.c_tree.specs.Declarations.{brackets_view, chain_of_initializers, declarator_view, initializer_view};
 ghost use Rattle.c_tree.specs.Expressions.{expression_view};
-ghost use Rattle.c_type_declarations.specs.Objects.{count_or, counted, implied_count, is_char, literal_for, literal_in, only_in, only_literal, size_met, sized_by, type_by, type_met};
+ghost use Rattle.c_type_declarations.specs.Objects.{count_or, declared_count, implied_count, is_plain_char, literal_for, literal_in, only_in, only_literal, size_met, sized_by, type_by, type_met};
 ghost use Rattle.c_type_declarations.specs.Progress.{means, progress_view};
 ghost use Rattle.c_type_values.specs.Values.{value_view};
 
@@ -30,7 +30,7 @@ pub struct Written<'a> {
 
 /// Whether a type is plain `char`.
 pub fn is_char(of: Scalar) -> bool
-    ensures { result ≡ is_char of }
+    ensures { result ≡ is_plain_char of }
 {
     of.stars == 0 && same_integer(of.base, IntegerType::Char)
 }
@@ -51,7 +51,7 @@ pub fn literal_in(e: &Expression) -> Option<Written<'_>>
 /// The expression that alone stands in braces, if they hold no more.
 #[tactic(auto, using(crate::proofs::Lists::not_one))]
 pub fn only_expression(all: &[Initializer]) -> Option<&Expression>
-    ensures { option_map (λ e. expression_view e.now) result ≡ only_in (chain (map initializer_view all.now)) }
+    ensures { option_map (λ e. expression_view e.now) result ≡ only_in (chain_of_initializers (map initializer_view all.now)) }
 {
     if all.len() != 1 {
         return None;
@@ -105,7 +105,7 @@ pub fn implied_count(element: Scalar, initializer: &Option<Initializer>) -> usiz
 /// How many elements an array has: below 2 ^ 32.
 fn counted(progress: &mut Progress, count: u64, extent: Extent) -> Result<u32, AllocError>
     ensures { IfOk result
-        (λ n. means n (progress_view progress.new) ≡ counted count extent (progress_view progress.old)) }
+        (λ n. means n (progress_view progress.new) ≡ declared_count count extent (progress_view progress.old)) }
 {
     if count < 4294967296 {
         return Ok(count as u32);

@@ -4,7 +4,7 @@
 ghost use Rattle.std.specs.Prelude.{◌≡◌, IfOk, OnOk};
 ghost use Rattle.std.specs.Option.{option_map};
 ghost use Rattle.c_tree.specs.Expressions.{expression_view};
-ghost use Rattle.c_type_declarations.specs.Progress.{breaks, closed, declares, means, opened, progress_view, value_met};
+ghost use Rattle.c_type_declarations.specs.Progress.{breaks, scope_left, declares, means, opened, progress_view, value_met};
 ghost use Rattle.c_type_values.specs.Values.{value_view};
 
 use crate::scope::{declare, declared_here, enter, leave};
@@ -70,7 +70,7 @@ impl Progress {
 
     /// Ends the innermost scope.
     pub fn close(&mut self)
-        ensures { progress_view self.new ≡ closed (progress_view self.old) }
+        ensures { progress_view self.new ≡ scope_left (progress_view self.old) }
     {
         leave(&mut self.names);
     }

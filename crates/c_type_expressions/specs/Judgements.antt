@@ -1,4 +1,5 @@
--- What each construct of an expression makes of what its parts mean, and which rules it may break. A construct reaches from its first token to its last.
+-- What each construct of an expression makes of what its parts mean, and which rules it may break. A construct reaches
+-- from its first token to its last.
 use Rattle.std.specs.Prelude.{ℕ, suc, ◌+◌, ◌*◌, ◌%◌, ◌^◌, ◌==◌, ℤ, pos, negsuc, List, [], ◌∷◌, length, Bool, true, false, ◌&&◌, Option, Some, None, if◌then◌else◌}
 use Rattle.std.specs.Option.{option_map}
 use Rattle.debug_records.specs.declared.source.Spot.{Spot}
@@ -31,12 +32,12 @@ use Rattle.c_tree.specs.TypedExpressions as typed-tree
 use Rattle.c_type_rules.specs.declared.constancy.Constancy.{Constancy}
 use Rattle.c_type_rules.specs.declared.constancy.Constancy.TheVariants.{Varies, Known, Address}
 use Rattle.c_type_rules.specs.Integers.{object_size}
-use Rattle.c_type_rules.specs.Types.{loaded, value_size}
+use Rattle.c_type_rules.specs.Types.{loaded_type, value_size}
 use Rattle.c_type_rules.specs.Constancies.{converted_constant}
-use Rattle.c_type_values.specs.Values.{ValueTree, MeantTree, IsObject, IsValue, as_value, meant_type, converted}
+use Rattle.c_type_values.specs.Values.{ValueTree, MeantTree, IsObject, IsValue, as_value, meant_type, converted_value}
 use Rattle.c_type_values.specs.Pointers.{address, dereferenced}
 use Rattle.c_type_values.specs.Operations.{is_scalar, signed_value, negated, discarded}
-use Rattle.c_type_values.specs.Writing.{is_modifiable, is_updatable, stepped, assigned, updated}
+use Rattle.c_type_values.specs.Writing.{is_modifiable, is_updatable, stepped, simple_assignment, compound_assignment}
 use Rattle.c_type_expressions.specs.declared.names.Meaning.{Meaning}
 use Rattle.c_type_expressions.specs.declared.names.Meaning.TheVariants.{Variable, Function, EndOfFile}
 use Rattle.c_type_expressions.specs.Names.{SignatureTree}
@@ -51,21 +52,22 @@ abbrev pub valued : Meant → Checked (Option ValueTree)
 valued (gives m s) = gives (option_map as_value m) s
 
 -- a number of an integer type
-abbrev pub number_of : IntegerType → ℤ → MeantTree
-number_of t z = IsValue (record { of = Integer t; tree = Constant z t; constant = Known z })
+abbrev pub constant_of_type : IntegerType → ℤ → MeantTree
+constant_of_type t z = IsValue (record { of = Integer t; tree = Constant z t; constant = Known z })
 
 -- the address of an object, where it is a constant: that of an object of static storage or a literal
-abbrev pub address_of : Object → Constancy
-address_of (object.Static i) = Address (object.Static i) 0
-address_of (object.Automatic i) = Varies
-address_of (object.Literal k) = Address (object.Literal k) 0
+abbrev pub constant_address : Object → Constancy
+constant_address (object.Static i) = Address (object.Static i) 0
+constant_address (object.Automatic i) = Varies
+constant_address (object.Literal k) = Address (object.Literal k) 0
 
 -- a name: a variable, or the constant -1 (E11 for a function, E20 for what is not declared)
-abbrev pub named : Option Meaning → Spot → FoundTree → Meant
-named (Some (Variable object of)) spot s = gives (Some (IsObject of (Named object of) (address_of object))) s
-named (Some EndOfFile) spot s = gives (Some (number_of Int (negsuc 0))) s
-named (Some (Function k)) spot s = gives None (faulted UNEXPECTED_KEYWORD spot spot.at s)
-named None spot s = gives None (faulted UNDECLARED spot spot.at s)
+abbrev pub meaning_of_name : Option Meaning → Spot → FoundTree → Meant
+meaning_of_name (Some (Variable object of)) spot s =
+    gives (Some (IsObject of (Named object of) (constant_address object))) s
+meaning_of_name (Some EndOfFile) spot s = gives (Some (constant_of_type Int (negsuc 0))) s
+meaning_of_name (Some (Function k)) spot s = gives None (faulted UNEXPECTED_KEYWORD spot spot.at s)
+meaning_of_name None spot s = gives None (faulted UNDECLARED spot spot.at s)
 
 -- a string literal: an object of its own, an array of `char` with a zero behind its bytes
 abbrev pub literal_type : List ℕ → ObjectType
@@ -74,7 +76,11 @@ literal_type bytes = Array (record { base = Char; stars = 0 }) (length bytes + 1
 -- a string literal is an array of bytes of its own (C11 6.4.5)
 abbrev pub literal_met : Spot → List ℕ → FoundTree → Meant
 literal_met first bytes s =
-    gives (Some (IsObject (literal_type bytes) (Named (object.Literal (length s.literals)) (literal_type bytes)) (Address (object.Literal (length s.literals)) 0))) (with_literal first bytes s)
+    gives
+    (Some
+    (IsObject (literal_type bytes) (Named (object.Literal (length s.literals)) (literal_type bytes))
+    (Address (object.Literal (length s.literals)) 0)))
+    (with_literal first bytes s)
 
 -- E23, but where the flag says that what is written can be
 abbrev pub writing : Bool → Spot → ℕ → FoundTree → FoundTree
@@ -83,22 +89,31 @@ writing fine first last s = if fine then s else faulted NOT_AN_LVALUE first last
 -- `++` and `--`: on a scalar (E22) that can be written (E23)
 abbrev pub stepping : Direction → Given → Spot → ℕ → MeantTree → FoundTree → Meant
 stepping d g first last m s =
-    if is_scalar (meant_type m) then gives (Some (IsValue (stepped d g m))) (writing (is_modifiable m) first last s) else gives None (faulted OPERAND_TYPES first last s)
+    if is_scalar (meant_type m) then gives (Some (IsValue (stepped d g m))) (writing (is_modifiable m) first last s)
+    else gives None (faulted OPERAND_TYPES first last s)
 
 -- the operators before an operand
 abbrev pub prefixed : PrefixOperator → Spot → ℕ → MeantTree → FoundTree → Meant
 prefixed prefix.AddressOf first last m = judged (option_map IsValue (address m)) NOT_AN_LVALUE first last
 prefixed prefix.Indirection first last m = judged (dereferenced (as_value m)) OPERAND_TYPES first last
-prefixed prefix.Plus first last m = judged (option_map IsValue (signed_value Plus (as_value m))) OPERAND_TYPES first last
-prefixed prefix.Minus first last m = judged (option_map IsValue (signed_value Minus (as_value m))) OPERAND_TYPES first last
-prefixed prefix.Complement first last m = judged (option_map IsValue (signed_value Complement (as_value m))) OPERAND_TYPES first last
+prefixed prefix.Plus first last m =
+    judged (option_map IsValue (signed_value Plus (as_value m))) OPERAND_TYPES first last
+prefixed prefix.Minus first last m =
+    judged (option_map IsValue (signed_value Minus (as_value m))) OPERAND_TYPES first last
+prefixed prefix.Complement first last m =
+    judged (option_map IsValue (signed_value Complement (as_value m))) OPERAND_TYPES first last
 prefixed prefix.Not first last m = judged (option_map IsValue (negated (as_value m))) OPERAND_TYPES first last
 prefixed prefix.Increment first last m = stepping Up New first last m
 prefixed prefix.Decrement first last m = stepping Down New first last m
 
 -- a cast to an integer type: of an integer (E11 for a pointer, E22 for no value)
 abbrev pub cast_from : ValueType → IntegerType → Spot → ℕ → ValueTree → FoundTree → Meant
-cast_from (Integer u) t first last v s = gives (Some (IsValue (record { of = Integer t; tree = Convert t v.tree; constant = converted_constant t v.constant }))) s
+cast_from (Integer u) t first last v s =
+    gives (Some (IsValue (record {
+      of = Integer t;
+      tree = Convert t v.tree;
+      constant = converted_constant t v.constant;
+    }))) s
 cast_from (Pointer of) t first last v s = gives None (faulted UNEXPECTED_KEYWORD first last s)
 cast_from Void t first last v s = gives None (faulted OPERAND_TYPES first last s)
 
@@ -108,12 +123,14 @@ cast_to base.Void first last v s = gives (Some (IsValue (discarded v))) s
 cast_to (base.Integer t) first last v s = cast_from v.of t first last v s
 
 -- a cast: never to a pointer (E11)
-abbrev pub cast : TypeName → Spot → ℕ → Option ValueTree → FoundTree → Meant
-cast to first last v s = if to.stars == 0 then with_one v (cast_to to.base first last) s else gives None (faulted UNEXPECTED_KEYWORD first last s)
+abbrev pub cast_meaning : TypeName → Spot → ℕ → Option ValueTree → FoundTree → Meant
+cast_meaning to first last v s =
+    if to.stars == 0 then with_one v (cast_to to.base first last) s
+    else gives None (faulted UNEXPECTED_KEYWORD first last s)
 
 -- a size, an unsigned int
 abbrev pub size_value : ℕ → MeantTree
-size_value n = number_of UnsignedInt (pos (n % 2 ^ 32))
+size_value n = constant_of_type UnsignedInt (pos (n % 2 ^ 32))
 
 -- how many bytes `sizeof` gives of what an expression means; none of no value
 abbrev pub size_of : MeantTree → Option ℕ
@@ -125,28 +142,34 @@ abbrev pub measured : Spot → ℕ → MeantTree → FoundTree → Meant
 measured first last m = judged (option_map size_value (size_of m)) OPERAND_TYPES first last
 
 -- how many elements an array has: a positive integer constant expression
-abbrev pub count_of : ValueType → Constancy → Option ℕ
-count_of (Integer t) (Known (pos (suc n))) = Some (suc n)
-count_of _ _ = None
+abbrev pub array_count : ValueType → Constancy → Option ℕ
+array_count (Integer t) (Known (pos (suc n))) = Some (suc n)
+array_count _ _ = None
 
 -- the size of an array type in `sizeof`, of so many bytes an element (E11)
 abbrev pub sized : ℕ → Spot → ℕ → ValueTree → FoundTree → Meant
-sized element first last v = judged (option_map (λ n. size_value (element * n)) (count_of v.of v.constant)) UNEXPECTED_KEYWORD first last
+sized element first last v =
+    judged (option_map (λ n. size_value (element * n)) (array_count v.of v.constant)) UNEXPECTED_KEYWORD first last
 
 -- `=`: a value as if assigned to the left side's type (E22), which can be written (E23)
 abbrev pub assignable : ValueType → ValueTree → Bool → Option ValueTree
 assignable Void v zero = None
-assignable to v zero = converted v to zero
+assignable to v zero = converted_value v to zero
 
 -- the value of an assignment, of which the left side is checked to be modifiable (C11 6.5.16)
 abbrev pub assigning : Option ValueTree → Spot → ℕ → MeantTree → FoundTree → Meant
-assigning (Some v) first last m s = gives (Some (IsValue (assigned m (Some v)))) (writing (is_modifiable m) first last s)
-assigning None first last m s = gives (Some (IsValue (assigned m None))) (writing (is_modifiable m) first last (faulted OPERAND_TYPES first last s))
+assigning (Some v) first last m s =
+    gives (Some (IsValue (simple_assignment m (Some v)))) (writing (is_modifiable m) first last s)
+assigning None first last m s =
+    gives (Some (IsValue (simple_assignment m None)))
+    (writing (is_modifiable m) first last (faulted OPERAND_TYPES first last s))
 
 -- `+=` and the like: types that the operator takes (E22), on what can be written (E23)
 abbrev pub updating : Arithmetic → Spot → ℕ → MeantTree → ValueTree → FoundTree → Meant
 updating o first last m v s =
-    gives (Some (IsValue (updated o m v))) (writing (is_modifiable m) first last (if is_updatable o (meant_type m) v.of then s else faulted OPERAND_TYPES first last s))
+    gives (Some (IsValue (compound_assignment o m v)))
+    (writing (is_modifiable m) first last
+    (if is_updatable o (meant_type m) v.of then s else faulted OPERAND_TYPES first last s))
 
 -- an assignment; the flag says that its right side is a constant token 0
 abbrev pub assignment_by : AssignmentOperator → Bool → Spot → ℕ → MeantTree → ValueTree → FoundTree → Meant
@@ -167,7 +190,7 @@ passed_as None = (Null, false)
 abbrev pub passed_to : Option Scalar → Option ValueTree → Bool → RvalueTree × Bool
 passed_to None v zero = (Null, false)
 passed_to (Some p) None zero = (Null, true)
-passed_to (Some p) (Some v) zero = passed_as (converted v (loaded p) zero)
+passed_to (Some p) (Some v) zero = passed_as (converted_value v (loaded_type p) zero)
 
 -- arguments before others
 abbrev pub behind : List RvalueTree → ArgumentTrees → ArgumentTrees
@@ -182,8 +205,8 @@ abbrev pub with_passed : List RvalueTree → Bool → Checked Passed → Checked
 with_passed trees fit (gives q s) = gives (record { trees = behind trees q.trees; fit = fit && q.fit }) s
 
 -- an argument before others
-abbrev pub before : RvalueTree × Bool → Passed → FoundTree → Checked Passed
-before one q = gives (record { trees = typed-tree.first one.0 q.trees; fit = one.1 && q.fit })
+abbrev pub argument_before : RvalueTree × Bool → Passed → FoundTree → Checked Passed
+argument_before one q = gives (record { trees = typed-tree.first one.0 q.trees; fit = one.1 && q.fit })
 
 -- a call of what has a type but is no function (E22)
 abbrev pub uncallable : Spot → ℕ → Option ValueTree → FoundTree → Meant
@@ -203,4 +226,8 @@ call_tree None all = Null
 -- a call's value is of the result's type; the arguments must fit (E24)
 abbrev pub called : SignatureTree → Spot → ℕ → Passed → FoundTree → Meant
 called g first last q s =
-    gives (Some (IsValue (record { of = g.result; tree = call_tree g.callee q.trees; constant = Varies }))) (if q.fit then s else faulted ARGUMENTS first last s)
+    gives (Some (IsValue (record {
+      of = g.result;
+      tree = call_tree g.callee q.trees;
+      constant = Varies;
+    }))) (if q.fit then s else faulted ARGUMENTS first last s)

@@ -34,14 +34,14 @@ abbrev pub names_view : declared-names.Names → Names
 names_view n = record { signatures = map signature_view n.signatures.items; scopes = map scope_view n.scopes.items }
 
 -- the first of two meanings that there is
-abbrev pub or_else : Option Meaning → Option Meaning → Option Meaning
-or_else (Some m) o = Some m
-or_else None o = o
+abbrev pub meaning_or_else : Option Meaning → Option Meaning → Option Meaning
+meaning_or_else (Some m) o = Some m
+meaning_or_else None o = o
 
 -- the meaning of a name in scopes: that of the innermost one that has it
 abbrev pub found_in : List Scope → Scope
 found_in [] name = None
-found_in (scope ∷ inner) name = or_else (found_in inner name) (scope name)
+found_in (scope ∷ inner) name = meaning_or_else (found_in inner name) (scope name)
 
 -- what a name means in the scopes that are open, if it is declared
 abbrev pub meaning_of : Names → List ℕ → Option Meaning

@@ -2,7 +2,7 @@
 
 ghost use Rattle.std.specs.Prelude.{◌≡◌, IfOk, map};
 ghost use Rattle.std.specs.Option.{option_map};
-ghost use Rattle.c_tree.specs.Expressions.{chain, expression_view, suffix_view};
+ghost use Rattle.c_tree.specs.Expressions.{chain_of_arguments, expression_view, suffix_view};
 ghost use Rattle.c_tree.specs.TypedExpressions.{arguments_view};
 ghost use Rattle.c_type_values.specs.Values.{meant_view, value_view};
 ghost use Rattle.c_type_expressions.specs.Chains.{commas_met, function_called, operation_view, operations_met, suffix_met, suffixes_met};
@@ -286,7 +286,7 @@ fn call(
 ) -> Result<Option<Meant>, AllocError>
     ensures { IfOk result (λ m.
         gives (option_map meant_view m) (findings_view found.new) ≡ function_called (names_view names.now)
-        (signature_view function.now) (chain (map expression_view arguments.now)) first last
+        (signature_view function.now) (chain_of_arguments (map expression_view arguments.now)) first last
         (findings_view found.old)) }
 {
     noted(found, function.callee, first)?;
@@ -305,7 +305,7 @@ fn passed(
 ) -> Result<(Arguments, bool), AllocError>
     ensures { IfOk result (λ q.
         gives (record { trees = arguments_view q.0; fit = q.1 }) (findings_view found.new) ≡ typed_all
-        (names_view names.now) (chain (map expression_view arguments.now)) parameters.now 0
+        (names_view names.now) (chain_of_arguments (map expression_view arguments.now)) parameters.now 0
         (findings_view found.old)) }
 {
     let mut trees = Vec::new(alloc);

@@ -4,10 +4,10 @@ ghost use Rattle.std.specs.Prelude.{◌≡◌, IfOk, OnOk, Some, length, map};
 ghost use Rattle.std.specs.Option.{option_map};
 ghost use Rattle.debug_records.specs.declared.code.TheConstants.Code.{OPERAND_TYPES};
 ghost use Rattle.c_type_values.specs.Values.{IsValue, as_value, meant_view, value_view};
-ghost use Rattle.c_type_values.specs.Operations.{combined, conditional, operation_of, sequenced, signed_value};
-ghost use Rattle.c_type_values.specs.Pointers.{element_of};
+ghost use Rattle.c_type_values.specs.Operations.{combined, conditional_meaning, binary_operation, sequenced, signed_value};
+ghost use Rattle.c_type_values.specs.Pointers.{subscript};
 ghost use Rattle.c_type_expressions.specs.Findings.{FoundTree, findings_view, gives, judged, with_one, with_three, with_two};
-ghost use Rattle.c_type_expressions.specs.Judgements.{address_of, assignable, assigning, assignment_by, cast, cast_from, cast_to, count_of, literal_met, measured, named, number_of, prefixed, size_of, size_value, sized, stepping, updating, writing};
+ghost use Rattle.c_type_expressions.specs.Judgements.{constant_address, assignable, assigning, assignment_by, cast_meaning, cast_from, cast_to, array_count, literal_met, measured, meaning_of_name, constant_of_type, prefixed, size_of, size_value, sized, stepping, updating, writing};
 
 use crate::findings::Findings;
 use crate::names::Meaning;
@@ -78,7 +78,7 @@ fn judged_value(
 
 /// A number of an integer type.
 pub fn number_of(alloc: Global, of: IntegerType, number: i64) -> Result<Meant, AllocError>
-    ensures { IfOk result (λ m. meant_view m ≡ number_of of number) }
+    ensures { IfOk result (λ m. meant_view m ≡ constant_of_type of number) }
 {
     let tree = given!(node(
         alloc,
@@ -96,7 +96,7 @@ pub fn number_of(alloc: Global, of: IntegerType, number: i64) -> Result<Meant, A
 
 /// The address of an object, where it is a constant.
 fn address_of(object: Object) -> Constancy
-    ensures { result ≡ address_of object }
+    ensures { result ≡ constant_address object }
 {
     match object {
         Object::Automatic(_) => Constancy::Varies,
@@ -112,7 +112,7 @@ pub fn named(
     spot: Spot,
 ) -> Result<Option<Meant>, AllocError>
     ensures { IfOk result (λ m.
-        gives (option_map meant_view m) (findings_view found.new) ≡ named meaning spot (findings_view found.old)) }
+        gives (option_map meant_view m) (findings_view found.new) ≡ meaning_of_name meaning spot (findings_view found.old)) }
 {
     match meaning {
         Some(Meaning::Variable { object, of }) => {
@@ -338,7 +338,7 @@ pub fn cast(
     last: u32,
 ) -> Result<Option<Meant>, AllocError>
     ensures { IfOk result (λ m.
-        gives (option_map meant_view m) (findings_view found.new) ≡ cast to first last (option_map value_view value)
+        gives (option_map meant_view m) (findings_view found.new) ≡ cast_meaning to first last (option_map value_view value)
         (findings_view found.old)) }
 {
     if to.stars != 0 {
@@ -409,7 +409,7 @@ pub fn measured(
 
 /// How many elements an array has: a positive integer constant expression.
 pub fn count_of(of: ValueType, constant: Constancy) -> Option<u64>
-    ensures { result ≡ count_of of constant }
+    ensures { result ≡ array_count of constant }
 {
     match (of, constant) {
         (ValueType::Integer(_), Constancy::Known(count)) => {
@@ -459,7 +459,7 @@ pub fn indexed(
 ) -> Result<Option<Meant>, AllocError>
     ensures { IfOk result (λ m.
         gives (option_map meant_view m) (findings_view found.new) ≡ with_two (option_map value_view left)
-        (option_map value_view right) (λ v w. judged (element_of v w) OPERAND_TYPES first last)
+        (option_map value_view right) (λ v w. judged (subscript v w) OPERAND_TYPES first last)
         (findings_view found.old)) }
 {
     match (left, right) {
@@ -486,7 +486,7 @@ pub fn operated(
     ensures { IfOk result (λ m.
         gives (option_map meant_view m) (findings_view found.new) ≡ with_two (option_map value_view left)
         (option_map value_view right)
-        (λ v w. judged (option_map IsValue (combined (operation_of operator) v w left_zero right_zero))
+        (λ v w. judged (option_map IsValue (combined (binary_operation operator) v w left_zero right_zero))
         OPERAND_TYPES first last)
         (findings_view found.old)) }
 {
@@ -534,7 +534,7 @@ pub fn chosen(
     ensures { IfOk result (λ m.
         gives (option_map meant_view m) (findings_view found.new) ≡ with_three (option_map value_view condition)
         (option_map value_view then) (option_map value_view otherwise)
-        (λ v w r. judged (option_map IsValue (conditional v w r then_zero other_zero)) OPERAND_TYPES first last)
+        (λ v w r. judged (option_map IsValue (conditional_meaning v w r then_zero other_zero)) OPERAND_TYPES first last)
         (findings_view found.old)) }
 {
     match (condition, then, otherwise) {

@@ -15,7 +15,7 @@ use Rattle.c_tree.specs.declared.typed_expression.Callee as declared-callee
 use Rattle.c_tree.specs.declared.typed_expression.Callee.TheVariants as callee
 use Rattle.c_tree.specs.Programs.{AutomaticTree, LiteralTree, StaticTree, TypedFunctionTree, ProgramTree}
 use Rattle.c_type_rules.specs.Integers.{promoted}
-use Rattle.c_type_rules.specs.Types.{loaded, same_integer, same_object, same_value}
+use Rattle.c_type_rules.specs.Types.{loaded_type, same_integer, same_object, same_value}
 use Rattle.c_type_laws.specs.Kind.{Kind, Wrong, NullPointer, Of}
 
 -- a value of a type, if what it is made of fits
@@ -105,7 +105,7 @@ holds_integer of t = holds_scalar of (record { base = t; stars = 0 })
 
 -- an object holds a pointer to elements of a type
 abbrev pub holds_pointer : ObjectType → (element : ObjectType) → Bool
-holds_pointer (of-object.Scalar s) element = same_value (loaded s) (Pointer element)
+holds_pointer (of-object.Scalar s) element = same_value (loaded_type s) (Pointer element)
 holds_pointer (of-object.Array s count) element = false
 
 -- an array, which has elements
@@ -115,8 +115,8 @@ is_array (of-object.Array s count) = nat_le 1 count
 
 -- the type of a scalar, and of an array's elements
 abbrev pub element_type : ObjectType → ValueType
-element_type (of-object.Scalar s) = loaded s
-element_type (of-object.Array s count) = loaded s
+element_type (of-object.Scalar s) = loaded_type s
+element_type (of-object.Array s count) = loaded_type s
 
 abbrev pub static_is : Option StaticTree → ObjectType → Bool
 static_is None of = false

@@ -18,12 +18,15 @@ use Rattle.c_type_laws.specs.Objects.{are_ended, are_static, arrays_are_kept}
 
 -- Places ascend strictly in the text, and their lines do not fall.
 abbrev pub places_ascend : List Place → Bool
-places_ascend places = ascends (map (λ (q : Place). q.spot.at) places) && never_falls 1 (map (λ (q : Place). q.spot.line) places)
+places_ascend places =
+    ascends (map (λ (q : Place). q.spot.at) places) && never_falls 1 (map (λ (q : Place). q.spot.line) places)
 
 -- So do static variables, automatic ones, and literals that are objects.
 abbrev pub objects_ascend : ProgramTree → Bool
 objects_ascend p =
-    ascends (map (λ (v : StaticTree). v.spot.at) p.statics) && ascends (map (λ (a : AutomaticTree). a.spot.at) p.automatics) && ascends (map (λ (l : LiteralTree). l.spot.at) p.literals)
+    ascends (map (λ (v : StaticTree). v.spot.at) p.statics)
+    && ascends (map (λ (a : AutomaticTree). a.spot.at) p.automatics)
+    && ascends (map (λ (l : LiteralTree). l.spot.at) p.literals)
 
 abbrev pub is_in_memory : Option AutomaticTree → Bool
 is_in_memory None = false
@@ -35,15 +38,23 @@ are_in_memory all (x ∷ more) = is_in_memory (slice_get all x) && are_in_memory
 
 -- A function's declarators declare the variables behind its parameters, each once, in text order.
 abbrev pub declares_its_own : TypedFunctionTree → Bool
-declares_its_own f = is_numbered (f.first_variable + f.parameters) (declared_in_all f.body []) && length (declared_in_all f.body []) + f.parameters == f.variables
+declares_its_own f =
+    is_numbered (f.first_variable + f.parameters) (declared_in_all f.body [])
+    && length (declared_in_all f.body []) + f.parameters == f.variables
 
--- It weighs as much as its nodes and the conversions to narrow types that were written, or more, and keeps the limits of a function.
+-- It weighs as much as its nodes and the conversions to narrow types that were written, or more, and keeps the limits
+-- of a function.
 abbrev pub keeps_limits : List AutomaticTree → TypedFunctionTree → Bool
-keeps_limits all f = nat_le (2 + f.parameters + weighed_statements f.body) f.weight && nat_le f.weight 3000 && nat_le f.parameters 8 && nat_le (memory_room (variables_of f all)) 4096
+keeps_limits all f =
+    nat_le (2 + f.parameters + weighed_statements f.body) f.weight && nat_le f.weight 3000 && nat_le f.parameters 8
+    && nat_le (memory_room (variables_of f all)) 4096
 
--- A function is well typed, declares its own variables, what has to stand in memory does, its limits are kept, and its declarations stand in blocks.
+-- A function is well typed, declares its own variables, what has to stand in memory does, its limits are kept, and its
+-- declarations stand in blocks.
 abbrev pub is_function : ProgramTree → TypedFunctionTree → Bool
-is_function p f = are_statements p f false false None f.body && declares_its_own f && are_in_memory p.automatics (kept_by_all f.body []) && keeps_limits p.automatics f && are_plain f.body
+is_function p f =
+    are_statements p f false false None f.body && declares_its_own f
+    && are_in_memory p.automatics (kept_by_all f.body []) && keeps_limits p.automatics f && are_plain f.body
 
 abbrev pub are_functions : ProgramTree → List TypedFunctionTree → Bool
 are_functions p [] = true
@@ -69,7 +80,8 @@ is_within p = nat_le (length p.functions) 256 && nat_le (weight_of p.functions) 
 
 -- Objects keep their laws: arrays are in memory, static objects and literals have their bytes.
 abbrev pub are_objects : ProgramTree → Bool
-are_objects p = arrays_are_kept p.automatics && are_static p p.statics && are_ended p.literals && are_ended p.array_literals
+are_objects p =
+    arrays_are_kept p.automatics && are_static p p.statics && are_ended p.literals && are_ended p.array_literals
 
 -- Its static storage is sound.
 abbrev pub is_sound : ProgramTree → Bool
@@ -78,7 +90,8 @@ is_sound p = statics_sound p.statics && literals_sound p.literals
 -- A program is well formed: it keeps each of these laws.
 abbrev pub is_well_formed : ProgramTree → Bool
 is_well_formed p =
-    objects_ascend p && follow 0 (length p.automatics) p.functions && is_main (slice_get p.functions p.main) && are_objects p && are_functions p p.functions && is_within p && places_ascend (places_of_program p)
+    objects_ascend p && follow 0 (length p.automatics) p.functions && is_main (slice_get p.functions p.main)
+    && are_objects p && are_functions p p.functions && is_within p && places_ascend (places_of_program p)
     && parameters_single p.automatics p.functions && is_sound p
 
 -- A program that keeps each of these laws.

@@ -1,4 +1,5 @@
--- What else each accepted program keeps: its names are identifiers of C, its static arrays have elements, and its literals have bytes, for which there is room.
+-- What else each accepted program keeps: its names are identifiers of C, its static arrays have elements, and its
+-- literals have bytes, for which there is room.
 use Rattle.std.specs.Prelude.{ℕ, ◌^◌, ◌==◌, ◌&&◌, ◌||◌, nat_le, nat_lt, Bool, true, false, List, [], ◌∷◌, length, IsTrue}
 use Rattle.std.specs.List.{list_all}
 use Rattle.c_tree.specs.declared.object_type.ObjectType.{ObjectType}
@@ -61,7 +62,8 @@ abbrev pub literals_have_room : List LiteralTree → Bool
 literals_have_room [] = true
 literals_have_room (l ∷ more) = nat_le 1 (length l.bytes) && nat_le (length l.bytes) 1048576 && literals_have_room more
 
--- A program whose variables and functions have names, whose arrays have fewer elements than 2 ^ 32, whose static ones have some, and whose literals have bytes, for which there is room.
+-- A program whose variables and functions have names, whose arrays have fewer elements than 2 ^ 32, whose static ones
+-- have some, and whose literals have bytes, for which there is room.
 pub record HasNames (p : ProgramTree) : Type 0 where
   pub statics : IsTrue (statics_named p.statics)
   pub automatics : IsTrue (automatics_named p.automatics)

@@ -1,4 +1,5 @@
--- How many nodes a typed tree has: one for each construct of the text that it comes from. Implicit conversions are none.
+-- How many nodes a typed tree has: one for each construct of the text that it comes from. Implicit conversions are
+-- none.
 use Rattle.std.specs.Prelude.{ℕ, ◌+◌, Option, Some, None, List, [], ◌∷◌}
 use Rattle.c_tree.specs.TypedExpressions.{RvalueTree, LvalueTree, ArgumentTrees, Constant, Null, Load, Decay, AddressOf, Convert, Discard, Signed, Not, Arithmetic, Compare, ComparePointers, Move, MoveFrom, Difference, And, Or, Conditional, Comma, Assign, Update, UpdatePointer, Step, StepPointer, Call, Named, Target, Element, ElementFrom}
 use Rattle.c_tree.specs.TypedExpressions as expression
@@ -86,7 +87,8 @@ abbrev mutual
   statement_nodes (IfElse spot e s t) = nodes e + (statement_nodes s + statement_nodes t) + 1
   statement_nodes (While spot e s) = nodes e + statement_nodes s + 1
   statement_nodes (DoWhile s spot e) = nodes e + statement_nodes s + 1
-  statement_nodes (For start spot e step s) = start_nodes start + (option_nodes e + (step_nodes step + statement_nodes s)) + 1
+  statement_nodes (For start spot e step s) =
+      start_nodes start + (option_nodes e + (step_nodes step + statement_nodes s)) + 1
   statement_nodes (Switch spot e all) = nodes e + statements_nodes all + 2
   statement_nodes (Break spot) = 1
   statement_nodes (Continue spot) = 1

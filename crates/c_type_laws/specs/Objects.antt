@@ -9,7 +9,7 @@ use Rattle.c_tree.specs.declared.object_type.Object.TheVariants as object
 use Rattle.c_tree.specs.declared.program.Relocation.{Relocation}
 use Rattle.c_tree.specs.Programs.{AutomaticTree, LiteralTree, StaticTree, ProgramTree}
 use Rattle.c_type_rules.specs.Integers.{object_size, scalar_size}
-use Rattle.c_type_rules.specs.Types.{loaded, same_value}
+use Rattle.c_type_rules.specs.Types.{loaded_type, same_value}
 use Rattle.c_type_laws.specs.Orders.{ascends}
 
 -- the type of a scalar, or of an array's elements
@@ -31,10 +31,12 @@ abbrev pub are_ended : List LiteralTree → Bool
 are_ended [] = true
 are_ended (l ∷ more) = nat_le 1 (length l.bytes) && are_ended more
 
--- An address is that of an element of an object, or directly behind the last one, and a pointer to such elements holds it.
+-- An address is that of an element of an object, or directly behind the last one, and a pointer to such elements holds
+-- it.
 abbrev pub is_address : Scalar → (offset : ℕ) → ObjectType → Bool
 is_address pointer offset of =
-    same_value (loaded pointer) (Pointer (of-object.Scalar (element_of of))) && nat_le offset (object_size of) && offset % scalar_size (element_of of) == 0
+    same_value (loaded_type pointer) (Pointer (of-object.Scalar (element_of of))) && nat_le offset (object_size of)
+    && offset % scalar_size (element_of of) == 0
 
 abbrev pub is_address_if : Scalar → (offset : ℕ) → Option StaticTree → Bool
 is_address_if pointer offset None = false
@@ -43,7 +45,8 @@ is_address_if pointer offset (Some w) = is_address pointer offset w.of
 -- A word of a static object holds the address of an object: of a static one as above, or the beginning of a literal.
 abbrev pub holds_address : ProgramTree → (pointer : Scalar) → (offset : ℕ) → designator.Object → Bool
 holds_address p pointer offset (object.Static n) = is_address_if pointer offset (slice_get p.statics n)
-holds_address p pointer offset (object.Literal n) = is_some (slice_get p.literals n) && offset == 0 && scalar_size pointer == 4
+holds_address p pointer offset (object.Literal n) =
+    is_some (slice_get p.literals n) && offset == 0 && scalar_size pointer == 4
 holds_address p pointer offset (object.Automatic x) = false
 
 abbrev pub hold_addresses : ProgramTree → (pointer : Scalar) → List Relocation → Bool
@@ -57,10 +60,12 @@ are_zero (b ∷ more) = b == 0 && are_zero more
 abbrev pub spots_of : List Relocation → List ℕ
 spots_of all = map (λ (r : Relocation). r.at) all
 
--- A static object has no more bytes than there is room for, its addresses are addresses, in order, and a pointer that is none is null.
+-- A static object has no more bytes than there is room for, its addresses are addresses, in order, and a pointer that
+-- is none is null.
 abbrev pub is_static : ProgramTree → StaticTree → Bool
 is_static p v =
-    nat_le (length v.bytes) (object_size v.of) && hold_addresses p (element_of v.of) v.relocations && ascends (spots_of v.relocations) && ((element_of v.of).stars == 0 || are_zero v.bytes)
+    nat_le (length v.bytes) (object_size v.of) && hold_addresses p (element_of v.of) v.relocations
+    && ascends (spots_of v.relocations) && ((element_of v.of).stars == 0 || are_zero v.bytes)
 
 abbrev pub are_static : ProgramTree → List StaticTree → Bool
 are_static p [] = true

@@ -1,4 +1,5 @@
--- A declaration stands in a block, never alone as the body of an `if`, an `else` or a loop (ISO/IEC 9899:2011, 6.8.4 and 6.8.5: these bodies are statements).
+-- A declaration stands in a block, never alone as the body of an `if`, an `else` or a loop (ISO/IEC 9899:2011, 6.8.4
+-- and 6.8.5: these bodies are statements).
 use Rattle.std.specs.Prelude.{◌&&◌, Bool, true, false}
 use Rattle.c_tree.specs.TypedStatements as statement
 use Rattle.c_tree.specs.TypedStatements.{TypedStatementTree, Block, Declaration, Empty, Run, If, IfElse, While, DoWhile, For, Switch, Break, Continue, Return, TypedStatementTrees, case, default}

@@ -8,7 +8,8 @@ abbrev pub are_below : ℕ → List ℕ → Bool
 are_below most [] = true
 are_below most (n ∷ more) = nat_lt n most && are_below most more
 
--- A program whose places and objects stand within a text of no more than 1,048,576 bytes, and its places on lines of such a text.
+-- A program whose places and objects stand within a text of no more than 1,048,576 bytes, and its places on lines of
+-- such a text.
 pub record HasSpots (p : ProgramTree) : Type 0 where
   pub places : IsTrue (are_below 1048576 (map (λ (q : Place). q.spot.at) (places_of_program p)))
   pub lines : IsTrue (are_below 1048577 (map (λ (q : Place). q.spot.line) (places_of_program p)))

@@ -12,7 +12,7 @@ use Rattle.c_tree.specs.TypedStatements as statement
 use Rattle.c_tree.specs.TypedStatements.{InitialTree, Zero, Scalar as scalar-initial, Elements, Literal, DeclaredTree, TypedStartTree, Nothing, Value, Declares, StepTree, TypedStatementTree, Block, Declaration, Empty, Run, If, IfElse, While, DoWhile, For, Switch, Break, Continue, Return, TypedStatementTrees, case, default}
 use Rattle.c_tree.specs.Programs.{AutomaticTree, LiteralTree, TypedFunctionTree, ProgramTree}
 use Rattle.c_type_rules.specs.Integers.{fits, scalar_size}
-use Rattle.c_type_rules.specs.Types.{loaded}
+use Rattle.c_type_rules.specs.Types.{loaded_type}
 use Rattle.c_type_laws.specs.Kind.{Kind, Wrong, NullPointer, Of}
 use Rattle.c_type_laws.specs.Kinds.{is_of, is_typed, is_scalar, is_promoted}
 use Rattle.c_type_laws.specs.Expressions.{kind_of}
@@ -69,12 +69,12 @@ module _ (p : ProgramTree) (f : TypedFunctionTree) where
   -- values are of the element type
   abbrev pub are_elements : Scalar → List RvalueTree → Bool
   are_elements s [] = true
-  are_elements s (e ∷ more) = is_of (kind_of p f e) (loaded s) && are_elements s more
+  are_elements s (e ∷ more) = is_of (kind_of p f e) (loaded_type s) && are_elements s more
 
   -- what a declaration writes fits its object
   abbrev pub initialises : ObjectType → InitialTree → Bool
   initialises of Zero = true
-  initialises (of-object.Scalar s) (scalar-initial e) = is_of (kind_of p f e) (loaded s)
+  initialises (of-object.Scalar s) (scalar-initial e) = is_of (kind_of p f e) (loaded_type s)
   initialises (of-object.Array s count) (scalar-initial e) = false
   initialises (of-object.Scalar s) (Elements all) = false
   initialises (of-object.Array s count) (Elements all) = nat_le (length all) count && are_elements s all
@@ -87,7 +87,9 @@ module _ (p : ProgramTree) (f : TypedFunctionTree) where
 
   -- a declarator is of a variable of the function that is no parameter
   abbrev pub is_declared : DeclaredTree → Bool
-  is_declared d = nat_le (f.first_variable + f.parameters) d.variable && nat_lt d.variable (f.first_variable + f.variables) && declares_as d (slice_get p.automatics d.variable)
+  is_declared d =
+      nat_le (f.first_variable + f.parameters) d.variable && nat_lt d.variable (f.first_variable + f.variables)
+      && declares_as d (slice_get p.automatics d.variable)
 
   abbrev pub are_declared : List DeclaredTree → Bool
   are_declared [] = true
@@ -122,15 +124,19 @@ module _ (p : ProgramTree) (f : TypedFunctionTree) where
     is_statement b c (IfElse spot e s r) = is_scalar (kind_of p f e) && is_statement b c s && is_statement b c r
     is_statement b c (While spot e s) = is_scalar (kind_of p f e) && is_statement true true s
     is_statement b c (DoWhile s spot e) = is_scalar (kind_of p f e) && is_statement true true s
-    is_statement b c (For start spot e step s) = is_start start && is_condition e && is_step step && is_statement true true s
-    is_statement b c (Switch spot e all) = is_switch (tested_type (kind_of p f e)) && are_statements true c (tested_type (kind_of p f e)) all
+    is_statement b c (For start spot e step s) =
+        is_start start && is_condition e && is_step step && is_statement true true s
+    is_statement b c (Switch spot e all) =
+        is_switch (tested_type (kind_of p f e)) && are_statements true c (tested_type (kind_of p f e)) all
     is_statement b c (Break spot) = b
     is_statement b c (Continue spot) = c
     is_statement b c (Return spot e) = is_returned e
 
-    -- Statements of a block: labels stand in that of a `switch` alone, with numbers of the type that it tests, and no declaration stands directly in it.
+    -- Statements of a block: labels stand in that of a `switch` alone, with numbers of the type that it tests, and no
+    -- declaration stands directly in it.
     pub are_statements : (breaks continues : Bool) → (tested : Option IntegerType) → TypedStatementTrees → Bool
     are_statements b c tested statement.none = true
-    are_statements b c tested (statement.first s rest) = may_stand tested s && is_statement b c s && are_statements b c tested rest
+    are_statements b c tested (statement.first s rest) =
+        may_stand tested s && is_statement b c s && are_statements b c tested rest
     are_statements b c tested (case z rest) = is_label tested z && are_statements b c tested rest
     are_statements b c tested (default rest) = is_switch tested && are_statements b c tested rest

@@ -1,4 +1,5 @@
--- What the static storage of an accepted program keeps beyond its addresses: its bytes are bytes, and what holds the address of a literal is a pointer to `char` (ISO/IEC 9899:2011, 6.4.5p6).
+-- What the static storage of an accepted program keeps beyond its addresses: its bytes are bytes, and what holds the
+-- address of a literal is a pointer to `char` (ISO/IEC 9899:2011, 6.4.5p6).
 use Rattle.std.specs.Prelude.{ℕ, Bool, true, ◌&&◌, nat_lt, List, [], ◌∷◌}
 use Rattle.c_tree.specs.declared.types.IntegerType.TheVariants.{Char}
 use Rattle.c_tree.specs.declared.object_type.Scalar.{Scalar}
@@ -8,7 +9,7 @@ use Rattle.c_tree.specs.declared.object_type.Object as designator
 use Rattle.c_tree.specs.declared.object_type.Object.TheVariants as object
 use Rattle.c_tree.specs.declared.program.Relocation.{Relocation}
 use Rattle.c_tree.specs.Programs.{LiteralTree, StaticTree}
-use Rattle.c_type_rules.specs.Types.{loaded, same_value}
+use Rattle.c_type_rules.specs.Types.{loaded_type, same_value}
 use Rattle.c_type_laws.specs.Objects.{element_of}
 
 -- numbers below 256
@@ -19,7 +20,8 @@ are_bytes (b ∷ more) = nat_lt b 256 && are_bytes more
 -- what holds the address of a literal is a pointer to `char`
 abbrev pub suits : (pointer : Scalar) → designator.Object → Bool
 suits pointer (object.Static n) = true
-suits pointer (object.Literal n) = same_value (loaded pointer) (Pointer (of-object.Scalar (record { base = Char; stars = 0 })))
+suits pointer (object.Literal n) =
+    same_value (loaded_type pointer) (Pointer (of-object.Scalar (record { base = Char; stars = 0 })))
 suits pointer (object.Automatic x) = true
 
 -- so is each word of these that holds one

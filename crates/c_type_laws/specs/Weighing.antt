@@ -1,4 +1,5 @@
--- What expressions and statements weigh at least: as much as they have nodes, and one for each conversion to a narrow type that was written.
+-- What expressions and statements weigh at least: as much as they have nodes, and one for each conversion to a narrow
+-- type that was written.
 use Rattle.std.specs.Prelude.{ℕ, ◌+◌, ◌≤◌, ◌==◌, not, Bool, true, false, Option, Some, None, List, [], ◌∷◌, if◌then◌else◌}
 use Rattle.c_tree.specs.TypedExpressions.{RvalueTree, LvalueTree, ArgumentTrees, Constant, Null, Load, Decay, AddressOf, Convert, Discard, Signed, Not, Arithmetic, Compare, ComparePointers, Move, MoveFrom, Difference, And, Or, Conditional, Comma, Assign, Update, UpdatePointer, Step, StepPointer, Call, Named, Target, Element, ElementFrom, none, first}
 use Rattle.c_tree.specs.TypedStatements as statement
@@ -12,7 +13,8 @@ conversion true narrow = 0
 conversion false narrow = if narrow then 1 else 0
 
 abbrev mutual
-  -- An expression's; where a conversion is implied, one on top of it is not counted: in what is assigned, passed, returned, or initialises.
+  -- An expression's; where a conversion is implied, one on top of it is not counted: in what is assigned, passed,
+  -- returned, or initialises.
   pub weighed : (implied : Bool) → RvalueTree → ℕ
   weighed q (Constant z t) = 1
   weighed q Null = 1
@@ -92,7 +94,8 @@ abbrev mutual
   weighed_statement (IfElse spot e s t) = weighed false e + (weighed_statement s + weighed_statement t) + 1
   weighed_statement (While spot e s) = weighed false e + weighed_statement s + 1
   weighed_statement (DoWhile s spot e) = weighed false e + weighed_statement s + 1
-  weighed_statement (For start spot e step s) = weighed_start start + (weighed_option false e + (weighed_step step + weighed_statement s)) + 1
+  weighed_statement (For start spot e step s) =
+      weighed_start start + (weighed_option false e + (weighed_step step + weighed_statement s)) + 1
   weighed_statement (Switch spot e all) = weighed false e + weighed_statements all + 2
   weighed_statement (Break spot) = 1
   weighed_statement (Continue spot) = 1
@@ -105,6 +108,7 @@ abbrev mutual
   weighed_statements (case z rest) = weighed_statements rest + 2
   weighed_statements (default rest) = weighed_statements rest + 1
 
--- A function weighs as much as it has nodes and conversions to narrow types that were written, with its parameters and two, or more.
+-- A function weighs as much as it has nodes and conversions to narrow types that were written, with its parameters and
+-- two, or more.
 abbrev pub IsWeighed : TypedFunctionTree → Type 0
 IsWeighed f = 2 + f.parameters + weighed_statements f.body ≤ f.weight

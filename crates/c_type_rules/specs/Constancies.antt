@@ -8,7 +8,7 @@ use Rattle.c_type_rules.specs.declared.constancy.Constancy.{Constancy}
 use Rattle.c_type_rules.specs.declared.constancy.Constancy.TheVariants.{Varies, Formed, Known, Address}
 use Rattle.word_base.specs.Operations.{truth}
 use Rattle.c_type_rules.specs.Integers.{wrapped}
-use Rattle.c_type_rules.specs.Constants.{calculated, compared, signed, same}
+use Rattle.c_type_rules.specs.Constants.{calculated, comparison_holds, constant_with_sign, same}
 
 -- an expression has the form of an integer constant expression
 abbrev pub is_formed : Constancy → Bool
@@ -33,7 +33,7 @@ converted_constant t k = k
 
 -- of `+`, `-` or `~` in a type
 abbrev pub sign_constant : Sign → IntegerType → Constancy → Constancy
-sign_constant o t (Known z) = or_formed (signed o t z)
+sign_constant o t (Known z) = or_formed (constant_with_sign o t z)
 sign_constant o t k = k
 
 -- of `!`
@@ -48,7 +48,7 @@ arithmetic_constant o t k l = only_formed k l
 
 -- of a comparison
 abbrev pub comparison_constant : Comparison → Constancy → Constancy → Constancy
-comparison_constant o (Known a) (Known b) = Known (truth (compared o a b))
+comparison_constant o (Known a) (Known b) = Known (truth (comparison_holds o a b))
 comparison_constant o k l = only_formed k l
 
 -- whether a value is not 0, as a constant

@@ -36,16 +36,16 @@ rank Long = 4
 rank UnsignedLong = 4
 
 -- how many bytes a type has
-abbrev pub size : IntegerType → ℕ
-size Char = 1
-size SignedChar = 1
-size UnsignedChar = 1
-size Short = 2
-size UnsignedShort = 2
-size Int = 4
-size UnsignedInt = 4
-size Long = 4
-size UnsignedLong = 4
+abbrev pub integer_size : IntegerType → ℕ
+integer_size Char = 1
+integer_size SignedChar = 1
+integer_size UnsignedChar = 1
+integer_size Short = 2
+integer_size UnsignedShort = 2
+integer_size Int = 4
+integer_size UnsignedInt = 4
+integer_size Long = 4
+integer_size UnsignedLong = 4
 
 -- a number is one of a type's
 abbrev pub fits : IntegerType → ℤ → Bool
@@ -55,7 +55,8 @@ fits t z = word.holds (integer t) z
 unfoldable pub residue : ℤ → ℕ → ℕ
 residue z m = word.modulo m z
 
--- a number converted to a type: the one of the type's numbers that differs from it by a multiple of how many there are (6.3.1.3)
+-- a number converted to a type: the one of the type's numbers that differs from it by a multiple of how many there are
+-- (6.3.1.3)
 abbrev pub wrapped : IntegerType → ℤ → ℤ
 wrapped t z = word.converted (integer t) z
 
@@ -75,18 +76,21 @@ unsigned_of UnsignedInt = UnsignedInt
 unsigned_of Long = UnsignedLong
 unsigned_of UnsignedLong = UnsignedLong
 
--- the common type of two promoted types, the first of no lesser rank: it is the first, but where the first is signed and the other unsigned it is the first's unsigned type.
--- For a signed type of greater rank holds no more numbers here than an unsigned one of lesser rank has.
+-- the common type of two promoted types, the first of no lesser rank: it is the first, but where the first is signed
+-- and the other unsigned it is the first's unsigned type. For a signed type of greater rank holds no more numbers here
+-- than an unsigned one of lesser rank has.
 abbrev pub joined : IntegerType → IntegerType → IntegerType
 joined t u = if is_signed t && not (is_signed u) then unsigned_of t else t
 
 -- the usual arithmetic conversions (6.3.1.8)
 abbrev pub common : IntegerType → IntegerType → IntegerType
-common a b = if nat_lt (rank (promoted a)) (rank (promoted b)) then joined (promoted b) (promoted a) else joined (promoted a) (promoted b)
+common a b =
+    if nat_lt (rank (promoted a)) (rank (promoted b)) then joined (promoted b) (promoted a)
+    else joined (promoted a) (promoted b)
 
 -- how many bytes an object of a scalar type has; a pointer has 4
 abbrev pub scalar_size : Scalar → ℕ
-scalar_size s = if s.stars == 0 then size s.base else 4
+scalar_size s = if s.stars == 0 then integer_size s.base else 4
 
 -- how many bytes an object of a type has
 abbrev pub object_size : ObjectType → ℕ

@@ -7,7 +7,7 @@ use Rattle.c_tree.specs.declared.object_type.ObjectType.{ObjectType}
 use Rattle.c_tree.specs.declared.object_type.ObjectType.TheVariants as object
 use Rattle.c_tree.specs.declared.object_type.ValueType.{ValueType}
 use Rattle.c_tree.specs.declared.object_type.ValueType.TheVariants as value
-use Rattle.c_type_rules.specs.Integers.{size}
+use Rattle.c_type_rules.specs.Integers.{integer_size}
 
 -- each integer type has a number of its own
 abbrev pub type_number : IntegerType → ℕ
@@ -47,11 +47,11 @@ abbrev pub pointed_to : Scalar → Scalar
 pointed_to s = record { base = s.base; stars = s.stars - 1 }
 
 -- the type of what an object of a scalar type holds
-abbrev pub loaded : Scalar → ValueType
-loaded s = if s.stars == 0 then value.Integer s.base else value.Pointer (object.Scalar (pointed_to s))
+abbrev pub loaded_type : Scalar → ValueType
+loaded_type s = if s.stars == 0 then value.Integer s.base else value.Pointer (object.Scalar (pointed_to s))
 
 -- how many bytes a value of a type has; `void` has none
 abbrev pub value_size : ValueType → ℕ
 value_size value.Void = 0
-value_size (value.Integer t) = size t
+value_size (value.Integer t) = integer_size t
 value_size (value.Pointer of) = 4

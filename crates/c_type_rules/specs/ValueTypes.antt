@@ -10,7 +10,7 @@ use Rattle.c_tree.specs.declared.typed_expression.Callee as declared-callee
 use Rattle.c_tree.specs.declared.typed_expression.Callee.TheVariants as callee
 use Rattle.c_tree.specs.TypedExpressions.{RvalueTree, LvalueTree, Constant, Null, Load, Decay, AddressOf, Convert, Discard, Signed, Not, Arithmetic, Compare, ComparePointers, Move, MoveFrom, Difference, And, Or, Conditional, Comma, Assign, Update, UpdatePointer, Step, StepPointer, Call, Named, Target, Element, ElementFrom}
 use Rattle.c_tree.specs.Programs.{TypedFunctionTree}
-use Rattle.c_type_rules.specs.Types.{loaded}
+use Rattle.c_type_rules.specs.Types.{loaded_type}
 
 -- the types of what functions give, by their numbers
 abbrev pub results_of : List TypedFunctionTree → List ValueType
@@ -40,11 +40,12 @@ module _ (results : List ValueType) where
   given_by callee.Putchar = Integer Int
   given_by callee.Exit = Void
 
-  -- The type of an expression's value. The null pointer is of each pointer type: here it stands for a pointer to characters.
+  -- The type of an expression's value. The null pointer is of each pointer type: here it stands for a pointer to
+  -- characters.
   abbrev pub type_of : RvalueTree → ValueType
   type_of (Constant z t) = Integer t
   type_of Null = character_pointer
-  type_of (Load s l) = loaded s
+  type_of (Load s l) = loaded_type s
   type_of (Decay l) = decayed (object_type l)
   type_of (AddressOf l) = Pointer (object_type l)
   type_of (Convert t e) = Integer t
@@ -61,7 +62,7 @@ module _ (results : List ValueType) where
   type_of (Or a b) = Integer Int
   type_of (Conditional c a b) = type_of a
   type_of (Comma a b) = type_of b
-  type_of (Assign s l e) = loaded s
+  type_of (Assign s l e) = loaded_type s
   type_of (Update o t u l e) = Integer t
   type_of (UpdatePointer d of l e) = Pointer of
   type_of (Step d g t u l) = Integer t

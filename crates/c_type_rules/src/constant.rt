@@ -2,9 +2,9 @@
 
 ghost use Rattle.std.specs.Prelude.{◌≢◌, ◌==◌, ◌*ℤ◌, ◌^◌, pos, false, int_div, int_rem, int_lt, ◌&&◌, ◌≡◌, ◌<◌, IfSome, if◌then◌else◌, unsigned_abs};
 ghost use Rattle.word_base.specs.Types.{in_range};
-ghost use Rattle.word_base.specs.Operations.{kept, is_count, left_shift, quotient, remainder, right_shift};
+ghost use Rattle.word_base.specs.Operations.{result_of_type, is_shift_count, left_shift, quotient, remainder, right_shift};
 ghost use Rattle.c_type_rules.specs.Integers.{integer};
-ghost use Rattle.c_type_rules.specs.Constants.{calculated, compared, signed};
+ghost use Rattle.c_type_rules.specs.Constants.{calculated, comparison_holds, constant_with_sign};
 
 use crate::integer::{bits, bits_of, fits, is_signed, number_of, wrapped};
 use c_tree::{Arithmetic, Comparison, IntegerType, Sign};
@@ -23,7 +23,7 @@ pub fn in_range(of: IntegerType, number: i128) -> Option<i64>
 /// A result of a type: one that does not fit is none in a signed type, and converted in an unsigned one (6.2.5p9,
 /// 6.5p5).
 fn kept(of: IntegerType, number: i128) -> Option<i64>
-    ensures { result ≡ kept (integer of) number }
+    ensures { result ≡ result_of_type (integer of) number }
 {
     if is_signed(of) {
         in_range(of, number)
@@ -82,7 +82,7 @@ fn remainder(of: IntegerType, left: i64, right: i64) -> Option<i64>
 
 /// A shift's count, if it is one: it is not negative, and below how many bits the left operand has (6.5.7).
 fn count(of: IntegerType, by: i64) -> Option<u32>
-    ensures number { result ≡ (if is_count (integer of) by then Some (unsigned_abs by) else None) }
+    ensures number { result ≡ (if is_shift_count (integer of) by then Some (unsigned_abs by) else None) }
     ensures bounded { IfSome result (λ n. n < 32) }
 {
     if by < 0 || i64::from(bits(of)) <= by {
@@ -116,7 +116,7 @@ fn is_below_zero(of: IntegerType, left: i64) -> bool
 /// A left operand times a power of two, as a result of its type.
 fn left_shifted(of: IntegerType, left: i64, by: u32) -> Option<i64>
     requires { by < 32 }
-    ensures { result ≡ kept (integer of) (left *ℤ pos (2 ^ by)) }
+    ensures { result ≡ result_of_type (integer of) (left *ℤ pos (2 ^ by)) }
 {
     kept(of, shifted(left, by))
 }
@@ -162,7 +162,7 @@ pub fn calculated(operator: Arithmetic, of: IntegerType, left: i64, right: i64) 
 
 /// Whether a comparison of two numbers holds.
 pub fn compared(operator: Comparison, left: i64, right: i64) -> bool
-    ensures { result ≡ compared operator left right }
+    ensures { result ≡ comparison_holds operator left right }
 {
     match operator {
         Comparison::Less => left < right,
@@ -176,7 +176,7 @@ pub fn compared(operator: Comparison, left: i64, right: i64) -> bool
 
 /// What a sign gives on a number of a type; none where it does not fit.
 pub fn signed(sign: Sign, of: IntegerType, number: i64) -> Option<i64>
-    ensures { result ≡ signed sign of number }
+    ensures { result ≡ constant_with_sign sign of number }
 {
     match sign {
         Sign::Plus => Some(number),

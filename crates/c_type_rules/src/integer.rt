@@ -1,8 +1,8 @@
 //! Integer types: their ranges, promotions and conversions (ISO/IEC 9899:2011, 6.2.5 and 6.3.1).
 
 ghost use Rattle.std.specs.Prelude.{◌≡◌, ◌<◌, ◌≤◌, ◌^◌};
-ghost use Rattle.word_base.specs.Types.{bits_of, greatest, least, number_of};
-ghost use Rattle.c_type_rules.specs.Integers.{common, fits, integer, is_signed, joined, promoted, rank, residue, room, object_size, scalar_size, size, unsigned_of, wrapped};
+ghost use Rattle.word_base.specs.Types.{bits_of, greatest, least_number, number_of_bits};
+ghost use Rattle.c_type_rules.specs.Integers.{common, fits, integer, is_signed, joined, promoted, rank, residue, room, object_size, scalar_size, integer_size as size, unsigned_of, wrapped};
 
 use c_tree::{IntegerType, ObjectType, Scalar};
 
@@ -57,7 +57,7 @@ fn modulus(of: IntegerType) -> u64
 
 /// The least number of a type.
 fn lowest(of: IntegerType) -> i64
-    ensures { result ≡ least (integer of) }
+    ensures { result ≡ least_number (integer of) }
 {
     match of {
         IntegerType::SignedChar => -128,
@@ -109,7 +109,7 @@ pub fn bits_of(of: IntegerType, number: i128) -> u32
 
 /// The number of a type that has these bits.
 pub fn number_of(of: IntegerType, bits: u32) -> i64
-    ensures { result ≡ number_of (integer of) bits }
+    ensures { result ≡ number_of_bits (integer of) bits }
 {
     if is_signed(of) && modulus(of) <= 2 * u64::from(bits) {
         return i64::from(bits) - modulus(of) as i64;

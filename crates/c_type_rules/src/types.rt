@@ -1,7 +1,7 @@
 //! Types of objects and values (6.2.5).
 
 ghost use Rattle.std.specs.Prelude.{◌≡◌};
-ghost use Rattle.c_type_rules.specs.Types.{loaded, pointed_to, same_integer, same_object, same_scalar, same_value, type_number, value_size};
+ghost use Rattle.c_type_rules.specs.Types.{loaded_type, pointed_to, same_integer, same_object, same_scalar, same_value, type_number, value_size};
 
 use crate::integer::size;
 use c_tree::{IntegerType, ObjectType, Scalar, ValueType};
@@ -68,7 +68,7 @@ pub fn same_value(one: ValueType, other: ValueType) -> bool
 
 /// The type of what an object of a scalar type holds.
 pub fn loaded(of: Scalar) -> ValueType
-    ensures { result ≡ loaded of }
+    ensures { result ≡ loaded_type of }
 {
     if of.stars == 0 {
         ValueType::Integer(of.base)

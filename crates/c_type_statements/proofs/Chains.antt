@@ -3,7 +3,7 @@ use Rattle.std.proofs.Common.{◌≡◌, ℕ, List, [], ◌∷◌, ◌++◌, Opt
 use Rattle.debug_records.specs.declared.code.TheConstants.Code.{MISPLACED_JUMP}
 use Rattle.c_tree.specs.declared.types.IntegerType.{IntegerType}
 use Rattle.c_tree.specs.Statements.{StatementTree, BranchTree, LabelTree, CaseLabel, DefaultLabel, if_tree, else_tree, behind_labels}
-use Rattle.c_tree.specs.Ends.{first_of}
+use Rattle.c_tree.specs.Ends.{first_spot}
 use Rattle.c_tree.specs.TypedStatements.{TypedStatementTree, If, IfElse}
 use Rattle.c_type_declarations.specs.Progress.{ProgressTree, Met, means, next_met, breaks}
 use Rattle.c_type_statements.specs.declared.setting.Setting.{Setting}
@@ -46,11 +46,11 @@ item_labels g kind (DefaultLabel extent ∷ ls) s l p = item_step g kind s (behi
 
 -- one branch, with what follows it
 branch_then : {A : Type 0} (g : Setting) (b : BranchTree) (last : ℕ) (p : ProgressTree) (f : BuiltTree → ProgressTree → Met A)
-    → next_met (branch_met g last b p) f ≡ next_met (condition_met (record { first = b.spot; last = last }) b.condition p) (λ r q. next_met (statement_met g b.then q) (λ t. f (record { spot = first_of b.condition; condition = r; body = t })))
+    → next_met (branch_met g last b p) f ≡ next_met (condition_met (record { first = b.spot; last = last }) b.condition p) (λ r q. next_met (statement_met g b.then q) (λ t. f (record { spot = first_spot b.condition; condition = r; body = t })))
 unfolding next_met
 branch_then g b last p f =
-    next_next (condition_met (record { first = b.spot; last = last }) b.condition p) (λ r q. next_met (statement_met g b.then q) (λ t. means (record { spot = first_of b.condition; condition = r; body = t }))) f
-    ∙ next_same (condition_met (record { first = b.spot; last = last }) b.condition p) _ (λ r q. next_met (statement_met g b.then q) (λ t. f (record { spot = first_of b.condition; condition = r; body = t }))) (λ r q. next_next (statement_met g b.then q) (λ t. means (record { spot = first_of b.condition; condition = r; body = t })) f)
+    next_next (condition_met (record { first = b.spot; last = last }) b.condition p) (λ r q. next_met (statement_met g b.then q) (λ t. means (record { spot = first_spot b.condition; condition = r; body = t }))) f
+    ∙ next_same (condition_met (record { first = b.spot; last = last }) b.condition p) _ (λ r q. next_met (statement_met g b.then q) (λ t. f (record { spot = first_spot b.condition; condition = r; body = t }))) (λ r q. next_next (statement_met g b.then q) (λ t. means (record { spot = first_spot b.condition; condition = r; body = t })) f)
 
 -- the last `else`, behind branches
 abbrev else_then : Setting → Option StatementTree → BuiltTree → List BuiltTree → ProgressTree → Met TypedStatementTree
@@ -82,12 +82,12 @@ pub chain_is_nested : (g : Setting) (b : BranchTree) (bs : List BranchTree) (s :
     → chain_met g (last_of_statement (if_tree b (else_tree bs s))) b bs s p ≡ statement_met g (if_tree b (else_tree bs s)) p
 unfolding next_met
 chain_is_nested g b [] None p =
-    branch_then g b (last_of_statement b.then) p (λ x. means (with_else x None)) ∙ sym (bare_unlabeled no_labels (next_met (condition_met (to_end b.spot b.then) b.condition p) (λ r q. next_met (statement_met g b.then q) (λ t. means (If (first_of b.condition) r t)))))
+    branch_then g b (last_of_statement b.then) p (λ x. means (with_else x None)) ∙ sym (bare_unlabeled no_labels (next_met (condition_met (to_end b.spot b.then) b.condition p) (λ r q. next_met (statement_met g b.then q) (λ t. means (If (first_spot b.condition) r t)))))
 chain_is_nested g b [] (Some s) p =
     branch_then g b (last_of_statement s) p (λ x q. next_met (next_met (statement_met g s q) (λ t. means (Some t))) (λ t. means (with_else x t)))
-    ∙ next_same (condition_met (to_end b.spot s) b.condition p) (λ r q. next_met (statement_met g b.then q) (λ a u. next_met (next_met (statement_met g s u) (λ t. means (Some t))) (λ t. means (with_else (record { spot = first_of b.condition; condition = r; body = a }) t)))) (λ r q. next_met (statement_met g b.then q) (λ a u. next_met (statement_met g s u) (within_else (record { spot = first_of b.condition; condition = r; body = a })))) (λ r q. next_same (statement_met g b.then q) (λ a u. next_met (next_met (statement_met g s u) (λ t. means (Some t))) (λ t. means (with_else (record { spot = first_of b.condition; condition = r; body = a }) t))) (λ a u. next_met (statement_met g s u) (within_else (record { spot = first_of b.condition; condition = r; body = a }))) (λ a u. next_next (statement_met g s u) (λ t. means (Some t)) (λ t. means (with_else (record { spot = first_of b.condition; condition = r; body = a }) t)))) ∙ sym (bare_unlabeled no_labels (next_met (condition_met (to_end b.spot s) b.condition p) (λ r q. next_met (statement_met g b.then q) (λ a u. next_met (statement_met g s u) (λ b'. means (IfElse (first_of b.condition) r a b'))))))
+    ∙ next_same (condition_met (to_end b.spot s) b.condition p) (λ r q. next_met (statement_met g b.then q) (λ a u. next_met (next_met (statement_met g s u) (λ t. means (Some t))) (λ t. means (with_else (record { spot = first_spot b.condition; condition = r; body = a }) t)))) (λ r q. next_met (statement_met g b.then q) (λ a u. next_met (statement_met g s u) (within_else (record { spot = first_spot b.condition; condition = r; body = a })))) (λ r q. next_same (statement_met g b.then q) (λ a u. next_met (next_met (statement_met g s u) (λ t. means (Some t))) (λ t. means (with_else (record { spot = first_spot b.condition; condition = r; body = a }) t))) (λ a u. next_met (statement_met g s u) (within_else (record { spot = first_spot b.condition; condition = r; body = a }))) (λ a u. next_next (statement_met g s u) (λ t. means (Some t)) (λ t. means (with_else (record { spot = first_spot b.condition; condition = r; body = a }) t)))) ∙ sym (bare_unlabeled no_labels (next_met (condition_met (to_end b.spot s) b.condition p) (λ r q. next_met (statement_met g b.then q) (λ a u. next_met (statement_met g s u) (λ b'. means (IfElse (first_spot b.condition) r a b'))))))
 chain_is_nested g b (c ∷ cs) s p =
     let t = if_tree c (else_tree cs s) in
     let last = last_of_statement t in
     branch_then g b last p (λ x q. next_met (branches_met g last (c ∷ cs) q) (else_then g s x))
-    ∙ next_same (condition_met (to_end b.spot t) b.condition p) (λ r q. next_met (statement_met g b.then q) (λ a u. next_met (branches_met g last (c ∷ cs) u) (else_then g s (record { spot = first_of b.condition; condition = r; body = a })))) (λ r q. next_met (statement_met g b.then q) (λ a u. next_met (statement_met g t u) (within_else (record { spot = first_of b.condition; condition = r; body = a })))) (λ r q. next_same (statement_met g b.then q) (λ a u. next_met (branches_met g last (c ∷ cs) u) (else_then g s (record { spot = first_of b.condition; condition = r; body = a }))) (λ a u. next_met (statement_met g t u) (within_else (record { spot = first_of b.condition; condition = r; body = a }))) (λ a u. others_within g last c cs s (record { spot = first_of b.condition; condition = r; body = a }) u ∙ ap (λ m. next_met m (within_else (record { spot = first_of b.condition; condition = r; body = a }))) (chain_is_nested g c cs s u))) ∙ sym (bare_unlabeled no_labels (next_met (condition_met (to_end b.spot t) b.condition p) (λ r q. next_met (statement_met g b.then q) (λ a u. next_met (statement_met g t u) (λ b'. means (IfElse (first_of b.condition) r a b'))))))
+    ∙ next_same (condition_met (to_end b.spot t) b.condition p) (λ r q. next_met (statement_met g b.then q) (λ a u. next_met (branches_met g last (c ∷ cs) u) (else_then g s (record { spot = first_spot b.condition; condition = r; body = a })))) (λ r q. next_met (statement_met g b.then q) (λ a u. next_met (statement_met g t u) (within_else (record { spot = first_spot b.condition; condition = r; body = a })))) (λ r q. next_same (statement_met g b.then q) (λ a u. next_met (branches_met g last (c ∷ cs) u) (else_then g s (record { spot = first_spot b.condition; condition = r; body = a }))) (λ a u. next_met (statement_met g t u) (within_else (record { spot = first_spot b.condition; condition = r; body = a }))) (λ a u. others_within g last c cs s (record { spot = first_spot b.condition; condition = r; body = a }) u ∙ ap (λ m. next_met m (within_else (record { spot = first_spot b.condition; condition = r; body = a }))) (chain_is_nested g c cs s u))) ∙ sym (bare_unlabeled no_labels (next_met (condition_met (to_end b.spot t) b.condition p) (λ r q. next_met (statement_met g b.then q) (λ a u. next_met (statement_met g t u) (λ b'. means (IfElse (first_spot b.condition) r a b'))))))

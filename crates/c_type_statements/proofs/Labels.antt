@@ -7,8 +7,8 @@ use Rattle.c_tree.specs.declared.extent.Extent.{Extent}
 use Rattle.c_tree.specs.declared.types.IntegerType.{IntegerType}
 use Rattle.c_tree.specs.Expressions.{ExpressionTree}
 use Rattle.c_type_declarations.specs.Progress.{ProgressTree, means, next_met, value_met, breaks}
-use Rattle.c_type_statements.specs.Settings.{unless}
-use Rattle.c_type_statements.specs.Switches.{PartTree, Case, Labels, behind, case_met, case_numbered, is_among}
+use Rattle.c_type_statements.specs.Settings.{rule_unless}
+use Rattle.c_type_statements.specs.Switches.{PartTree, Case, Labels, behind, case_met, case_numbered, is_among_numbers}
 
 -- a `case` that is no integer constant
 pub case_unnumbered : (extent : Extent) (ls : Labels) (done : List PartTree) (p q : ProgressTree)
@@ -18,7 +18,7 @@ case_unnumbered extent ls done p q h = rw (h, append-nil done) refl
 
 -- a `case` of a number
 pub case_added : (z : ℤ) (extent : Extent) (ls : Labels) (done : List PartTree) (p q : ProgressTree)
-    → q ≡ unless (not (is_among z ls.values)) REPEATED_LABEL extent p
+    → q ≡ rule_unless (not (is_among_numbers z ls.values)) REPEATED_LABEL extent p
     → means (record { parts = done ++ Case z ∷ []; labels = record { values = ls.values ++ z ∷ []; has_default = ls.has_default } }) q ≡ next_met (case_numbered (Some z) extent ls p) (behind done)
 unfolding next_met
 case_added z extent ls done p q h = rw h refl

@@ -2,7 +2,7 @@
 use Rattle.std.proofs.Common.{◌≡◌, List, [], ◌++◌, refl, ap, sym, append_assoc}
 use Rattle.c_tree.specs.TypedStatements.{TypedStatementTree}
 use Rattle.c_type_declarations.specs.Progress.{ProgressTree, Met, means, next_met, reached_by}
-use Rattle.c_type_statements.specs.Switches.{PartTree, Parts, Labels, Labeled, behind, bare, unlabeled, preceded}
+use Rattle.c_type_statements.specs.Switches.{PartTree, Parts, Labels, Labeled, behind, bare, without_label, preceded}
 
 -- what stands behind a part, in another spelling
 pub next_same : {A B : Type 0} (m : Met A) (f g : A → ProgressTree → Met B) → ((a : A) (p : ProgressTree) → f a p ≡ g a p) → next_met m f ≡ next_met m g
@@ -20,8 +20,8 @@ unfolding next_met
 behind_both (means q p) first second = ap (λ ps. means (record { parts = ps; labels = q.labels }) p) (sym (append_assoc first second q.parts))
 
 -- a statement without a label, bare
-pub bare_unlabeled : (ls : Labels) (m : Met TypedStatementTree) → bare (unlabeled ls m) ≡ m
-unfolding next_met bare unlabeled
+pub bare_unlabeled : (ls : Labels) (m : Met TypedStatementTree) → bare (without_label ls m) ≡ m
+unfolding next_met bare without_label
 bare_unlabeled ls (means t p) = refl
 
 -- nothing before a statement

@@ -3,31 +3,31 @@ use Rattle.std.proofs.Common.{◌≡◌, ℕ, ◌+◌, ◌<◌, ◌≤◌, List,
 use Rattle.std.proofs.lemmas.List.{drop_all, append-nil}
 use Rattle.c_tree.specs.declared.types.IntegerType.{IntegerType}
 use Rattle.c_tree.specs.declared.statement.Statement.{Statement}
-use Rattle.c_tree.specs.Statements.{StatementTree, StatementTrees, BranchTree, LabelTree, first, chain, statement_view}
+use Rattle.c_tree.specs.Statements.{StatementTree, StatementTrees, BranchTree, LabelTree, first, chain_of_statements, statement_view}
 use Rattle.c_tree.specs.TypedStatements.{TypedStatementTree, TypedStatementTrees}
 use Rattle.c_tree.specs.TypedStatements as typed-tree
 use Rattle.c_type_declarations.specs.Progress.{ProgressTree, Met, means, next_met}
 use Rattle.c_type_declarations.proofs.Steps.{next_more}
 use Rattle.c_type_declarations.proofs.Loops.{drop_item}
 use Rattle.c_type_statements.specs.declared.setting.Setting.{Setting}
-use Rattle.c_type_statements.specs.Switches.{PartTree, Statement as StatementPart, Parts, Labels, Labeled, Inside, added, label_met, put, put_all, behind}
-use Rattle.c_type_statements.specs.Statements.{met, statement_met, statements_met, items_met}
+use Rattle.c_type_statements.specs.Switches.{PartTree, Statement as StatementPart, Parts, Labels, Labeled, Inside, added, label_met, parts_before, put_all, behind}
+use Rattle.c_type_statements.specs.Statements.{met, statement_met, statements_met, block_items_met}
 use Rattle.c_type_statements.specs.Chains.{BuiltTree, branch_met, branches_met, labels_met, nested, with_else}
 use Rattle.c_type_statements.proofs.Laws.{behind_both}
 
 -- a statement, and those behind it
-pub chain_item : (xs : List Statement) (i : ℕ) (x : Statement) → i < length xs → x ≡ get_or xs i x → chain (map statement_view (drop i xs)) ≡ first (statement_view x) (chain (map statement_view (drop (i + 1) xs)))
-chain_item xs i x h e = ap (λ ys. chain (map statement_view ys)) (drop_item xs i x h e)
+pub chain_item : (xs : List Statement) (i : ℕ) (x : Statement) → i < length xs → x ≡ get_or xs i x → chain_of_statements (map statement_view (drop i xs)) ≡ first (statement_view x) (chain_of_statements (map statement_view (drop (i + 1) xs)))
+chain_item xs i x h e = ap (λ ys. chain_of_statements (map statement_view ys)) (drop_item xs i x h e)
 
 -- the last of parts stands right before what is behind them
-pub put_more : (ps : List PartTree) (q : PartTree) (all : TypedStatementTrees) → put_all (ps ++ q ∷ []) all ≡ put_all ps (put q all)
+pub put_more : (ps : List PartTree) (q : PartTree) (all : TypedStatementTrees) → put_all (ps ++ q ∷ []) all ≡ put_all ps (parts_before q all)
 put_more [] q all = refl
-put_more (p ∷ ps) q all = ap (λ x. put p x) (put_more ps q all)
+put_more (p ∷ ps) q all = ap (λ x. parts_before p x) (put_more ps q all)
 
 -- parts behind parts
 pub put_both : (ps qs : List PartTree) (all : TypedStatementTrees) → put_all (ps ++ qs) all ≡ put_all ps (put_all qs all)
 put_both [] qs all = refl
-put_both (p ∷ ps) qs all = ap (λ x. put p x) (put_both ps qs all)
+put_both (p ∷ ps) qs all = ap (λ x. parts_before p x) (put_both ps qs all)
 
 put_step : (m : Met TypedStatementTrees) (done : List PartTree) (t : TypedStatementTree)
     → next_met (next_met m (λ ts. means (typed-tree.first t ts))) (λ ts. means (put_all done ts)) ≡ next_met m (λ ts. means (put_all (done ++ StatementPart t ∷ []) ts))
@@ -41,31 +41,31 @@ unfolding next_met
 statements_step g s more done t p q a = rw (sym a) (put_step (statements_met g more q) done t)
 
 pub statements_end : (g : Setting) (xs : List Statement) (i : ℕ) (done : List PartTree) (p : ProgressTree)
-    → length xs ≤ i → next_met (statements_met g (chain (map statement_view (drop i xs))) p) (λ ts. means (put_all done ts)) ≡ means (put_all done typed-tree.none) p
+    → length xs ≤ i → next_met (statements_met g (chain_of_statements (map statement_view (drop i xs))) p) (λ ts. means (put_all done ts)) ≡ means (put_all done typed-tree.none) p
 unfolding next_met
 statements_end g xs i done p h = rw (drop_all i xs h) refl
 
 -- statements behind parts of the block of a `switch`
 items_behind : Setting → Option IntegerType → StatementTrees → Parts → ProgressTree → Met TypedStatementTrees
-items_behind g kind more x q = next_met (items_met g kind more x.labels q) (λ ts. means (put_all x.parts ts))
+items_behind g kind more x q = next_met (block_items_met g kind more x.labels q) (λ ts. means (put_all x.parts ts))
 
 both_step : (m : Met TypedStatementTrees) (ps qs : List PartTree) → next_met (next_met m (λ ts. means (put_all qs ts))) (λ ts. means (put_all ps ts)) ≡ next_met m (λ ts. means (put_all (ps ++ qs) ts))
 unfolding next_met
 both_step (means ts p) ps qs = ap (λ x. means x p) (sym (put_both ps qs ts))
 
 items_over : (g : Setting) (kind : Option IntegerType) (m : Met Labeled) (more : StatementTrees) (done : List PartTree)
-    → next_met (next_met m (λ x q. next_met (items_met g kind more x.labels q) (λ ts. means (put_all (x.before ++ StatementPart x.statement ∷ []) ts)))) (λ ts. means (put_all done ts)) ≡ next_met (next_met m (added done)) (items_behind g kind more)
+    → next_met (next_met m (λ x q. next_met (block_items_met g kind more x.labels q) (λ ts. means (put_all (x.before ++ StatementPart x.statement ∷ []) ts)))) (λ ts. means (put_all done ts)) ≡ next_met (next_met m (added done)) (items_behind g kind more)
 unfolding next_met items_behind
-items_over g kind (means x r) more done = both_step (items_met g kind more x.labels r) done (x.before ++ StatementPart x.statement ∷ [])
+items_over g kind (means x r) more done = both_step (block_items_met g kind more x.labels r) done (x.before ++ StatementPart x.statement ∷ [])
 
 pub items_step : (g : Setting) (kind : Option IntegerType) (s : StatementTree) (more : StatementTrees) (done after : List PartTree) (ls ms : Labels) (p q : ProgressTree)
     → means (record { parts = after; labels = ms }) q ≡ next_met (met (Inside kind ls) g s p) (added done)
-    → next_met (items_met g kind (first s more) ls p) (λ ts. means (put_all done ts)) ≡ next_met (items_met g kind more ms q) (λ ts. means (put_all after ts))
+    → next_met (block_items_met g kind (first s more) ls p) (λ ts. means (put_all done ts)) ≡ next_met (block_items_met g kind more ms q) (λ ts. means (put_all after ts))
 unfolding next_met items_behind
 items_step g kind s more done after ls ms p q a = items_over g kind (met (Inside kind ls) g s p) more done ∙ ap (λ m. next_met m (items_behind g kind more)) (sym a)
 
 pub items_end : (g : Setting) (kind : Option IntegerType) (xs : List Statement) (i : ℕ) (done : List PartTree) (ls : Labels) (p : ProgressTree)
-    → length xs ≤ i → next_met (items_met g kind (chain (map statement_view (drop i xs))) ls p) (λ ts. means (put_all done ts)) ≡ means (put_all done typed-tree.none) p
+    → length xs ≤ i → next_met (block_items_met g kind (chain_of_statements (map statement_view (drop i xs))) ls p) (λ ts. means (put_all done ts)) ≡ means (put_all done typed-tree.none) p
 unfolding next_met
 items_end g kind xs i done ls p h = rw (drop_all i xs h) refl
 

@@ -14,7 +14,7 @@ use Rattle.c_tree.specs.declared.statement.Label.{Label}
 use Rattle.c_tree.specs.declared.statement.ForStart.{ForStart}
 use Rattle.c_tree.specs.Expressions.{expression_view}
 use Rattle.c_tree.specs.Declarations.{declaration_view}
-use Rattle.c_tree.specs.Statements.{StatementTree, Compound, Declare, Empty, Run, While, DoWhile, For, Switch, Case, Default, Break, Continue, Return, BlockTree, BranchTree, block_tree, chain, statement_step, block_step, branch_step, start_view, statement_view, block_view, branch_view, label_view, if_tree, else_tree, behind_labels}
+use Rattle.c_tree.specs.Statements.{StatementTree, Compound, Declare, Empty, Run, While, DoWhile, For, Switch, Case, Default, Break, Continue, Return, BlockTree, BranchTree, block_tree, chain_of_statements, statement_step, block_step, branch_step, start_view, statement_view, block_view, branch_view, label_view, if_tree, else_tree, behind_labels}
 
 pub if_view : (b : Box Branch Global) (bs : Vec Branch Global) → statement_view (statement.If b bs None) ≡ if_tree (branch_view b.value) (else_tree (map branch_view bs.items) None)
 if_view b bs = ap statement_view (sym (statement.rolls-If b bs None)) ∙ fold-roll-Statement StatementTree BlockTree BranchTree statement_step block_step branch_step (Statement-F.If b bs None)
@@ -33,7 +33,7 @@ pub branch_out : (b : Branch) → branch_view b ≡ record { spot = b.spot; cond
 branch_out b = fold_out-Branch StatementTree BlockTree BranchTree statement_step block_step branch_step b
 
 -- the other statements
-pub compound_view : (b : Block) → statement_view (statement.Block b) ≡ Compound b.opening (chain (map statement_view b.statements.items)) b.closing
+pub compound_view : (b : Block) → statement_view (statement.Block b) ≡ Compound b.opening (chain_of_statements (map statement_view b.statements.items)) b.closing
 compound_view b =
     ap statement_view (sym (statement.rolls-Block b)) ∙ fold-roll-Statement StatementTree BlockTree BranchTree statement_step block_step branch_step (Statement-F.Block b) ∙ ap block_tree (block_out b)
 
@@ -56,10 +56,10 @@ pub for_view : (spot : Spot) (start : ForStart) (c step : Option Expression) (s 
     → statement_view (statement.For spot start c step s) ≡ For spot (start_view start) (option_map expression_view c) (option_map expression_view step) (statement_view s.value)
 for_view spot start c step s = ap statement_view (sym (statement.rolls-For spot start c step s)) ∙ fold-roll-Statement StatementTree BlockTree BranchTree statement_step block_step branch_step (Statement-F.For spot start c step s)
 
-pub switch_view : (spot : Spot) (e : Expression) (b : Block) → statement_view (statement.Switch spot e b) ≡ Switch spot (expression_view e) b.opening (chain (map statement_view b.statements.items)) b.closing
+pub switch_view : (spot : Spot) (e : Expression) (b : Block) → statement_view (statement.Switch spot e b) ≡ Switch spot (expression_view e) b.opening (chain_of_statements (map statement_view b.statements.items)) b.closing
 switch_view spot e b =
     ap statement_view (sym (statement.rolls-Switch spot e b)) ∙ fold-roll-Statement StatementTree BlockTree BranchTree statement_step block_step branch_step (Statement-F.Switch spot e b)
-    ∙ ap (λ (x : BlockTree). Switch spot (expression_view e) x.opening (chain x.statements) x.closing) (block_out b)
+    ∙ ap (λ (x : BlockTree). Switch spot (expression_view e) x.opening (chain_of_statements x.statements) x.closing) (block_out b)
 
 pub break_view : (extent : Extent) → statement_view (statement.Break extent) ≡ Break extent
 break_view extent = ap statement_view (sym (statement.rolls-Break extent)) ∙ fold-roll-Statement StatementTree BlockTree BranchTree statement_step block_step branch_step (Statement-F.Break extent)

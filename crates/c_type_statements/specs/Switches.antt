@@ -16,8 +16,8 @@ use Rattle.c_type_rules.specs.Integers.{promoted, wrapped}
 use Rattle.c_type_rules.specs.Constants.{same}
 use Rattle.c_type_values.specs.Values.{ValueTree, node_view, to_integer}
 use Rattle.c_type_declarations.specs.Progress.{ProgressTree, Met, means, next_met, reached_by, value_met, breaks}
-use Rattle.c_type_declarations.specs.Initials.{tree_of}
-use Rattle.c_type_statements.specs.Settings.{unless}
+use Rattle.c_type_declarations.specs.Initials.{computed_tree}
+use Rattle.c_type_statements.specs.Settings.{rule_unless}
 use Rattle.c_type_statements.specs.declared.switch.Chosen as declared-chosen
 use Rattle.c_type_statements.specs.declared.switch.Labels as declared-labels
 use Rattle.c_type_statements.specs.declared.part.Part as declared-part
@@ -33,17 +33,18 @@ chosen_view c = record { tree = node_view c.tree; kind = c.kind }
 
 -- the value that a switch goes by, and a fault where it is no integer (C11 6.8.4.2)
 abbrev pub chosen_by : ValueType → Extent → ValueTree → ProgressTree → Met Chosen
-chosen_by (Integer t) extent v p = means (record { tree = (to_integer (promoted t) v).tree; kind = Some (promoted t) }) p
+chosen_by (Integer t) extent v p =
+    means (record { tree = (to_integer (promoted t) v).tree; kind = Some (promoted t) }) p
 chosen_by of extent v p = means (record { tree = v.tree; kind = None }) (breaks OPERAND_TYPES extent p)
 
 -- the value that a switch goes by, if it has one
-abbrev pub chosen : Extent → Option ValueTree → ProgressTree → Met Chosen
-chosen extent (Some v) p = chosen_by v.of extent v p
-chosen extent None p = means (record { tree = tree_of None; kind = None }) p
+abbrev pub controlling_value : Extent → Option ValueTree → ProgressTree → Met Chosen
+controlling_value extent (Some v) p = chosen_by v.of extent v p
+controlling_value extent None p = means (record { tree = computed_tree None; kind = None }) p
 
 -- the controlling expression of a switch
 abbrev pub chosen_met : Extent → ExpressionTree → ProgressTree → Met Chosen
-chosen_met extent e p = next_met (value_met e p) (chosen extent)
+chosen_met extent e p = next_met (value_met e p) (controlling_value extent)
 
 -- the labels so far of a `switch`: the values of `case`, and whether there is a `default`
 pub record Labels : Type 0 where
@@ -58,9 +59,9 @@ abbrev pub no_labels : Labels
 no_labels = record { values = []; has_default = false }
 
 -- a number is among these
-abbrev pub is_among : ℤ → List ℤ → Bool
-is_among z [] = false
-is_among z (y ∷ ys) = same y z || is_among z ys
+abbrev pub is_among_numbers : ℤ → List ℤ → Bool
+is_among_numbers z [] = false
+is_among_numbers z (y ∷ ys) = same y z || is_among_numbers z ys
 
 -- the value of a `case` in the type that its `switch` tests; none where it is no integer constant expression
 abbrev pub in_kind : Option IntegerType → ℤ → ℤ
@@ -84,15 +85,15 @@ part_view part.Default = Default
 part_view (part.Statement s) = Statement (statement_view s.value)
 
 -- parts before statements
-abbrev pub put : PartTree → TypedStatementTrees → TypedStatementTrees
-put (Case z) all = typed-tree.case z all
-put Default all = typed-tree.default all
-put (Statement s) all = typed-tree.first s all
+abbrev pub parts_before : PartTree → TypedStatementTrees → TypedStatementTrees
+parts_before (Case z) all = typed-tree.case z all
+parts_before Default all = typed-tree.default all
+parts_before (Statement s) all = typed-tree.first s all
 
 -- the parts of a statement before others
 abbrev pub put_all : List PartTree → TypedStatementTrees → TypedStatementTrees
 put_all [] all = all
-put_all (p ∷ ps) all = put p (put_all ps all)
+put_all (p ∷ ps) all = parts_before p (put_all ps all)
 
 -- parts, and the labels so far
 pub record Parts : Type 0 where
@@ -102,10 +103,15 @@ pub record Parts : Type 0 where
 abbrev pub so_far : List declared-part.Part → declared-labels.Labels → Parts
 so_far ps ls = record { parts = map part_view ps; labels = labels_view ls }
 
--- `case` with a value that no label of its `switch` has yet (E28), which has to be an integer constant (E26); a label at fault is none
+-- `case` with a value that no label of its `switch` has yet (E28), which has to be an integer constant (E26); a label
+-- at fault is none
 abbrev pub case_numbered : Option ℤ → Extent → Labels → ProgressTree → Met Parts
 case_numbered (Some z) extent ls p =
-    means (record { parts = Case z ∷ []; labels = record ls { values = ls.values ++ z ∷ [] } }) (unless (not (is_among z ls.values)) REPEATED_LABEL extent p)
+    means (record {
+      parts = Case z ∷ [];
+      labels = record ls { values = ls.values ++ z ∷ [] };
+    }) (rule_unless (not
+    (is_among_numbers z ls.values)) REPEATED_LABEL extent p)
 case_numbered None extent ls p = means (record { parts = []; labels = ls }) (breaks MISPLACED_JUMP extent p)
 
 -- a case label with this value, and a fault where it is no constant or stands there twice
@@ -120,7 +126,10 @@ case_met kind extent e ls p = next_met (value_met e p) (case_by kind extent ls)
 -- `default`, once in its `switch` (E28)
 abbrev pub default_met : Extent → Labels → ProgressTree → Met Parts
 default_met extent ls p =
-    means (record { parts = Default ∷ []; labels = record ls { has_default = true } }) (unless (not ls.has_default) REPEATED_LABEL extent p)
+    means (record {
+      parts = Default ∷ [];
+      labels = record ls { has_default = true };
+    }) (rule_unless (not ls.has_default) REPEATED_LABEL extent p)
 
 -- a label directly in the block of a `switch`
 abbrev pub label_met : Option IntegerType → LabelTree → Labels → ProgressTree → Met Parts
@@ -133,22 +142,22 @@ misplaced_one (CaseLabel extent e) p = reached_by (value_met e (breaks MISPLACED
 misplaced_one (DefaultLabel extent) p = breaks MISPLACED_JUMP extent p
 
 -- where a statement stands: directly in the block of a `switch` of a type, behind such labels, or anywhere else
-pub data Place : Type 0 where
-  Outside : Place
-  Inside : Option IntegerType → Labels → Place
+pub data StatementPlace : Type 0 where
+  Outside : StatementPlace
+  Inside : Option IntegerType → Labels → StatementPlace
 
 -- the labels of the innermost switch, none outside
-abbrev pub labels_at : Place → Labels
+abbrev pub labels_at : StatementPlace → Labels
 labels_at Outside = no_labels
 labels_at (Inside kind ls) = ls
 
 -- the place behind a label
-abbrev pub behind_label : Place → Labels → Place
+abbrev pub behind_label : StatementPlace → Labels → StatementPlace
 behind_label Outside ls = Outside
 behind_label (Inside kind old) ls = Inside kind ls
 
 -- a label, and a fault where it stands in no switch
-abbrev pub label_at : Place → LabelTree → ProgressTree → Met Parts
+abbrev pub label_at : StatementPlace → LabelTree → ProgressTree → Met Parts
 label_at Outside l p = means (record { parts = []; labels = no_labels }) (misplaced_one l p)
 label_at (Inside kind ls) l p = label_met kind l ls p
 
@@ -159,8 +168,8 @@ pub record Labeled : Type 0 where
   pub labels : Labels
 
 -- a statement without a label
-unfoldable pub unlabeled : Labels → Met TypedStatementTree → Met Labeled
-unlabeled ls m = next_met m (λ t. means (record { before = []; statement = t; labels = ls }))
+unfoldable pub without_label : Labels → Met TypedStatementTree → Met Labeled
+without_label ls m = next_met m (λ t. means (record { before = []; statement = t; labels = ls }))
 
 -- a statement without what is before it
 unfoldable pub bare : Met Labeled → Met TypedStatementTree

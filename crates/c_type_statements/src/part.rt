@@ -2,7 +2,7 @@
 
 ghost use Rattle.std.specs.Prelude.{◌≡◌, IfOk, map};
 ghost use Rattle.c_tree.specs.TypedStatements.{none, statements_view};
-ghost use Rattle.c_type_statements.specs.Switches.{part_view, put, put_all};
+ghost use Rattle.c_type_statements.specs.Switches.{part_view, parts_before, put_all};
 
 use c_tree::{TypedStatement, TypedStatements};
 use c_type_values::{given, node};
@@ -19,7 +19,7 @@ pub enum Part {
 
 /// One part before statements.
 fn put(alloc: Global, part: Part, rest: TypedStatements) -> Result<TypedStatements, AllocError>
-    ensures { IfOk result (λ all. statements_view all ≡ put (part_view part) (statements_view rest)) }
+    ensures { IfOk result (λ all. statements_view all ≡ parts_before (part_view part) (statements_view rest)) }
 {
     let rest = given!(node(alloc, rest));
     match part {

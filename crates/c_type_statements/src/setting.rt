@@ -7,7 +7,7 @@ ghost use Rattle.c_tree.specs.Expressions.{expression_view};
 ghost use Rattle.c_tree.specs.Statements as tree;
 ghost use Rattle.c_tree.specs.TypedStatements.{start_view, step_view};
 ghost use Rattle.c_type_declarations.specs.Progress.{means, progress_view};
-ghost use Rattle.c_type_statements.specs.Settings.{condition_if_any, condition_met, given, in_loop, in_switch, is_void, return_met, returnable, returns, run_met, start_met, step_met, tested, unless};
+ghost use Rattle.c_type_statements.specs.Settings.{condition_if_any, condition_met, returned_value, in_loop, in_switch, is_void, return_met, returnable, returns, run_met, start_met, step_met, checked_condition as tested, rule_unless};
 ghost use Rattle.c_type_values.specs.Values.{node_view, value_view};
 
 use c_tree::{Expression, Extent, ForStart, Rvalue, TypedStart, TypedStep, ValueType};
@@ -59,7 +59,7 @@ pub fn unless(
     code: Code,
     extent: Extent,
 ) -> Result<(), AllocError>
-    ensures { OnOk result (progress_view progress.new ≡ unless is_fine code extent (progress_view progress.old)) }
+    ensures { OnOk result (progress_view progress.new ≡ rule_unless is_fine code extent (progress_view progress.old)) }
 {
     if is_fine {
         return Ok(());
@@ -220,7 +220,7 @@ fn given_back(
     extent: Extent,
 ) -> Result<Option<Box<Rvalue>>, AllocError>
     ensures { IfOk result (λ r.
-        means (option_map node_view r) (progress_view progress.new) ≡ given (option_map value_view value) extent
+        means (option_map node_view r) (progress_view progress.new) ≡ returned_value (option_map value_view value) extent
         (progress_view progress.old)) }
 {
     match value {

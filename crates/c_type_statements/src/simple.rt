@@ -5,12 +5,12 @@ ghost use Rattle.std.specs.Prelude.{◌≡◌, IfOk};
 ghost use Rattle.std.specs.Option.{option_map};
 ghost use Rattle.debug_records.specs.declared.code.TheConstants.Code.{MISPLACED_JUMP};
 ghost use Rattle.c_tree.specs.Declarations.{declaration_view};
-ghost use Rattle.c_tree.specs.Ends.{first_of};
+ghost use Rattle.c_tree.specs.Ends.{first_spot};
 ghost use Rattle.c_tree.specs.Expressions.{expression_view};
 ghost use Rattle.c_tree.specs.TypedStatements as typed_tree;
 ghost use Rattle.c_type_declarations.specs.Declarations.{declaration_met};
 ghost use Rattle.c_type_declarations.specs.Progress.{means, next_met, progress_view};
-ghost use Rattle.c_type_statements.specs.Settings.{return_met, run_met, unless};
+ghost use Rattle.c_type_statements.specs.Settings.{return_met, run_met, rule_unless};
 
 use crate::made::unboxed;
 use crate::setting::{Setting, return_value, run, unless};
@@ -45,7 +45,7 @@ pub fn executed(
     ensures { IfOk result (λ t.
         means (typed_tree.statement_view t.value) (progress_view progress.new) ≡ next_met
         (run_met (expression_view e.now) (progress_view progress.old))
-        (λ r. means (typed_tree.Run (first_of (expression_view e.now)) r))) }
+        (λ r. means (typed_tree.Run (first_spot (expression_view e.now)) r))) }
 {
     let spot = e.first();
     let tree = given!(run(alloc, progress, e));
@@ -64,7 +64,7 @@ pub fn broken(
     ensures { IfOk result (λ t.
         means (typed_tree.statement_view t.value) (progress_view progress.new) ≡ means
         (typed_tree.Break extent.first)
-        (unless setting.may_break MISPLACED_JUMP extent (progress_view progress.old))) }
+        (rule_unless setting.may_break MISPLACED_JUMP extent (progress_view progress.old))) }
 {
     given!(unless(progress, setting.may_break, Code::MISPLACED_JUMP, extent));
     let made = given!(node(alloc, TypedStatement::Break(extent.first)));
@@ -81,7 +81,7 @@ pub fn continued(
     ensures { IfOk result (λ t.
         means (typed_tree.statement_view t.value) (progress_view progress.new) ≡ means
         (typed_tree.Continue extent.first)
-        (unless setting.may_continue MISPLACED_JUMP extent (progress_view progress.old))) }
+        (rule_unless setting.may_continue MISPLACED_JUMP extent (progress_view progress.old))) }
 {
     given!(unless(progress, setting.may_continue, Code::MISPLACED_JUMP, extent));
     let made = given!(node(alloc, TypedStatement::Continue(extent.first)));

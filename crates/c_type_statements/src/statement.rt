@@ -3,12 +3,12 @@
 
 ghost use Rattle.std.specs.Prelude.{◌≡◌, IfOk, OnOk, map};
 ghost use Rattle.std.specs.Option.{option_map};
-ghost use Rattle.c_tree.specs.Statements.{branch_view, chain, start_view, statement_view};
+ghost use Rattle.c_tree.specs.Statements.{branch_view, chain_of_statements, start_view, statement_view};
 ghost use Rattle.c_tree.specs.TypedStatements as typed_tree;
 ghost use Rattle.c_type_declarations.specs.Progress.{means, progress_view, next_met};
 ghost use Rattle.c_type_statements.specs.Chains.{branch_met, branches_met, built_view, else_met};
 ghost use Rattle.c_tree.specs.Expressions.{expression_view};
-ghost use Rattle.c_type_statements.specs.Statements.{for_met, head_of, in_scope, items_met, met, statement_met, statements_met, switch_met};
+ghost use Rattle.c_type_statements.specs.Statements.{for_met, head_of, in_scope, block_items_met, met, statement_met, statements_met, switch_met};
 ghost use Rattle.c_type_statements.specs.Switches.{Inside, added, labels_view, no_labels, part_view, so_far};
 
 use crate::branch::{Built, nested};
@@ -120,7 +120,7 @@ pub fn statements(
 ) -> Result<TypedStatements, AllocError>
     ensures { IfOk result (λ t.
         means (typed_tree.statements_view t) (progress_view progress.new) ≡ statements_met setting
-        (chain (map statement_view all.now)) (progress_view progress.old)) }
+        (chain_of_statements (map statement_view all.now)) (progress_view progress.old)) }
 {
     let mut parts = Vec::new(alloc);
     for one in all {
@@ -140,7 +140,7 @@ fn block_in_scope(
 ) -> Result<TypedStatements, AllocError>
     ensures { IfOk result (λ t.
         means (typed_tree.statements_view t) (progress_view progress.new) ≡ in_scope
-        (statements_met setting (chain (map statement_view all.now))) (progress_view progress.old)) }
+        (statements_met setting (chain_of_statements (map statement_view all.now))) (progress_view progress.old)) }
 {
     progress.open(alloc)?;
     let made = statements(alloc, progress, setting, all)?;
@@ -268,7 +268,7 @@ fn switch(
 ) -> Result<Box<TypedStatement>, AllocError>
     ensures { IfOk result (λ t.
         means (typed_tree.statement_view t.value) (progress_view progress.new) ≡ switch_met setting spot
-        (expression_view value.now) (chain (map statement_view block.now.statements.items)) block.now.closing
+        (expression_view value.now) (chain_of_statements (map statement_view block.now.statements.items)) block.now.closing
         (progress_view progress.old)) }
 {
     let extent = Extent {
@@ -299,8 +299,8 @@ fn items(
     all: &[Statement],
 ) -> Result<TypedStatements, AllocError>
     ensures { IfOk result (λ t.
-        means (typed_tree.statements_view t) (progress_view progress.new) ≡ items_met setting kind
-        (chain (map statement_view all.now)) no_labels (progress_view progress.old)) }
+        means (typed_tree.statements_view t) (progress_view progress.new) ≡ block_items_met setting kind
+        (chain_of_statements (map statement_view all.now)) no_labels (progress_view progress.old)) }
 {
     let mut labels = no_labels(alloc);
     let mut parts = Vec::new(alloc);

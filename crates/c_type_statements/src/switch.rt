@@ -5,7 +5,7 @@ ghost use Rattle.std.specs.Prelude.{◌≡◌, IfOk, OnOk, map};
 ghost use Rattle.std.specs.Option.{option_map};
 ghost use Rattle.c_tree.specs.Expressions.{expression_view};
 ghost use Rattle.c_type_declarations.specs.Progress.{means, progress_view, next_met};
-ghost use Rattle.c_type_statements.specs.Switches.{behind, case_by, case_met, case_numbered, case_value, chosen, chosen_met, chosen_view, default_met, in_kind, is_among, labels_view, no_labels, part_view, so_far};
+ghost use Rattle.c_type_statements.specs.Switches.{behind, case_by, case_met, case_numbered, case_value, controlling_value, chosen_met, chosen_view, default_met, in_kind, is_among_numbers, labels_view, no_labels, part_view, so_far};
 ghost use Rattle.c_type_rules.specs.Constants.{same};
 ghost use Rattle.c_type_values.specs.Values.{value_view};
 
@@ -52,7 +52,7 @@ fn chosen_from(
     value: Option<Value>,
 ) -> Result<Chosen, AllocError>
     ensures { IfOk result (λ c.
-        means (chosen_view c) (progress_view progress.new) ≡ chosen extent (option_map value_view value)
+        means (chosen_view c) (progress_view progress.new) ≡ controlling_value extent (option_map value_view value)
         (progress_view progress.old)) }
 {
     let Some(value) = value else {
@@ -102,7 +102,7 @@ fn is_same(one: i64, other: i64) -> bool
 
 /// Whether a value is among others.
 fn is_among(value: i64, values: &[i64]) -> bool
-    ensures { result ≡ is_among value values.now }
+    ensures { result ≡ is_among_numbers value values.now }
 {
     for one in values {
         if is_same(*one, value) {

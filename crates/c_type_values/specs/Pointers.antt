@@ -29,18 +29,23 @@ abbrev pub named_array : RvalueTree → Option (ℕ × ℕ × ℕ)
 named_array (Decay (Named (Static number) (Array element count))) = Some (number, scalar_size element, count)
 named_array _ = None
 
--- the address of an element as a constant: the array is named, and the index an integer constant expression from 0 to the number of elements (6.6p9)
+-- the address of an element as a constant: the array is named, and the index an integer constant expression from 0 to
+-- the number of elements (6.6p9)
 abbrev pub element_address : Option (ℕ × ℕ × ℕ) → Constancy → Constancy
-element_address (Some array) (Known (pos at)) = if nat_le at array.2 then Address (Static array.0) (at * array.1) else Varies
+element_address (Some array) (Known (pos at)) =
+    if nat_le at array.2 then Address (Static array.0) (at * array.1) else Varies
 element_address _ _ = Varies
 
 -- a[b] of a pointer and an integer, which stand as the flag says
 abbrev pub elements : ValueType → ValueType → ValueTree → ValueTree → Option MeantTree
 elements (Pointer of) (Integer t) a b =
-    Some (IsObject of (Element of a.tree (to_integer (promoted t) b).tree) (element_address (named_array a.tree) (to_integer (promoted t) b).constant))
-elements (Integer t) (Pointer of) a b = Some (IsObject of (ElementFrom of (to_integer (promoted t) a).tree b.tree) Varies)
+    Some
+    (IsObject of (Element of a.tree (to_integer (promoted t) b).tree)
+    (element_address (named_array a.tree) (to_integer (promoted t) b).constant))
+elements (Integer t) (Pointer of) a b =
+    Some (IsObject of (ElementFrom of (to_integer (promoted t) a).tree b.tree) Varies)
 elements _ _ a b = None
 
 -- `a[b]`: one is a pointer and the other an integer, of its promoted type
-abbrev pub element_of : ValueTree → ValueTree → Option MeantTree
-element_of a b = elements a.of b.of a b
+abbrev pub subscript : ValueTree → ValueTree → Option MeantTree
+subscript a b = elements a.of b.of a b

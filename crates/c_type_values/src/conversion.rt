@@ -2,7 +2,7 @@
 
 ghost use Rattle.std.specs.Prelude.{◌≡◌, IfOk};
 ghost use Rattle.std.specs.Option.{option_map};
-ghost use Rattle.c_type_values.specs.Values.{converted, is_of, null, to_integer, value_view};
+ghost use Rattle.c_type_values.specs.Values.{converted_value, is_integer_of, null, to_integer, value_view};
 
 use crate::given;
 use crate::nodes::node;
@@ -13,7 +13,7 @@ use std::alloc::{AllocError, Global};
 
 /// Whether a value's type is an integer type.
 fn is_of(of: ValueType, integer_type: IntegerType) -> bool
-    ensures { result ≡ is_of of integer_type }
+    ensures { result ≡ is_integer_of of integer_type }
 {
     match of {
         ValueType::Integer(own) => same_integer(own, integer_type),
@@ -64,7 +64,7 @@ pub fn converted(
     to: ValueType,
     is_zero: bool,
 ) -> Result<Option<Value>, AllocError>
-    ensures { IfOk result (λ v. option_map value_view v ≡ converted (value_view value) to is_zero) }
+    ensures { IfOk result (λ v. option_map value_view v ≡ converted_value (value_view value) to is_zero) }
 {
     match (to, value.of) {
         (ValueType::Integer(integer_type), ValueType::Integer(_)) => {

@@ -3,7 +3,7 @@
 ghost use Rattle.std.specs.Prelude.{◌≡◌, IfOk};
 ghost use Rattle.std.specs.Option.{option_map};
 ghost use Rattle.c_type_values.specs.Values.{value_view};
-ghost use Rattle.c_type_values.specs.Operations.{arithmetic_value, both, calculated_value, chosen, chosen_as, chosen_integer, combined, compared_value, conditional, difference, discarded, either, integers_compared, is_equality, is_scalar, is_shift, moved, moved_from, negated, operation_of, pointers_compared, sequenced, signed_value};
+ghost use Rattle.c_type_values.specs.Operations.{arithmetic_value, logical_and, calculated_value, conditional_value, chosen_as, chosen_integer, combined, compared_value, conditional_meaning, element_difference, discarded, logical_or, integers_compared, is_equality, is_scalar, is_shift, moved_pointer, moved_from, negated, binary_operation, comparison_of_pointers, sequenced, signed_value};
 
 use crate::conversion::{null, to_integer};
 use crate::given;
@@ -32,7 +32,7 @@ pub enum Operation {
 }
 
 fn operation_of(operator: BinaryOperator) -> Operation
-    ensures { result ≡ operation_of operator }
+    ensures { result ≡ binary_operation operator }
 {
     match operator {
         BinaryOperator::Multiply => Operation::Calculates(Arithmetic::Multiply),
@@ -179,7 +179,7 @@ fn moved(
     by: Value,
     by_type: IntegerType,
 ) -> Result<Value, AllocError>
-    ensures { IfOk result (λ v. value_view v ≡ moved direction element by_type (value_view pointer) (value_view by)) }
+    ensures { IfOk result (λ v. value_view v ≡ moved_pointer direction element by_type (value_view pointer) (value_view by)) }
 {
     let by = given!(to_integer(alloc, by, promoted(by_type)));
     let tree = given!(node(
@@ -231,7 +231,7 @@ fn difference(
     left: Value,
     right: Value,
 ) -> Result<Value, AllocError>
-    ensures { IfOk result (λ v. value_view v ≡ difference element (value_view left) (value_view right)) }
+    ensures { IfOk result (λ v. value_view v ≡ element_difference element (value_view left) (value_view right)) }
 {
     let tree = given!(node(
         alloc,
@@ -306,7 +306,7 @@ fn pointers_compared(
     left: Value,
     right: Value,
 ) -> Result<Value, AllocError>
-    ensures { IfOk result (λ v. value_view v ≡ pointers_compared operator (value_view left) (value_view right)) }
+    ensures { IfOk result (λ v. value_view v ≡ comparison_of_pointers operator (value_view left) (value_view right)) }
 {
     let tree = given!(node(
         alloc,
@@ -408,7 +408,7 @@ fn compared_value(
 
 /// `a&&b`, of two scalars.
 fn both(alloc: Global, left: Value, right: Value) -> Result<Option<Value>, AllocError>
-    ensures { IfOk result (λ v. option_map value_view v ≡ both (value_view left) (value_view right)) }
+    ensures { IfOk result (λ v. option_map value_view v ≡ logical_and (value_view left) (value_view right)) }
 {
     if !is_scalar(left.of) || !is_scalar(right.of) {
         return Ok(None);
@@ -423,7 +423,7 @@ fn both(alloc: Global, left: Value, right: Value) -> Result<Option<Value>, Alloc
 
 /// `a||b`, of two scalars.
 fn either(alloc: Global, left: Value, right: Value) -> Result<Option<Value>, AllocError>
-    ensures { IfOk result (λ v. option_map value_view v ≡ either (value_view left) (value_view right)) }
+    ensures { IfOk result (λ v. option_map value_view v ≡ logical_or (value_view left) (value_view right)) }
 {
     if !is_scalar(left.of) || !is_scalar(right.of) {
         return Ok(None);
@@ -447,7 +447,7 @@ pub fn combined(
     right_zero: bool,
 ) -> Result<Option<Value>, AllocError>
     ensures { IfOk result (λ v.
-        option_map value_view v ≡ combined (operation_of operator) (value_view left) (value_view right) left_zero
+        option_map value_view v ≡ combined (binary_operation operator) (value_view left) (value_view right) left_zero
         right_zero) }
 {
     match operation_of(operator) {
@@ -482,7 +482,7 @@ fn chosen(
     constant: Constancy,
 ) -> Result<Value, AllocError>
     ensures { IfOk result (λ v.
-        value_view v ≡ chosen of (value_view condition) (value_view then) (value_view otherwise) constant) }
+        value_view v ≡ conditional_value of (value_view condition) (value_view then) (value_view otherwise) constant) }
 {
     let tree = given!(node(
         alloc,
@@ -578,7 +578,7 @@ pub fn conditional(
     other_zero: bool,
 ) -> Result<Option<Value>, AllocError>
     ensures { IfOk result (λ v.
-        option_map value_view v ≡ conditional (value_view condition) (value_view then) (value_view otherwise)
+        option_map value_view v ≡ conditional_meaning (value_view condition) (value_view then) (value_view otherwise)
         then_zero other_zero) }
 {
     if !is_scalar(condition.of) {

@@ -3,7 +3,7 @@
 ghost use Rattle.std.specs.Prelude.{◌≡◌, IfOk};
 ghost use Rattle.std.specs.Option.{option_map};
 ghost use Rattle.c_type_values.specs.Values.{meant_view, value_view};
-ghost use Rattle.c_type_values.specs.Pointers.{address, dereferenced, element_address, element_of, named_array};
+ghost use Rattle.c_type_values.specs.Pointers.{address, dereferenced, element_address, subscript, named_array};
 ghost use Rattle.c_tree.specs.TypedExpressions.{rvalue_view};
 
 use crate::conversion::to_integer;
@@ -89,7 +89,7 @@ fn element_address(pointer: &Rvalue, index: Constancy) -> Constancy
 
 /// `a[b]`, one of which is a pointer and the other an integer; none where they are not.
 pub fn element_of(alloc: Global, left: Value, right: Value) -> Result<Option<Meant>, AllocError>
-    ensures { IfOk result (λ m. option_map meant_view m ≡ element_of (value_view left) (value_view right)) }
+    ensures { IfOk result (λ m. option_map meant_view m ≡ subscript (value_view left) (value_view right)) }
 {
     match (left.of, right.of) {
         (ValueType::Pointer(of), ValueType::Integer(integer_type)) => {

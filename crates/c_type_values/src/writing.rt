@@ -3,7 +3,7 @@
 ghost use Rattle.std.specs.Prelude.{◌≡◌, IfOk};
 ghost use Rattle.std.specs.Option.{option_map};
 ghost use Rattle.c_type_values.specs.Values.{meant_view, node_view, value_view};
-ghost use Rattle.c_type_values.specs.Writing.{assigned, direction_of, integer_updated, is_modifiable, is_updatable, pointer_updated, settled, step_tree, stepped, update_tree, update_type, updated};
+ghost use Rattle.c_type_values.specs.Writing.{simple_assignment, direction_of, integer_updated, is_modifiable, is_updatable, pointer_updated, settled, step_tree, stepped, update_tree, update_type, compound_assignment};
 ghost use Rattle.c_tree.specs.TypedExpressions.{lvalue_view};
 
 use crate::conversion::to_integer;
@@ -106,7 +106,7 @@ pub fn stepped(
 /// `a=b` with an object of a scalar type and a value of its type. Of others, which is a fault, the left side's own
 /// value stands for it.
 pub fn assigned(alloc: Global, meant: Meant, value: Option<Value>) -> Result<Value, AllocError>
-    ensures { IfOk result (λ v. value_view v ≡ assigned (meant_view meant) (option_map value_view value)) }
+    ensures { IfOk result (λ v. value_view v ≡ simple_assignment (meant_view meant) (option_map value_view value)) }
 {
     match (meant, value) {
         (
@@ -264,7 +264,7 @@ pub fn updated(
     meant: Meant,
     value: Value,
 ) -> Result<Value, AllocError>
-    ensures { IfOk result (λ v. value_view v ≡ updated operator (meant_view meant) (value_view value)) }
+    ensures { IfOk result (λ v. value_view v ≡ compound_assignment operator (meant_view meant) (value_view value)) }
 {
     match (meant, value.of) {
         (

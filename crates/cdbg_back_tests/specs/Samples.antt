@@ -14,9 +14,12 @@ addition_form = record {
   version = record { map = One; level = Plain };
   mode = Slots;
   code =
-      0x02000137 ∷ 0x40000213 ∷ 0x00c000ef ∷ 0x00a00893 ∷ 0x00000073 ∷ 0x00021663 ∷ 0x00300893 ∷ 0x00000073 ∷ 0xfff20213 ∷ 0xff010113 ∷
-      0x00112023 ∷ 0x0040006f ∷ 0x00200313 ∷ 0x00612223 ∷ 0x0040006f ∷ 0x00412303 ∷ 0x00300393 ∷ 0x00730333 ∷ 0x00612223 ∷ 0x0040006f ∷
-      0x04100513 ∷ 0x00200893 ∷ 0x00000073 ∷ 0x0040006f ∷ 0x00412503 ∷ 0x0040006f ∷ 0x00012083 ∷ 0x01010113 ∷ 0x00120213 ∷ 0x00008067 ∷ [];
+      0x02000137 ∷ 0x40000213 ∷ 0x00c000ef ∷ 0x00a00893 ∷ 0x00000073 ∷ 0x00021663 ∷ 0x00300893 ∷ 0x00000073 ∷ 0xfff20213
+      ∷ 0xff010113 ∷
+      0x00112023 ∷ 0x0040006f ∷ 0x00200313 ∷ 0x00612223 ∷ 0x0040006f ∷ 0x00412303 ∷ 0x00300393 ∷ 0x00730333 ∷ 0x00612223
+      ∷ 0x0040006f ∷
+      0x04100513 ∷ 0x00200893 ∷ 0x00000073 ∷ 0x0040006f ∷ 0x00412503 ∷ 0x0040006f ∷ 0x00012083 ∷ 0x01010113 ∷ 0x00120213
+      ∷ 0x00008067 ∷ [];
   initial = [];
   functions =
       record { name_length = 4; first = 65556; end = 65656; frame = 16; entry = 1; saved = 0 } ∷ [];
@@ -26,11 +29,17 @@ addition_form = record {
       record { position = 43; line = 2; function = 0; address = 65596 } ∷
       record { position = 50; line = 2; function = 0; address = 65616 } ∷
       record { position = 63; line = 2; function = 0; address = 65632 } ∷ [];
-  owners = 0 ∷ 0 ∷ 0 ∷ 0 ∷ 0 ∷ 1 ∷ 1 ∷ 1 ∷ 1 ∷ 1 ∷ 1 ∷ 1 ∷ 2 ∷ 2 ∷ 2 ∷ 3 ∷ 3 ∷ 3 ∷ 3 ∷ 3 ∷ 4 ∷ 4 ∷ 4 ∷ 4 ∷ 5 ∷ 5 ∷ 0 ∷ 0 ∷ 0 ∷ 0 ∷ [];
+  owners =
+      0 ∷ 0 ∷ 0 ∷ 0 ∷ 0 ∷ 1 ∷ 1 ∷ 1 ∷ 1 ∷ 1 ∷ 1 ∷ 1 ∷ 2 ∷ 2 ∷ 2 ∷ 3 ∷ 3 ∷ 3 ∷ 3 ∷ 3 ∷ 4 ∷ 4 ∷ 4 ∷ 4 ∷ 5 ∷ 5 ∷ 0 ∷ 0 ∷ 0
+      ∷ 0 ∷ [];
   variables =
       record { name_length = 1; function = Some 0; position = 38; element = I32; storage = Slot 4; count = 0 } ∷ [];
   changes = [];
-  flow = record { from = 1; to = 2 } ∷ record { from = 2; to = 3 } ∷ record { from = 3; to = 4 } ∷ record { from = 4; to = 5 } ∷ [];
+  flow =
+      record {
+        from = 1;
+        to = 2;
+      } ∷ record { from = 2; to = 3 } ∷ record { from = 3; to = 4 } ∷ record { from = 4; to = 5 } ∷ [];
   assigned = record { place = 2; variable = 0 } ∷ record { place = 3; variable = 0 } ∷ [];
   rows =
       record { place = 3; variable = 0; verdict = Home; quiet = None } ∷
@@ -42,16 +51,20 @@ addition_form = record {
   names = codes "mainx";
 }
 
--- Two functions, f and main, each with an x, and main with a y. Main sets x to 9 and y to -5, calls f, which sets its x to 3, puts out
--- A so many times, and ends by a call of the environment: its number is given, and so is the word that should make it.
+-- Two functions, f and main, each with an x, and main with a y. Main sets x to 9 and y to -5, calls f, which sets its x
+-- to 3, puts out A so many times, and ends by a call of the environment: its number is given, and so is the word that
+-- should make it.
 unfoldable pub calling_form : ℕ → ℕ → ℕ → Form
 calling_form count call last = record {
   version = record { map = One; level = Plain };
   mode = Slots;
   code =
-      0x02000137 ∷ 0x40000213 ∷ 0x028000ef ∷ 0x00a00893 ∷ 0x00000073 ∷ 0xfff20213 ∷ 0xff010113 ∷ 0x00300313 ∷ 0x00612223 ∷ 0x01010113 ∷
-      0x00120213 ∷ 0x00008067 ∷ 0xfff20213 ∷ 0xff010113 ∷ 0x00112023 ∷ 0x00900313 ∷ 0x00612223 ∷ 0xffb00313 ∷ 0x00612423 ∷ 0xfc9ff0ef ∷
-      (count * 1048576 + 0x00000493) ∷ 0x04100513 ∷ 0x00200893 ∷ 0x00048863 ∷ 0x00000073 ∷ 0xfff48493 ∷ 0xff5ff06f ∷ 0x00812503 ∷ (call * 1048576 + 0x00000893) ∷ last ∷ [];
+      0x02000137 ∷ 0x40000213 ∷ 0x028000ef ∷ 0x00a00893 ∷ 0x00000073 ∷ 0xfff20213 ∷ 0xff010113 ∷ 0x00300313 ∷ 0x00612223
+      ∷ 0x01010113 ∷
+      0x00120213 ∷ 0x00008067 ∷ 0xfff20213 ∷ 0xff010113 ∷ 0x00112023 ∷ 0x00900313 ∷ 0x00612223 ∷ 0xffb00313 ∷ 0x00612423
+      ∷ 0xfc9ff0ef ∷
+      (count * 1048576 + 0x00000493) ∷ 0x04100513 ∷ 0x00200893 ∷ 0x00048863 ∷ 0x00000073 ∷ 0xfff48493 ∷ 0xff5ff06f
+      ∷ 0x00812503 ∷ (call * 1048576 + 0x00000893) ∷ last ∷ [];
   initial = [];
   functions =
       record { name_length = 1; first = 65556; end = 65584; frame = 16; entry = 1; saved = 0 } ∷
@@ -66,7 +79,9 @@ calling_form count call last = record {
       record { position = 49; line = 5; function = 1; address = 65612 } ∷
       record { position = 55; line = 6; function = 1; address = 65616 } ∷
       record { position = 66; line = 7; function = 1; address = 65644 } ∷ [];
-  owners = 0 ∷ 0 ∷ 0 ∷ 0 ∷ 0 ∷ 1 ∷ 1 ∷ 2 ∷ 2 ∷ 3 ∷ 3 ∷ 3 ∷ 4 ∷ 4 ∷ 4 ∷ 5 ∷ 5 ∷ 6 ∷ 6 ∷ 7 ∷ 8 ∷ 8 ∷ 8 ∷ 8 ∷ 8 ∷ 8 ∷ 8 ∷ 9 ∷ 9 ∷ 9 ∷ [];
+  owners =
+      0 ∷ 0 ∷ 0 ∷ 0 ∷ 0 ∷ 1 ∷ 1 ∷ 2 ∷ 2 ∷ 3 ∷ 3 ∷ 3 ∷ 4 ∷ 4 ∷ 4 ∷ 5 ∷ 5 ∷ 6 ∷ 6 ∷ 7 ∷ 8 ∷ 8 ∷ 8 ∷ 8 ∷ 8 ∷ 8 ∷ 8 ∷ 9 ∷ 9
+      ∷ 9 ∷ [];
   variables =
       record { name_length = 1; function = Some 0; position = 15; element = I32; storage = Slot 4; count = 0 } ∷
       record { name_length = 1; function = Some 1; position = 39; element = I32; storage = Slot 4; count = 0 } ∷

@@ -31,17 +31,25 @@ either false true false = refl
 either false false lost = refl
 
 -- what a block makes and keeps, fact by fact
-pub moves : (block : ℕ) (given : Numbers) (fact : ℕ) → fact < 1 → contains (made_of (fact_if (block == 1)) (fact_if (block == 2)) given) fact ≡ ((contains given fact && not (block == 2)) || (block == 1))
+pub moves : (block : ℕ) (given : Numbers) (fact : ℕ) → fact < 1
+    → contains (made_of (fact_if (block == 1)) (fact_if (block == 2)) given) fact
+    ≡ ((contains given fact && not (block == 2)) || (block == 1))
 moves block given fact below =
     contains-union nat_cmp_total (fact_if (block == 1)) (difference given (fact_if (block == 2))) fact
-    ∙ ap (λ b. contains (fact_if (block == 1)) fact || b) (contains-difference nat_cmp_total given (fact_if (block == 2)) fact)
-    ∙ ap (λ b. contains (fact_if (block == 1)) fact || (contains given fact && not b)) (has_fact (block == 2) fact below)
+    ∙ ap (λ b. contains (fact_if (block == 1)) fact || b)
+    (contains-difference nat_cmp_total given (fact_if (block == 2)) fact)
+    ∙ ap (λ b. contains (fact_if (block == 1)) fact || (contains given fact && not b))
+    (has_fact (block == 2) fact below)
     ∙ ap (λ b. b || (contains given fact && not (block == 2))) (has_fact (block == 1) fact below)
     ∙ either (block == 1) (contains given fact) (block == 2)
 
 -- the problem: block 1 makes the fact, and block 2 loses it
 abbrev pub passed_flow : (forward : Bool) → DataFlow
-passed_flow forward = every_path forward 1 empty (λ block given. made_of (fact_if (block == 1)) (fact_if (block == 2)) given) (below_empty 1)
-    (λ block given below. below_made 1 (fact_if (block == 1)) (fact_if (block == 2)) given (below_one (block == 1)) below)
+passed_flow forward =
+    every_path forward 1 empty (λ block given. made_of (fact_if (block == 1)) (fact_if (block == 2)) given)
+    (below_empty 1)
+    (λ block given below. below_made 1 (fact_if (block == 1)) (fact_if (block == 2)) given (below_one (block == 1))
+    below)
     (λ block s t. made_of_both (fact_if (block == 1)) (fact_if (block == 2)) s t)
-    (λ block fact. not (block == 2)) (λ block fact. block == 1) (λ block given _ fact below. moves block given fact below)
+    (λ block fact. not (block == 2)) (λ block fact. block == 1)
+    (λ block given _ fact below. moves block given fact below)

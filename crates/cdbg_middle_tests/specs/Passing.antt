@@ -6,7 +6,8 @@ use Rattle.graph_core.specs.Paths.{notes, writes}
 use Rattle.graph_solve_live.specs.declared.inside.Effect.{Effect}
 use Rattle.graph_solve_live.specs.declared.inside.Effect.TheVariants.{Sets, Clears, Leaves}
 
--- whether a name was written since its last note: what writes it sets the fact of its number, and a note of it clears the fact
+-- whether a name was written since its last note: what writes it sets the fact of its number, and a note of it clears
+-- the fact
 abbrev pub written_effect : Instruction → (fact : ℕ) → Effect
 written_effect i fact = if writes fact i then Sets else if notes fact i then Clears else Leaves
 

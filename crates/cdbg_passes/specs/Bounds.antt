@@ -13,7 +13,8 @@ pub record NeverGrows (g h : Graph) : Type 0 where
   pub instructions : instructions_of h ≤ instructions_of g
   pub arguments : arguments_of h ≤ arguments_of g
 
--- Why code motion leaves a function as it was: what the rule makes of it is the same, or would take the unit beyond a bound, with the functions before it as they became and those behind it as they were.
+-- Why code motion leaves a function as it was: what the rule makes of it is the same, or would take the unit beyond a
+-- bound, with the functions before it as they became and those behind it as they were.
 pub record IsLeftForBounds (room : Room) (before : List Graph) (g : Graph) (behind : List Graph) : Type 0 where
   pub moved : Graph
   pub is : IsMoved g moved
@@ -21,4 +22,6 @@ pub record IsLeftForBounds (room : Room) (before : List Graph) (g : Graph) (behi
 
 -- FUNCTIONS ARE LEFT FOR BOUNDS ALONE: so it is of each that is behind the pass what it was before.
 abbrev pub AreLeftForBounds : Room → (gs hs : List Graph) → Type 0
-AreLeftForBounds room gs hs = (k : ℕ) (g : Graph) → slice_get gs k ≡ Some g → slice_get hs k ≡ Some g → IsLeftForBounds room (take k hs) g (drop (suc k) gs)
+AreLeftForBounds room gs hs =
+    (k : ℕ) (g : Graph) → slice_get gs k ≡ Some g → slice_get hs k ≡ Some g
+    → IsLeftForBounds room (take k hs) g (drop (suc k) gs)

@@ -13,16 +13,23 @@ use Rattle.motion_pass_placement.specs.Moving.{IsMoved}
 use Rattle.motion_pass_laws.specs.Often.{HasNothingAgain}
 use Rattle.motion_pass_laws.specs.Optimal.{IsOptimal}
 
--- NO COPY REACHES A READ: at no point that a path comes to is a scalar read to which one instruction copied another scalar of its type on every path, with neither written since.
+-- NO COPY REACHES A READ: at no point that a path comes to is a scalar read to which one instruction copied another
+-- scalar of its type on every path, with neither written since.
 abbrev pub HasNoCopies : Graph → Type 0
-HasNoCopies h = (n : ℕ) (rest : List Instruction) (e : End) (x y : ℕ) → IsReached h n rest e → Among x (reads_at rest e) → IsCopied h x y n rest e → ⊥
+HasNoCopies h =
+    (n : ℕ) (rest : List Instruction) (e : End) (x y : ℕ) → IsReached h n rest e → Among x (reads_at rest e)
+    → IsCopied h x y n rest e → ⊥
 
--- NO WRITE IS DEAD: where a path comes to a write of a temporary, or of a scalar in a place that assigns its variable and writes it once, with the binding of a parameter counted, some way from there reads the name before it is written again.
+-- NO WRITE IS DEAD: where a path comes to a write of a temporary, or of a scalar in a place that assigns its variable
+-- and writes it once, with the binding of a parameter counted, some way from there reads the name before it is written
+-- again.
 abbrev pub HasNoDead : UnitForm → Graph → Type 0
 HasNoDead u h =
-    (n p x : ℕ) (i : Instruction) (rest : List Instruction) (e : End) → IsReached h n (i ∷ rest) e → StandsWith h p n (i ∷ rest) e → target_of i ≡ Some x → MayGo u.assignments h p x → IsUnread h x n rest e → ⊥
+    (n p x : ℕ) (i : Instruction) (rest : List Instruction) (e : End) → IsReached h n (i ∷ rest) e
+    → StandsWith h p n (i ∷ rest) e → target_of i ≡ Some x → MayGo u.assignments h p x → IsUnread h x n rest e → ⊥
 
--- What code motion would make of a function takes the unit beyond a bound, with the functions before it as they became and those behind it as they were.
+-- What code motion would make of a function takes the unit beyond a bound, with the functions before it as they became
+-- and those behind it as they were.
 pub record IsBeyondBounds (room : Room) (before : List Graph) (g : Graph) (behind : List Graph) : Type 0 where
   pub moved : Graph
   pub is : IsMoved g moved
@@ -31,9 +38,11 @@ pub record IsBeyondBounds (room : Room) (before : List Graph) (g : Graph) (behin
 -- NOTHING IS COMPUTED AGAIN in any function behind code motion, but where it left the function as it was for a bound.
 abbrev pub ComputeNothingAgain : Room → (gs hs : List Graph) → Type 0
 ComputeNothingAgain room gs hs =
-    (k : ℕ) (g h : Graph) → slice_get gs k ≡ Some g → slice_get hs k ≡ Some h → HasNothingAgain h ⊎ ((h ≡ g) × IsBeyondBounds room (take k hs) g (drop (suc k) gs))
+    (k : ℕ) (g h : Graph) → slice_get gs k ≡ Some g → slice_get hs k ≡ Some h
+    → HasNothingAgain h ⊎ ((h ≡ g) × IsBeyondBounds room (take k hs) g (drop (suc k) gs))
 
 -- EACH FUNCTION IS COMPUTATIONALLY OPTIMAL behind code motion, but where it left the function as it was for a bound.
 abbrev pub AreOptimal : Room → (gs hs : List Graph) → Type 0
 AreOptimal room gs hs =
-    (k : ℕ) (g h : Graph) → slice_get gs k ≡ Some g → slice_get hs k ≡ Some h → IsOptimal g h ⊎ ((h ≡ g) × IsBeyondBounds room (take k hs) g (drop (suc k) gs))
+    (k : ℕ) (g h : Graph) → slice_get gs k ≡ Some g → slice_get hs k ≡ Some h
+    → IsOptimal g h ⊎ ((h ≡ g) × IsBeyondBounds room (take k hs) g (drop (suc k) gs))

@@ -18,22 +18,26 @@ pub record MakesValid (u v : UnitForm) : Type 0 where
   pub valid : IsValid v
   pub shared : ShareTheSame u v
 
--- A step of copy propagation: copies are propagated in each function, and behind the old changes one is logged for each read that was replaced, and no other.
+-- A step of copy propagation: copies are propagated in each function, and behind the old changes one is logged for each
+-- read that was replaced, and no other.
 pub record PropagatesCopies (u v : UnitForm) : Type 0 where
   pub made : MakesValid u v
   pub changes : AddsChangesOf (pass_name (codes "copy")) Replaced IsReplacedRead u v
   pub functions : EachFunction IsPropagated u.graphs v.graphs
 
--- A step of lazy code motion: the computations of each function are moved by the rule, where the unit stays within bounds, and behind the old changes one is logged for each assignment of a variable that
--- reads a temporary in place of its computation, and no other.
+-- A step of lazy code motion: the computations of each function are moved by the rule, where the unit stays within
+-- bounds, and behind the old changes one is logged for each assignment of a variable that reads a temporary in place of
+-- its computation, and no other.
 pub record MovesCode (u v : UnitForm) : Type 0 where
   pub made : MakesValid u v
   pub changes : AddsChangesOf (pass_name (codes "motion")) Moved IsMovedAssignment u v
   pub functions : AreAllMoved u.room u.graphs v.graphs
 
--- A step of the removal of dead assignments: the writes that go are gone from each function, behind the old changes one is logged for each of them that wrote a variable, and no other, and each note says what it shall.
+-- A step of the removal of dead assignments: the writes that go are gone from each function, behind the old changes one
+-- is logged for each of them that wrote a variable, and no other, and each note says what it shall.
 pub record RemovesDead (u v : UnitForm) : Type 0 where
   pub made : MakesValid u v
-  pub changes : AddsChangesOf (pass_name (codes "dead")) Removed (λ before after. IsRemovedWrite u.assignments before) u v
+  pub changes : AddsChangesOf (pass_name (codes "dead")) Removed (λ before after. IsRemovedWrite u.assignments before)
+      u v
   pub functions : EachFunction (IsReduced u.assignments) u.graphs v.graphs
   pub notes : SayWhatTheyShall u v

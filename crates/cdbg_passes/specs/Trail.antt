@@ -12,10 +12,10 @@ use Rattle.cdbg_passes.specs.Steps.{MovesCode, PropagatesCopies, RemovesDead}
 abbrev pub IsStepOfProgram : (u v : UnitForm) → Type 0
 IsStepOfProgram u v = PropagatesCopies u v ⊎ (MovesCode u v ⊎ RemovesDead u v)
 
--- A STEP ON A TRAIL: its pass, which has this name, makes it, what the unit before does is kept, and what the pass logs is
--- logged well. Each change that a step of copy propagation, of code motion or of the removal of dead assignments logs is
--- earned, whatever the homes; and what a step of code motion makes is computationally optimal, function by function, but
--- where one was left for a bound.
+-- A STEP ON A TRAIL: its pass, which has this name, makes it, what the unit before does is kept, and what the pass logs
+-- is logged well. Each change that a step of copy propagation, of code motion or of the removal of dead assignments
+-- logs is earned, whatever the homes; and what a step of code motion makes is computationally optimal, function by
+-- function, but where one was left for a bound.
 pub record IsOnTrail (pass : PassName) (steps : UnitForm → UnitForm → Type 0) (u v : UnitForm) : Type 0 where
   pub step : steps u v
   pub keeps : Keeps u v

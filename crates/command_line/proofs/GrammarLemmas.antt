@@ -6,14 +6,14 @@ use Rattle.std.specs.Str.{bytes_eq}
 use Rattle.std.proofs.lemmas.Bool.{eqb-true}
 use Rattle.std.proofs.lemmas.Slice.Eq.{bytes_eq-Decides}
 use Rattle.std.specs.Prelude.{Result, Ok, Err, IfOk, IfSome, IfNone, option_map, option_and_then}
-use Rattle.command_line.specs.Words.{Form, Text, Use, Uses, in_place, is_dashed, is_equals, is_used, job_named, long_word, name_and_value, uses_from, uses_of, with_use}
+use Rattle.command_line.specs.Words.{JobForm, Text, Use, Uses, in_place, is_dashed, is_equals, is_used, job_named, long_word, name_and_value, uses_from, uses_of, with_use}
 use Rattle.command_line.specs.Forms.{attach_form, compile_form, debug_form, jobs, of_job, passes_form, reading, sweep_form}
 use Rattle.command_line.specs.Grammar.{AreItems, AreNew, AreOneJobAtMost, IsJob, IsNoJob, Item, Spells, apart, joined, positional, spellings, uses_in}
 use Rattle.command_line.specs.Job.{JobGiven, job_given, job_in, read_job}
 use Rattle.command_line.specs.declared.job.Job.{Job}
 
 -- a form's option names hold no `=` and are not empty, so their spellings read back
-pub record IsPlain (f : Form) : Type 0 where
+pub record IsPlain (f : JobForm) : Type 0 where
   pub alone : (n : Text) → Contains f.options n → long_word (45 ∷ 45 ∷ n) ≡ Some (n, None)
   pub valued : (n v : Text) → Contains f.options n → long_word (45 ∷ 45 ∷ n ++ 61 ∷ v) ≡ Some (n, Some v)
   pub found : (n : Text) → Contains f.options n → find (λ o. bytes_eq o n) f.options ≡ Some n
@@ -23,7 +23,7 @@ place_some k [] h = absurd (omega arith)
 place_some zero (x ∷ xs) h = refl
 place_some (suc k) (x ∷ xs) h = place_some k xs (omega arith)
 
-module _ (f : Form) (plain : IsPlain f) where
+module _ (f : JobForm) (plain : IsPlain f) where
   -- what is spelled is read
   reads : (items : List Item) (uses : List Use) (k : ℕ) → AreItems f k items → AreNew uses (uses_in f k items)
       → list_all (λ p. is_used p (uses ++ uses_in f k items)) f.places ≡ true → uses_from f uses k None (spellings items) ≡ Some (uses ++ uses_in f k items)
@@ -148,7 +148,7 @@ found_named n m (o ∷ os) e = go (bytes_eq o n) refl (found_named n m os)
         let lt = c.1 in (r.0, (suc c.0, omega arith, c.2))
 
 -- items that give these uses after those, and spell the words
-pub record Read (f : Form) (before : List Use) (k : ℕ) (words : List Text) (uses : List Use) : Type 0 where
+pub record Read (f : JobForm) (before : List Use) (k : ℕ) (words : List Text) (uses : List Use) : Type 0 where
   pub items : List Item
   pub are_items : AreItems f k items
   pub words_are : words ≡ spellings items
@@ -156,7 +156,7 @@ pub record Read (f : Form) (before : List Use) (k : ℕ) (words : List Text) (us
   pub once : AreNew before (uses_in f k items)
   pub whole : list_all (λ p. is_used p uses) f.places ≡ true
 
-abbrev ReadFrom : Form → List Use → ℕ → Option Text → List Text → List Use → Type 0
+abbrev ReadFrom : JobForm → List Use → ℕ → Option Text → List Text → List Use → Type 0
 ReadFrom f before k None words uses = Read f before k words uses
 ReadFrom f before k (Some n) words uses = Contains f.options n → Read f before k ((45 ∷ 45 ∷ n) ∷ words) uses
 
@@ -165,7 +165,7 @@ place_there k [] m e = cc
 place_there zero (x ∷ xs) m e = omega arith
 place_there (suc k) (x ∷ xs) m e = let h = place_there k xs m e in omega arith
 
-module _ (f : Form) (us : List Use) where
+module _ (f : JobForm) (us : List Use) where
   abbrev Sound : List Text → Type 0
   Sound words = (before : List Use) (k : ℕ) (waiting : Option Text) → uses_from f before k waiting words ≡ Some us → ReadFrom f before k waiting words us
 
@@ -278,7 +278,7 @@ module _ (f : Form) (us : List Use) where
   sound (w ∷ ws) before k None e = idle_sound w ws (sound ws) before k e
   sound (w ∷ ws) before k (Some n) e = λ is. value_sound w ws (sound ws) before k n e is
 
-pub spelled_where_read : (f : Form) (words : List Text) (uses : List Use) → uses_of f words ≡ Some uses → Spells f words uses
+pub spelled_where_read : (f : JobForm) (words : List Text) (uses : List Use) → uses_of f words ≡ Some uses → Spells f words uses
 spelled_where_read f words uses e =
     let r = sound f uses words [] 0 None e in
     record {
@@ -292,7 +292,7 @@ spelled_where_read f words uses e =
 
 -- ---- the forms
 
-abbrev ReadsBack : Form → Text → Type 0
+abbrev ReadsBack : JobForm → Text → Type 0
 ReadsBack f n = (long_word (45 ∷ 45 ∷ n) ≡ Some (n, None)) × ((v : Text) → long_word (45 ∷ 45 ∷ n ++ 61 ∷ v) ≡ Some (n, Some v)) × (find (λ o. bytes_eq o n) f.options ≡ Some n)
 
 abbrev Each : {X : Type 0} → (X → Type 0) → List X → Type 0
@@ -307,7 +307,7 @@ each_one P (x ∷ xs) all n is = go is.0 is.1 is.2 (each_one P xs all.1 n)
     go zero lt e rest = subst P e all.0
     go (suc k) lt e rest = rest (k, omega arith, e)
 
-plain_form : (f : Form) → Each (ReadsBack f) f.options → IsPlain f
+plain_form : (f : JobForm) → Each (ReadsBack f) f.options → IsPlain f
 plain_form f all = record {
   alone = λ n is. (each_one (ReadsBack f) f.options all n is).0;
   valued = λ n v is. (each_one (ReadsBack f) f.options all n is).1 v;
@@ -332,14 +332,14 @@ sweep_plain = plain_form sweep_form tt
 -- ---- the jobs
 
 -- a job is found by its name, and its options read back
-abbrev IsPlainJob : Text × Form → Type 0
+abbrev IsPlainJob : Text × JobForm → Type 0
 IsPlainJob j = (job_named jobs j.0 ≡ Some j) × IsPlain j.1
 
 jobs_plain : Each IsPlainJob jobs
 jobs_plain = ((refl, debug_plain), ((refl, compile_plain), ((refl, attach_plain), ((refl, passes_plain), ((refl, sweep_plain), tt)))))
 
 -- a job that is found by a name has that name
-job_found : (w : Text) (js : List (Text × Form)) (j : Text × Form) → job_named js w ≡ Some j → (j.0 ≡ w) × Contains js j
+job_found : (w : Text) (js : List (Text × JobForm)) (j : Text × JobForm) → job_named js w ≡ Some j → (j.0 ≡ w) × Contains js j
 job_found w [] j e = cc
 job_found w (x ∷ js) j e = go (bytes_eq x.0 w) refl (job_found w js j)
   where
@@ -347,7 +347,7 @@ job_found w (x ∷ js) j e = go (bytes_eq x.0 w) refl (job_found w js j)
     go true t rest =
         let here : Some x ≡ Some j = rw t at e in
         let is : x ≡ j = cc in
-        (ap (λ (y : Text × Form). y.0) (sym is) ∙ (bytes_eq-Decides x.0 w).0 t, (0, omega arith, is))
+        (ap (λ (y : Text × JobForm). y.0) (sym is) ∙ (bytes_eq-Decides x.0 w).0 t, (0, omega arith, is))
     go false t rest =
         let r = rest (rw t at e) in
         let c = r.1 in
@@ -364,7 +364,7 @@ job_is_read words job j = ap job_in j.words_are ∙ ap (option_and_then read_job
     spelled =
         let n = plain.0 in
         let u = read_where_spelled j.form plain.1 j.rest j.uses j.spelled in
-        ap (λ (o : Option (Text × Form)). of_job o j.rest) n ∙ ap (option_map (λ (uses : List Use). (j.name, uses))) u
+        ap (λ (o : Option (Text × JobForm)). of_job o j.rest) n ∙ ap (option_map (λ (uses : List Use). (j.name, uses))) u
 
 -- what is read as a job spells it
 pub read_is_job : (words : List Text) (job : JobGiven) → job_in words ≡ Some job → IsJob words job
@@ -372,7 +372,7 @@ read_is_job [] job e = cc
 read_is_job (program ∷ []) job e = cc
 read_is_job (program ∷ name ∷ rest) job e = named (job_named jobs name) refl e
   where
-    given : (form : Form) → Contains jobs (name, form) → (o : Uses) → uses_of form rest ≡ o → option_and_then read_job (option_map (λ (uses : List Use). (name, uses)) o) ≡ Some job → IsJob (program ∷ name ∷ rest) job
+    given : (form : JobForm) → Contains jobs (name, form) → (o : Uses) → uses_of form rest ≡ o → option_and_then read_job (option_map (λ (uses : List Use). (name, uses)) o) ≡ Some job → IsJob (program ∷ name ∷ rest) job
     given form is None u e = cc
     given form is (Some uses) u e = record {
       program = program;
@@ -386,7 +386,7 @@ read_is_job (program ∷ name ∷ rest) job e = named (job_named jobs name) refl
       job_is = e;
     }
 
-    named : (o : Option (Text × Form)) → job_named jobs name ≡ o → option_and_then read_job (of_job o rest) ≡ Some job → IsJob (program ∷ name ∷ rest) job
+    named : (o : Option (Text × JobForm)) → job_named jobs name ≡ o → option_and_then read_job (of_job o rest) ≡ Some job → IsJob (program ∷ name ∷ rest) job
     named None n e = cc
     named (Some (found, form)) n e =
         let is = job_found name jobs (found, form) n in

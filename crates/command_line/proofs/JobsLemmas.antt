@@ -9,7 +9,7 @@ use Rattle.std.proofs.lemmas.Bool.Decides.{nat_tests}
 use Rattle.clap.specs.Walk.{Row, Rule, Text, Walk, arg_by_id, arg_by_index, arg_by_long}
 use Rattle.clap.specs.Simple.{Shape}
 use Rattle.clap.specs.Takes.{is_given}
-use Rattle.command_line.specs.Words.{Form, Jobs, job_named}
+use Rattle.command_line.specs.Words.{JobForm, Jobs, job_named}
 use Rattle.clap.specs.Walk.{answers_to, finished, nothing_held, rows_after, settled, stop_after, walk, walk_from, walked}
 use Rattle.clap.specs.Simple.{App, entered, label_of, names_of, new_shape, rows_at}
 use Rattle.clap.specs.Kinds.{Kinds, or_else}
@@ -23,7 +23,7 @@ abbrev pub places_from : ℕ → List Text → List Rule
 places_from i [] = []
 places_from i (p ∷ ps) = place_built i p ∷ places_from (suc i) ps
 
-abbrev pub rules_of : Form → List Rule
+abbrev pub rules_of : JobForm → List Rule
 rules_of f = map option_built f.options ++ places_from 1 f.places
 
 no_long : (n : Text) (i : ℕ) (ps : List Text) → arg_by_long (places_from i ps) n ≡ None
@@ -102,7 +102,7 @@ found_place P i j zero (x ∷ xs) all m h e =
 found_place P i j (suc k) (x ∷ xs) all m h e = let h' : j ≡ suc i + k = omega arith in found_place P (suc i) j k xs all.1 m h' e
 
 -- the rules of a form in which no name stands twice
-pub ready : (f : Form) → length f.places < 100 → Each (λ m. arg_by_id (rules_of f) m ≡ Some (option_built m)) f.options
+pub ready : (f : JobForm) → length f.places < 100 → Each (λ m. arg_by_id (rules_of f) m ≡ Some (option_built m)) f.options
     → EachFrom (λ i m. arg_by_id (rules_of f) m ≡ Some (place_built i m)) 1 f.places → IsReady f (rules_of f)
 ready f few options places = record {
   by_long = λ n. find_long n f.options f.places;
@@ -126,7 +126,7 @@ top_shape name = record (new_shape name) {
   is_built = true;
 }
 
-abbrev pub sub_of : Text × Form → Shape
+abbrev pub sub_of : Text × JobForm → Shape
 sub_of j = shape j.0 (rules_of j.1)
 
 abbrev pub app : Text → Jobs → App
@@ -190,7 +190,7 @@ module _ (name : Text) (jobs : Jobs) where
           rw (m, o, l) refl
 
   -- the first word names a job, which reads the words after it
-  module _ (w : Text) (ws : List Text) (j : Text × Form) (found : job_named jobs w ≡ Some j) where
+  module _ (w : Text) (ws : List Text) (j : Text × JobForm) (found : job_named jobs w ≡ Some j) where
     named : (js : Jobs) → job_named js w ≡ Some j → j.0 ≡ w
     named [] e = cc
     named (x ∷ js) e = go (bytes_eq x.0 w) refl (named js)
@@ -199,7 +199,7 @@ module _ (name : Text) (jobs : Jobs) where
         go true t rest =
             let same : Some x ≡ Some j = rw t at e in
             let is : x ≡ j = cc in
-            ap (λ (y : Text × Form). y.0) (sym is) ∙ (bytes_eq-Decides x.0 w).0 t
+            ap (λ (y : Text × JobForm). y.0) (sym is) ∙ (bytes_eq-Decides x.0 w).0 t
         go false t rest = rest (rw t at e)
 
     met : find (answers_to w) (map label_of (map sub_of jobs)) ≡ Some (j.0, [])

@@ -14,7 +14,7 @@ use Rattle.clap.specs.declared.parser.matches.ValueSource.TheVariants.{CommandLi
 use Rattle.clap.specs.Faults.{check_fault, default_fault, use_fault, defaults_fault, level_fault, settle_fault, turn_fault, walk_fault}
 pub use Rattle.command_line.specs.Words.{is_readable, is_fit}
 pub use Rattle.command_line.specs.Commands.{option_built, row}
-use Rattle.command_line.specs.Words.{Form, Use, Uses, is_dashed, is_used, long_word, uses_from, uses_of, with_use}
+use Rattle.command_line.specs.Words.{JobForm, Use, Uses, is_dashed, is_used, long_word, uses_from, uses_of, with_use}
 use Rattle.command_line.specs.Commands.{place_rule}
 use Rattle.base_laws.proofs.Booleans.{neither, or_true}
 
@@ -124,7 +124,7 @@ defaults_kept rows (a ∷ rest) h = ap (λ (rs : List Row). fold with_default rs
 
 -- ---- the commands of which the rest speaks
 
-pub record IsReady (f : Form) (c : List Rule) : Type 0 where
+pub record IsReady (f : JobForm) (c : List Rule) : Type 0 where
   pub by_long : (n : Text) → arg_by_long c n ≡ option_map option_built (find (λ o. bytes_eq o n) f.options)
   pub by_index : (k : ℕ) → arg_by_index c (k + 1) ≡ option_map (place_built (k + 1)) (slice_get f.places k)
   pub option_id : (n m : Text) → find (λ o. bytes_eq o n) f.options ≡ Some m → arg_by_id c m ≡ Some (option_built m)
@@ -175,7 +175,7 @@ undashed n x h = go (is_dashed x) h
     go true h = absurd (true≢false (sym h))
     go false h = refl
 
-module _ (name : Text) (f : Form) (c : List Rule) (ready : IsReady f c) where
+module _ (name : Text) (f : JobForm) (c : List Rule) (ready : IsReady f c) where
   abbrev end_fault : Held → Kinds
   end_fault h = or_else (settle_fault c false h) (or_else (defaults_fault (settled c h).rows c) (check_fault (shape name c) (finished c h) false))
 

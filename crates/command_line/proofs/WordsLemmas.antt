@@ -14,7 +14,7 @@ use Rattle.clap.specs.declared.error.kind.ErrorKind.TheVariants.{OutOfMemory}
 use Rattle.clap.specs.declared.parser.matches.ArgMatches.{ArgMatches}
 use Rattle.clap.specs.Faults.{fault_of, is_simple_and_free, level_fault}
 use Rattle.clap.proofs.WalkLemmas.{both}
-use Rattle.command_line.specs.Words.{is_checked, is_fit, Form, Text, Use, Uses, as_option, by_name, in_place, is_dashed, is_used, job_named, long_word, uses_from, uses_of, with_use}
+use Rattle.command_line.specs.Words.{is_checked, is_fit, JobForm, Text, Use, Uses, as_option, by_name, in_place, is_dashed, is_used, job_named, long_word, uses_from, uses_of, with_use}
 use Rattle.command_line.specs.Forms.{attach_form, compile_form, debug_form, jobs, passes_form, reading, of_job, sweep_form}
 use Rattle.command_line.specs.Commands.{HasReading, raw_app}
 use Rattle.command_line.proofs.OneJobLemmas.{IsReady, fails, is_readable, level_agrees, row}
@@ -35,11 +35,11 @@ passes_ready = ready passes_form (omega arith) (refl, tt) (refl, tt)
 sweep_ready : IsReady sweep_form (rules_of sweep_form)
 sweep_ready = ready sweep_form (omega arith) tt (refl, (refl, tt))
 
-abbrev EachJob : (Text × Form → Type 0) → List (Text × Form) → Type 0
+abbrev EachJob : (Text × JobForm → Type 0) → List (Text × JobForm) → Type 0
 EachJob P [] = Unit {0}
 EachJob P (x ∷ xs) = P x × EachJob P xs
 
-found_job : (P : Text × Form → Type 0) (w : Text) (js : List (Text × Form)) → EachJob P js → (j : Text × Form) → job_named js w ≡ Some j → P j
+found_job : (P : Text × JobForm → Type 0) (w : Text) (js : List (Text × JobForm)) → EachJob P js → (j : Text × JobForm) → job_named js w ≡ Some j → P j
 found_job P w [] all j e = cc
 found_job P w (x ∷ js) all j e = go (bytes_eq x.0 w) refl (found_job P w js all.1 j)
   where
@@ -47,8 +47,8 @@ found_job P w (x ∷ js) all j e = go (bytes_eq x.0 w) refl (found_job P w js al
     go true t rest = let here : Some x ≡ Some j = rw t at e in let same : x ≡ j = cc in subst P same all.0
     go false t rest = rest (rw t at e)
 
-ready_named : (w : Text) (j : Text × Form) → job_named jobs w ≡ Some j → IsReady j.1 (rules_of j.1)
-ready_named w j e = found_job (λ (x : Text × Form). IsReady x.1 (rules_of x.1)) w jobs (debug_ready, (compile_ready, (attach_ready, (passes_ready, (sweep_ready, tt))))) j e
+ready_named : (w : Text) (j : Text × JobForm) → job_named jobs w ≡ Some j → IsReady j.1 (rules_of j.1)
+ready_named w j e = found_job (λ (x : Text × JobForm). IsReady x.1 (rules_of x.1)) w jobs (debug_ready, (compile_ready, (attach_ready, (passes_ready, (sweep_ready, tt))))) j e
 
 -- what the command comes to, beside what it should
 abbrev pub AgreesAll : Option (Text × List Use) → Kinds → Option (Text × List Row) → Type 0
@@ -60,7 +60,7 @@ whole [] good = no_words (codes "cdbg") jobs
 whole (program ∷ []) good = no_words (codes "cdbg") jobs
 whole (program ∷ w ∷ ws) good = go (job_named jobs w) refl
   where
-    uses : (j : Text × Form) → job_named jobs w ≡ Some j → (u : Uses) → uses_of j.1 ws ≡ u
+    uses : (j : Text × JobForm) → job_named jobs w ≡ Some j → (u : Uses) → uses_of j.1 ws ≡ u
         → AgreesAll (reading (program ∷ w ∷ ws)) (fault_of raw_app (program ∷ w ∷ ws)) (subcommand_of raw_app (program ∷ w ∷ ws))
     uses j e None u =
         let level = level_agrees j.0 j.1 (rules_of j.1) (ready_named w j e) ws (both (is_readable w) (list_all is_readable ws) good).1 in
@@ -76,7 +76,7 @@ whole (program ∷ w ∷ ws) good = go (job_named jobs w) refl
         let sub = job_entered (codes "cdbg") jobs w ws j e ∙ ap (λ (rs : List Row). Some (j.0, rs)) fine.1 in
         rw some (same ∙ fine.0, sub)
 
-    go : (o : Option (Text × Form)) → job_named jobs w ≡ o → AgreesAll (reading (program ∷ w ∷ ws)) (fault_of raw_app (program ∷ w ∷ ws)) (subcommand_of raw_app (program ∷ w ∷ ws))
+    go : (o : Option (Text × JobForm)) → job_named jobs w ≡ o → AgreesAll (reading (program ∷ w ∷ ws)) (fault_of raw_app (program ∷ w ∷ ws)) (subcommand_of raw_app (program ∷ w ∷ ws))
     go None e = let bad = no_job (codes "cdbg") jobs w ws (both (is_readable w) (list_all is_readable ws) good).0 e in rw e bad
     go (Some j) e = uses j e (uses_of j.1 ws) refl
 
@@ -106,7 +106,7 @@ no_name (Some m) (Some v) us next h = go (is_dashed v) refl
     go true d = rw d refl
     go false d = rw d (no_use m v us (λ us. next us None) (λ us. h us None))
 
-no_option : (f : Form) (o : Option (Text × Option Text)) (us : List Use) (next : List Use → Option Text → Uses) → ((us : List Use) (m : Option Text) → next us m ≡ None)
+no_option : (f : JobForm) (o : Option (Text × Option Text)) (us : List Use) (next : List Use → Option Text → Uses) → ((us : List Use) (m : Option Text) → next us m ≡ None)
     → as_option f o us next ≡ None
 no_option f None us next h = refl
 no_option f (Some p) us next h = no_name (find (λ o. bytes_eq o p.0) f.options) p.1 us next h
@@ -123,7 +123,7 @@ dashed v h = go (is_dashed v) h
     go true h = refl
     go false h = absurd (true≢false h)
 
-unfit_option : (f : Form) (o : Option (Text × Option Text)) (us : List Use) (next : List Use → Option Text → Uses) → is_fit o ≡ false → as_option f o us next ≡ None
+unfit_option : (f : JobForm) (o : Option (Text × Option Text)) (us : List Use) (next : List Use → Option Text → Uses) → is_fit o ≡ false → as_option f o us next ≡ None
 unfit_option f None us next h = refl
 unfit_option f (Some (n, None)) us next h = absurd (true≢false h)
 unfit_option f (Some (n, Some v)) us next h = unfit_name (find (λ o. bytes_eq o n) f.options) v us next (dashed v h)
@@ -132,7 +132,7 @@ no_place : (o : Option Text) (v : Text) (us : List Use) (next : List Use → Use
 no_place None v us next h = refl
 no_place (Some m) v us next h = no_use m v us next h
 
-unread : (f : Form) (words : List Text) → list_all is_readable words ≡ false → (us : List Use) (k : ℕ) (waiting : Option Text) → uses_from f us k waiting words ≡ None
+unread : (f : JobForm) (words : List Text) → list_all is_readable words ≡ false → (us : List Use) (k : ℕ) (waiting : Option Text) → uses_from f us k waiting words ≡ None
 unread f [] bad us k waiting = absurd (true≢false bad)
 unread f (w ∷ ws) bad us k waiting = go (is_readable w) refl (unread f ws) waiting
   where
@@ -162,7 +162,7 @@ unchecked [] bad = absurd (true≢false bad)
 unchecked (program ∷ []) bad = refl
 unchecked (program ∷ w ∷ ws) bad = go (is_readable w) refl
   where
-    rest : (o : Option (Text × Form)) → list_all is_readable ws ≡ false → of_job o ws ≡ None
+    rest : (o : Option (Text × JobForm)) → list_all is_readable ws ≡ false → of_job o ws ≡ None
     rest None h = refl
     rest (Some j) h = ap (option_map (λ uses. (j.0, uses))) (unread j.1 ws h [] 0 None)
 

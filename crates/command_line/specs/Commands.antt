@@ -9,7 +9,7 @@ use Rattle.clap.specs.declared.builder.action.ArgAction.TheVariants.{Set}
 use Rattle.clap.specs.Simple.{shape_of}
 use Rattle.clap.specs.declared.builder.command.Command.{Command}
 use Rattle.clap.specs.declared.builder.command.Command.TheViews.{out-Command}
-use Rattle.command_line.specs.Words.{Text, Form, Jobs, Use}
+use Rattle.command_line.specs.Words.{Text, JobForm, Jobs, Use}
 use Rattle.command_line.specs.Forms.{jobs, reading}
 
 abbrev pub option_rule : Text → Rule
@@ -18,7 +18,7 @@ option_rule name = record (new_rule name) { long = Some name; action = Some Set 
 abbrev pub place_rule : Text → Rule
 place_rule name = record (new_rule name) { action = Some Set; required = true }
 
-abbrev pub leaf_shape : Text → Form → Shape
+abbrev pub leaf_shape : Text → JobForm → Shape
 leaf_shape name f =
     record (new_shape name) { rules = map option_rule f.options ++ map place_rule f.places }
 
@@ -29,7 +29,7 @@ abbrev pub app_with : Text → List Rule → App
 app_with name rules = record { top = record (new_shape name) { rules = rules }; subs = [] }
 
 -- the command of a job, before it is built
-abbrev pub IsJobCommand : Text → Form → Command → Type 0
+abbrev pub IsJobCommand : Text → JobForm → Command → Type 0
 IsJobCommand name f c = (shape_of c ≡ leaf_shape name f) × (is_local c ≡ true)
 
 abbrev pub raw_top : Shape
@@ -85,4 +85,5 @@ row u = record {
 -- the matches are those of the words
 abbrev pub HasReading : List Text → Option ArgMatches → Type 0
 HasReading words None = reading words ≡ None
-HasReading words (Some m) = (p : Text × List Use) × (reading words ≡ Some p) × (subcommand_rows_of m ≡ Some (p.0, map row p.1))
+HasReading words (Some m) =
+    (p : Text × List Use) × (reading words ≡ Some p) × (subcommand_rows_of m ≡ Some (p.0, map row p.1))

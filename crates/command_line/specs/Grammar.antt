@@ -1,9 +1,9 @@
 -- The words of a job, as items in any order.
 use Rattle.std.specs.Prelude.{◌≡◌, ℕ, ◌+◌, ◌<◌, true, false, List, [], ◌∷◌, ◌++◌, Some, length, slice_get, unwrap_or, Contains}
 use Rattle.std.specs.List.{flat_map, list_all}
-use Rattle.command_line.specs.Words.{Form, Text, Use, is_dashed, is_used}
+use Rattle.command_line.specs.Words.{JobForm, Text, Use, is_dashed, is_used}
 use Rattle.command_line.specs.Forms.{jobs}
-use Rattle.command_line.specs.Job.{JobGiven, job_by, word_of}
+use Rattle.command_line.specs.Job.{JobGiven, job_by, word_of_option}
 
 -- an option with its value in one word, or in two, or a positional
 pub data Item : Type 0 where
@@ -22,14 +22,14 @@ abbrev pub spellings : List Item → List Text
 spellings items = flat_map spelling items
 
 -- What the items give to the names of the form, where `k` positionals stand before them.
-abbrev pub uses_in : Form → ℕ → List Item → List Use
+abbrev pub uses_in : JobForm → ℕ → List Item → List Use
 uses_in f k [] = []
 uses_in f k (joined name value ∷ rest) = (name, value) ∷ uses_in f k rest
 uses_in f k (apart name value ∷ rest) = (name, value) ∷ uses_in f k rest
 uses_in f k (positional word ∷ rest) = (unwrap_or (slice_get f.places k) [], word) ∷ uses_in f (k + 1) rest
 
 -- Each option is one of the form's, no value and no positional begins with `-`, and no positional is one too many.
-abbrev pub AreItems : Form → ℕ → List Item → Type 0
+abbrev pub AreItems : JobForm → ℕ → List Item → Type 0
 AreItems f k [] = Unit {0}
 AreItems f k (joined name value ∷ rest) = Contains f.options name × (is_dashed value ≡ false) × AreItems f k rest
 AreItems f k (apart name value ∷ rest) = Contains f.options name × (is_dashed value ≡ false) × AreItems f k rest
@@ -41,7 +41,7 @@ AreNew before [] = Unit {0}
 AreNew before (u ∷ rest) = (is_used u.0 before ≡ false) × AreNew (before ++ u ∷ []) rest
 
 -- The words spell items of the form in any order: each option at most once, each positional once.
-pub record Spells (f : Form) (words : List Text) (uses : List Use) : Type 0 where
+pub record Spells (f : JobForm) (words : List Text) (uses : List Use) : Type 0 where
   pub items : List Item
   pub are_items : AreItems f 0 items
   pub words_are : words ≡ spellings items
@@ -49,17 +49,18 @@ pub record Spells (f : Form) (words : List Text) (uses : List Use) : Type 0 wher
   pub once : AreNew [] uses
   pub whole : list_all (λ p. is_used p uses) f.places ≡ true
 
--- The words are the program's own name, the name of a job, and items of the job's form whose values are those of this job.
+-- The words are the program's own name, the name of a job, and items of the job's form whose values are those of this
+-- job.
 pub record IsJob (words : List Text) (job : JobGiven) : Type 0 where
   pub program : Text
   pub name : Text
-  pub form : Form
+  pub form : JobForm
   pub rest : List Text
   pub uses : List Use
   pub words_are : words ≡ program ∷ name ∷ rest
   pub form_is : Contains jobs (name, form)
   pub spelled : Spells form rest uses
-  pub job_is : job_by name (word_of uses) ≡ Some job
+  pub job_is : job_by name (word_of_option uses) ≡ Some job
 
 -- the words are no job
 abbrev pub IsNoJob : List Text → Type 0

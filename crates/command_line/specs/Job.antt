@@ -15,8 +15,8 @@ use Rattle.command_line.specs.declared.job.Job.{Job}
 use Rattle.command_line.specs.declared.job.Job.TheVariants as job
 
 -- the word that a name was given
-abbrev pub word_of : List Use → Text → Option Text
-word_of uses name = option_map (λ u. u.1) (find (λ u. bytes_eq u.0 name) uses)
+abbrev pub word_of_option : List Use → Text → Option Text
+word_of_option uses name = option_map (λ u. u.1) (find (λ u. bytes_eq u.0 name) uses)
 
 -- the names of the list, or the default ones
 abbrev pub names_given : Option Text → Option (List Text)
@@ -53,7 +53,8 @@ debug_given j = record {
 }
 
 -- a job `debug` of its parts, where none is missing
-abbrev pub debug_from : Option (List Text) → Option Mode → Option ℕ → Option Text → Option Text → Option Text → Option Text → Option DebugGiven
+abbrev pub debug_from : Option (List Text) → Option Mode → Option ℕ → Option Text → Option Text → Option Text
+    → Option Text → Option DebugGiven
 debug_from (Some passes) (Some mode) (Some limit) (Some source) (Some script) (Some input) (Some image) = Some (record {
   passes = passes;
   mode = mode;
@@ -67,7 +68,9 @@ debug_from _ _ _ _ _ _ _ = None
 
 -- the job `debug` of what each name's word is
 abbrev pub debug_of : (Text → Option Text) → Option DebugGiven
-debug_of word = debug_from (names_given (word (codes "passes"))) (mode_given (word (codes "homes"))) (limit_given (word (codes "limit")))
+debug_of word =
+    debug_from (names_given (word (codes "passes"))) (mode_given (word (codes "homes")))
+    (limit_given (word (codes "limit")))
     (word (codes "src")) (word (codes "script")) (word (codes "input")) (word (codes "image"))
 
 -- a job `compile`
@@ -88,12 +91,15 @@ compile_given j = record {
 
 -- a job `compile` of its parts, where none is missing
 abbrev pub compile_from : Option (List Text) → Option Mode → Option Text → Option Text → Option CompileGiven
-compile_from (Some passes) (Some mode) (Some source) (Some image) = Some (record { passes = passes; mode = mode; source = source; image = image })
+compile_from (Some passes) (Some mode) (Some source) (Some image) =
+    Some (record { passes = passes; mode = mode; source = source; image = image })
 compile_from _ _ _ _ = None
 
 -- the job `compile` of what each name's word is
 abbrev pub compile_of : (Text → Option Text) → Option CompileGiven
-compile_of word = compile_from (names_given (word (codes "passes"))) (mode_given (word (codes "homes"))) (word (codes "src")) (word (codes "image"))
+compile_of word =
+    compile_from (names_given (word (codes "passes"))) (mode_given (word (codes "homes"))) (word (codes "src"))
+    (word (codes "image"))
 
 -- a job `attach`
 pub record AttachGiven : Type 0 where
@@ -104,16 +110,25 @@ pub record AttachGiven : Type 0 where
 
 -- what a job `attach` of the program is as one of these
 abbrev pub attach_given : Attach → AttachGiven
-attach_given j = record { limit = j.limit; image = string_bytes j.image; script = string_bytes j.script; input = string_bytes j.input }
+attach_given j =
+    record {
+      limit = j.limit;
+      image = string_bytes j.image;
+      script = string_bytes j.script;
+      input = string_bytes j.input;
+    }
 
 -- a job `attach` of its parts, where none is missing
 abbrev pub attach_from : Option ℕ → Option Text → Option Text → Option Text → Option AttachGiven
-attach_from (Some limit) (Some image) (Some script) (Some input) = Some (record { limit = limit; image = image; script = script; input = input })
+attach_from (Some limit) (Some image) (Some script) (Some input) =
+    Some (record { limit = limit; image = image; script = script; input = input })
 attach_from _ _ _ _ = None
 
 -- the job `attach` of what each name's word is
 abbrev pub attach_of : (Text → Option Text) → Option AttachGiven
-attach_of word = attach_from (limit_given (word (codes "limit"))) (word (codes "image")) (word (codes "script")) (word (codes "input"))
+attach_of word =
+    attach_from (limit_given (word (codes "limit"))) (word (codes "image")) (word (codes "script"))
+    (word (codes "input"))
 
 -- a job `passes`
 pub record PassesGiven : Type 0 where
@@ -184,7 +199,7 @@ job_by name word =
 
 -- the job of its name and of what the words give to its names
 abbrev pub read_job : Text × List Use → Option JobGiven
-read_job p = job_by p.0 (word_of p.1)
+read_job p = job_by p.0 (word_of_option p.1)
 
 -- the job that all the words are
 abbrev pub job_in : List Text → Option JobGiven

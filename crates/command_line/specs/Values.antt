@@ -37,11 +37,11 @@ abbrev pub all_named : List Text → Option (List Text)
 all_named texts = if list_all is_pass_name texts then Some texts else None
 
 -- what stands between the commas (44)
-abbrev pub pieces : Text → List Text
-pieces t = slice_split (λ c. c == 44) t
+abbrev pub comma_pieces : Text → List Text
+comma_pieces t = slice_split (λ c. c == 44) t
 
 -- the one word `none`, which is the empty list, or else 1 to 32 names with commas between
 abbrev pub names_in : Text → Option (List Text)
 names_in t =
     if bytes_eq t (codes "none") then Some []
-    else (if nat_le (length (pieces t)) 32 then all_named (pieces t) else None)
+    else (if nat_le (length (comma_pieces t)) 32 then all_named (comma_pieces t) else None)

@@ -8,7 +8,7 @@ abbrev pub Text : Type 0
 Text = List ℕ
 
 -- A job's options, by the names that follow their dashes, and its positionals in their order.
-pub record Form : Type 0 where
+pub record JobForm : Type 0 where
   pub options : List Text
   pub places : List Text
 
@@ -68,14 +68,14 @@ by_name (Some name) (Some value) uses next =
 by_name (Some name) None uses next = next uses (Some name)
 
 -- a word that begins with `-` is an option of the form
-abbrev pub as_option : Form → Option (Text × Option Text) → List Use
+abbrev pub as_option : JobForm → Option (Text × Option Text) → List Use
     → (List Use → Option Text → Uses) → Uses
 as_option f None uses next = None
 as_option f (Some p) uses next = by_name (find (λ o. bytes_eq o p.0) f.options) p.1 uses next
 
--- What the words give to the names of the form, behind what was given before, where `k` positionals stand before them and an
--- option may wait for its value. At the end each positional must have its word.
-abbrev pub uses_from : Form → List Use → ℕ → Option Text → List Text → Uses
+-- What the words give to the names of the form, behind what was given before, where `k` positionals stand before them
+-- and an option may wait for its value. At the end each positional must have its word.
+abbrev pub uses_from : JobForm → List Use → ℕ → Option Text → List Text → Uses
 uses_from f uses k None [] = if list_all (λ p. is_used p uses) f.places then Some uses else None
 uses_from f uses k (Some name) [] = None
 uses_from f uses k (Some name) (word ∷ rest) =
@@ -86,15 +86,15 @@ uses_from f uses k None (word ∷ rest) =
     else in_place (slice_get f.places k) word uses (λ us. uses_from f us (k + 1) None rest)
 
 -- what the words give to the names of the form
-abbrev pub uses_of : Form → List Text → Uses
+abbrev pub uses_of : JobForm → List Text → Uses
 uses_of f words = uses_from f [] 0 None words
 
 -- jobs by their names
 abbrev pub Jobs : Type 0
-Jobs = List (Text × Form)
+Jobs = List (Text × JobForm)
 
 -- the job of this name
-abbrev pub job_named : Jobs → Text → Option (Text × Form)
+abbrev pub job_named : Jobs → Text → Option (Text × JobForm)
 job_named jobs word = find (λ j. bytes_eq j.0 word) jobs
 
 -- ---- words that no job has

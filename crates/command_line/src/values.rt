@@ -3,7 +3,7 @@
 ghost use Rattle.std.specs.Prelude.{◌≡◌, IfOk, option_map, map};
 ghost use Rattle.std.specs.List.{list_all};
 ghost use Rattle.debug_records.specs.Change.{letters};
-ghost use Rattle.command_line.specs.Values.{all_named, are_digits, mode_named, names_in, number_in, pieces};
+ghost use Rattle.command_line.specs.Values.{all_named, are_digits, mode_named, names_in, number_in, comma_pieces};
 
 use debug_records::{Mode, PassName};
 use std::alloc::{AllocError, Global};
@@ -45,7 +45,7 @@ pub fn mode_of(text: &str) -> Option<Mode>
 
 // The texts between the commas.
 fn cut<'a>(alloc: Global, text: &'a str) -> Result<Vec<&'a str>, AllocError>
-    ensures { IfOk result (λ v. map (λ s. s.now) v.items ≡ pieces text.entry.now) }
+    ensures { IfOk result (λ v. map (λ s. s.now) v.items ≡ comma_pieces text.entry.now) }
 {
     text.split(',').collect(alloc)
 }

@@ -20,7 +20,8 @@ abbrev pub variable_in : List Scalar → (x : ℕ) → Option ℕ
 variable_in scalars x = option_map (λ (s : Scalar). s.variable) (slice_get scalars x)
 
 -- A read was replaced at a point, where these names were read and these are.
-pub record IsReplacedAt (scalars : List Scalar) (place : Option ℕ) (block index : ℕ) (was is : List ℕ) (c : Case) : Type 0 where
+pub record IsReplacedAt (scalars : List Scalar) (place : Option ℕ) (block index : ℕ) (was is : List ℕ) (c : Case)
+    : Type 0 where
   pub in_place : place ≡ Some c.place.0
   pub in_block : c.block ≡ block
   pub at_index : c.index ≡ index
@@ -35,5 +36,6 @@ pub record IsReplacedIn (scalars : List Scalar) (n : ℕ) (b d : Block) (c : Cas
   pub stands : place_behind (take c.index d.instructions) d.place ≡ Some c.place.0
   pub in_block : c.block ≡ n
   pub x : ℕ
-  pub other : IsOther (reads_at (drop c.index b.instructions) b.end) (reads_at (drop c.index d.instructions) d.end) c.operand x
+  pub other : IsOther (reads_at (drop c.index b.instructions) b.end) (reads_at (drop c.index d.instructions) d.end)
+      c.operand x
   pub variable : variable_in scalars x ≡ Some c.var.0

@@ -12,8 +12,8 @@ pub record IsOther (was is : List ℕ) (operand x : ℕ) : Type 0 where
   pub after : slice_get is operand ≡ Some y
   pub differs : y ≢ x
 
--- A READ THAT WAS REPLACED. At one point of the graphs before and after, in the place of the case and behind as many instructions of its block as it says, its operand was a
--- read of its variable, and is a read of another name.
+-- A READ THAT WAS REPLACED. At one point of the graphs before and after, in the place of the case and behind as many
+-- instructions of its block as it says, its operand was a read of its variable, and is a read of another name.
 pub record IsReplacedRead (g h : Graph) (c : Case) : Type 0 where
   pub rest : List Instruction
   pub later : List Instruction

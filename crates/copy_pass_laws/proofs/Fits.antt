@@ -5,7 +5,7 @@ use Rattle.graph_core.specs.declared.value.Value.{Value}
 use Rattle.graph_core.specs.Graphs.{Name, Move, Instruction, End, Block, Graph}
 use Rattle.graph_core.specs.Uses.{target_of, targets_of, reads_of_end}
 use Rattle.graph_core.specs.Paths.{History, Among, stays, Path, path}
-use Rattle.graph_core.specs.Runs.{put}
+use Rattle.graph_core.specs.Runs.{with_value_at}
 use Rattle.copy_pass_rule.specs.Copying.{reading_end, IsReadAs, AreCopied, IsCopiedBlock, IsPropagated}
 use Rattle.copy_pass_laws.proofs.Truth.{AreTrue, true_first, true_passed, true_written}
 use Rattle.graph_core.proofs.Among.{path_goes, path_passes}
@@ -44,7 +44,7 @@ module _ (g : Graph) (blocks : List Block) where
 
   -- An instruction was passed that writes a name, and, where it is a copy, the value of the name that it reads.
   pub fits_written : (names : ℕ → Value) (i : Instruction) (before after : List Instruction) (end later : End) (x : ℕ) (v : Value) → target_of i ≡ Some x → ((y : ℕ) → i ≡ Move x (Name y) → v ≡ names y)
-      → Fits g blocks names (i ∷ after) before after end later → Fits g blocks (put names x v) after before after end later
+      → Fits g blocks names (i ∷ after) before after end later → Fits g blocks (with_value_at names x v) after before after end later
   fits_written names i before after end later x v target copies fits = record {
     made = fits.made;
     history = record { block = fits.block; left = length after; instruction = i; wrote = v } ∷ fits.history;

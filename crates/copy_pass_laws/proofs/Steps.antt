@@ -15,8 +15,8 @@ use Rattle.graph_core.specs.Uses.{names_of, names_of_location, reads_of, reads_o
 use Rattle.graph_core.specs.Paths.{Among, front, behind, Path}
 use Rattle.graph_core.specs.Bounds.{most_activations}
 use Rattle.graph_core.specs.Values.{operate, truncate, same, holds, is_odd}
-use Rattle.graph_core.specs.Memory.{Memory, is_live, address_of, ended_from, read, write, zeroed, copied}
-use Rattle.graph_core.specs.Runs.{Activation, Configuration, TooDeep, Stop, Goes, Shows, Ends, Wild, frame, put, value, recipe_value, pointed, entered, wrote, wrote_some, with_memory, unless_odd, at_place, go_to, branched, leave, put_out, got, goes_if, first_of, enter, call_function, call, execute, execute_end, step_from, step}
+use Rattle.graph_core.specs.Memory.{Memory, is_live, pointer_to_object, ended_from, read, write, zeroed, copied}
+use Rattle.graph_core.specs.Runs.{Activation, Configuration, TooDeep, Stop, Goes, Shows, Ends, Wild, frame, with_value_at, value, recipe_value, pointed, entered, wrote, wrote_some, with_memory, unless_odd, at_place, go_to, branched, leave, put_out, got, goes_if, first_argument, enter, call_function, call, execute, execute_end, step_from, step}
 use Rattle.pass_law.specs.Kept.{EachFunction}
 use Rattle.copy_pass_rule.specs.Copying.{reading_operand, reading_all, reading_at, reading, reading_end, IsReadAs, AreCopied, ends, next, IsPropagated}
 use Rattle.copy_pass_laws.proofs.Begins.{goes_on, exited_same, returned_same, goes_if_same, unless_same, enter_same}
@@ -108,8 +108,8 @@ module _ (u v : UnitForm) (made : EachFunction IsPropagated u.graphs v.graphs) w
     callee_same : (x : Option ℕ) (k : Callee) (all : List Operand) (vs : List Value) → FitsAt (Call x k all) → DoesSame (call u c x k vs) (call after_of d x k vs)
     callee_same x (callee.Function n) all vs fits = function_same x n all vs fits
     callee_same x callee.Getchar all vs fits = got_same x all c.input fits
-    callee_same x callee.Putchar all vs fits = put_same x all (first_of vs) fits
-    callee_same x callee.Exit all vs fits = exited_same (first_of vs)
+    callee_same x callee.Putchar all vs fits = put_same x all (first_argument vs) fits
+    callee_same x callee.Exit all vs fits = exited_same (first_argument vs)
 
     -- ---- Markers and notes
 
@@ -139,7 +139,7 @@ module _ (u v : UnitForm) (made : EachFunction IsPropagated u.graphs v.graphs) w
         by_test false = (related, ap (λ fs. Stop (frame before.here ∷ fs) c.memory) (frames_same c.waiting waiting waits))
 
     -- a shadow of the activation becomes another
-    shadowed : (x : ℕ) (n : NoteValue) (s : Shadow) → FitsAt (Note x n) → Related (record c { here = record c.here { shadows = put c.here.shadows x s } }) (record d { here = record d.here { shadows = put d.here.shadows x s } })
+    shadowed : (x : ℕ) (n : NoteValue) (s : Shadow) → FitsAt (Note x n) → Related (record c { here = record c.here { shadows = with_value_at c.here.shadows x s } }) (record d { here = record d.here { shadows = with_value_at d.here.shadows x s } })
     shadowed x n s fits = record {
       blocks = blocks;
       rest = rest;
@@ -155,7 +155,7 @@ module _ (u v : UnitForm) (made : EachFunction IsPropagated u.graphs v.graphs) w
     note_same x (Gone change) fits = shadowed x (Gone change) shadow.Gone fits
     note_same x (Is r) fits =
         let known : Shadow = shadow.Known (recipe_value u.statics c.here.names r) in
-        unless_same (is_odd (recipe_value u.statics c.here.names r)) (Goes (record c { here = record c.here { shadows = put c.here.shadows x known } })) (Goes (record d { here = record d.here { shadows = put d.here.shadows x known } }))
+        unless_same (is_odd (recipe_value u.statics c.here.names r)) (Goes (record c { here = record c.here { shadows = with_value_at c.here.shadows x known } })) (Goes (record d { here = record d.here { shadows = with_value_at d.here.shadows x known } }))
         (shadowed x (Is r) known fits)
 
     -- ---- Blocks to which control goes
@@ -255,7 +255,7 @@ module _ (u v : UnitForm) (made : EachFunction IsPropagated u.graphs v.graphs) w
       execute_same (Operate x o a b) reads fits = writes_same (reading read_as (Operate x o a b)) x (operate o (value_before a) (value_before b)) (operate o (value_after a) (value_after b)) refl (λ y q. cc) (two_same (operate o) a b reads) fits
       execute_same (Truncate x t a) reads fits = writes_same (reading read_as (Truncate x t a)) x (truncate t (value_before a)) (truncate t (value_after a)) refl (λ y q. cc) (ap (truncate t) (one_same a reads)) fits
       execute_same (Same x a b) reads fits = writes_same (reading read_as (Same x a b)) x (same (is_live c.memory) (value_before a) (value_before b)) (same (is_live c.memory) (value_after a) (value_after b)) refl (λ y q. cc) (two_same (same (is_live c.memory)) a b reads) fits
-      execute_same (Address x object) reads fits = (let at : Value = address_of c.memory (c.here.first_object + object) in writes_same (Address x object) x at at refl (λ y q. cc) refl fits)
+      execute_same (Address x object) reads fits = (let at : Value = pointer_to_object c.memory (c.here.first_object + object) in writes_same (Address x object) x at at refl (λ y q. cc) refl fits)
       execute_same (Load x e l) reads fits = load_same x e l reads fits
       execute_same (Store e l a) reads fits = store_same e l a reads fits
       execute_same (Zero object words) reads fits = memory_same (Zero object words) (zeroed c.memory (c.here.first_object + object) words) refl fits

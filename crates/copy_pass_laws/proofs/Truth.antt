@@ -9,7 +9,7 @@ use Rattle.graph_core.specs.declared.value.Value.{Value}
 use Rattle.graph_core.specs.Graphs.{Name, Move, Instruction, End, Graph}
 use Rattle.graph_core.specs.Uses.{target_of}
 use Rattle.graph_core.specs.Paths.{Passed, History, Path}
-use Rattle.graph_core.specs.Runs.{put}
+use Rattle.graph_core.specs.Runs.{with_value_at}
 use Rattle.pass_law.specs.Earned.{last_write_of}
 use Rattle.copy_pass_rule.specs.Copying.{IsReadAs, of_copy, of_none}
 
@@ -32,7 +32,7 @@ true_passed names h p target before x y copy last is =
 
 module _ (names : ℕ → Value) (h : History) (p : Passed) (z : ℕ) (v : Value) (target : target_of p.instruction ≡ Some z) (copies : (y : ℕ) → p.instruction ≡ Move z (Name y) → v ≡ names y) where
   -- a name that is not written
-  kept : (x : ℕ) → (z == x) ≡ false → put names z v x ≡ names x
+  kept : (x : ℕ) → (z == x) ≡ false → with_value_at names z v x ≡ names x
   kept x other = elim (eqb_tells x z) [
     | inl t ↦ absurd (differs (sym (eq-eqb z x (sym t.1)) ∙ other))
     | inr t ↦ ap (λ b. if b then v else names x) t.0
@@ -42,28 +42,28 @@ module _ (names : ℕ → Value) (h : History) (p : Passed) (z : ℕ) (v : Value
       differs e = cc
 
   -- a name that the written one was copied from
-  copied : (y : ℕ) → p.instruction ≡ Move z (Name y) → put names z v y ≡ v
+  copied : (y : ℕ) → p.instruction ≡ Move z (Name y) → with_value_at names z v y ≡ v
   copied y is = elim (eqb_tells y z) [
     | inl t ↦ ap (λ b. if b then v else names y) t.0
     | inr t ↦ ap (λ b. if b then v else names y) t.0 ∙ sym (copies y is)
   ]
 
   -- the name that is written
-  taken : put names z v z ≡ v
+  taken : with_value_at names z v z ≡ v
   taken = ap (λ b. if b then v else names z) (eq-eqb z z refl)
 
   -- the copy that was passed just now
-  by_copy : (x y : ℕ) → p.instruction ≡ Move x (Name y) → put names z v x ≡ put names z v y
+  by_copy : (x y : ℕ) → p.instruction ≡ Move x (Name y) → with_value_at names z v x ≡ with_value_at names z v y
   by_copy x y is =
       let same : z ≡ x = same_Some z x (sym target ∙ ap target_of is) in
       let at : p.instruction ≡ Move z (Name y) = is ∙ ap (λ n. Move n (Name y)) (sym same) in
-      ap (put names z v) (sym same) ∙ taken ∙ sym (copied y at)
+      ap (with_value_at names z v) (sym same) ∙ taken ∙ sym (copied y at)
 
   -- What writes a name leaves them true, if, where it is a copy, the value is that of the name that it reads.
-  pub true_written : AreTrue names h → AreTrue (put names z v) (p ∷ h)
+  pub true_written : AreTrue names h → AreTrue (with_value_at names z v) (p ∷ h)
   true_written before x y copy last is = by_test (writes_either x y (Some z)) refl (sym (ap (λ t. if writes_either x y t then Some p else last_write_of x y h) target) ∙ last)
     where
-      by_test : (b : Bool) → writes_either x y (Some z) ≡ b → (if b then Some p else last_write_of x y h) ≡ Some copy → put names z v x ≡ put names z v y
+      by_test : (b : Bool) → writes_either x y (Some z) ≡ b → (if b then Some p else last_write_of x y h) ≡ Some copy → with_value_at names z v x ≡ with_value_at names z v y
       by_test true e q = by_copy x y (ap (λ (o : Passed). o.instruction) (same_Some p copy q) ∙ is)
       by_test false e q = (let both = or_parts (z == x) (z == y) e in kept x both.0 ∙ before x y copy q is ∙ sym (kept y both.1))
 

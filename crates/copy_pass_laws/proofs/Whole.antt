@@ -3,7 +3,7 @@ use Rattle.std.proofs.Common.{◌≡◌, ℕ, zero, suc, Option, Some, None, Lis
 use Rattle.event_runs.specs.Following.{Reached}
 use Rattle.graph_core.specs.Graphs.{UnitForm}
 use Rattle.graph_core.specs.Memory.{first_memory}
-use Rattle.graph_core.specs.Runs.{Configuration, Stepped, Goes, Shows, Ends, Wild, after, step, run, run_some, enter, unit_run}
+use Rattle.graph_core.specs.Runs.{Configuration, Stepped, Goes, Shows, Ends, Wild, events_after, step, run, run_some, enter, unit_run}
 use Rattle.pass_law.specs.Kept.{EachFunction, ShareTheSame}
 use Rattle.pass_law.specs.Keeps.{SameEvent}
 use Rattle.pass_law.proofs.Keeping.{reached_itself}
@@ -15,7 +15,7 @@ use Rattle.copy_pass_laws.proofs.Steps.{after_of, step_same}
 
 module _ (u v : UnitForm) (made : EachFunction IsPropagated u.graphs v.graphs) where
   -- Behind a step that does the same the same is seen, where it is so of what it comes to.
-  behind_step : (n : ℕ) → ((c d : Configuration) → Related c d → run (after_of u v made) n d ≡ run u n c) → (p q : Stepped) → DoesSame p q → after q (run (after_of u v made) n) ≡ after p (run u n)
+  behind_step : (n : ℕ) → ((c d : Configuration) → Related c d → run (after_of u v made) n d ≡ run u n c) → (p q : Stepped) → DoesSame p q → events_after q (run (after_of u v made) n) ≡ events_after p (run u n)
   behind_step n later (Goes a) (Goes b) does = later a b does
   behind_step n later (Goes a) (Shows o b) does = absurd does
   behind_step n later (Goes a) (Ends o) does = absurd does

@@ -13,7 +13,8 @@ pub record WerePassedAlike (Reads : (x read : ℕ) → Type 0) (p q : Passed) : 
   pub instruction : AreAlikeInstructions Reads p.instruction q.instruction
   pub wrote : q.wrote ≡ p.wrote
 
--- Two units share the same, the log of the second is that of the first with perhaps more behind it, and their functions are alike one by one.
+-- Two units share the same, the log of the second is that of the first with perhaps more behind it, and their functions
+-- are alike one by one.
 pub record AreAlikeUnits (u v : UnitForm) : Type 0 where
   pub shared : ShareTheSame u v
   pub added : List Logged

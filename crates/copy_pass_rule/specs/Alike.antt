@@ -1,4 +1,5 @@
--- Graphs that are alike but for the names that they read: where the one reads a name, the other reads that name too, or both names are scalars.
+-- Graphs that are alike but for the names that they read: where the one reads a name, the other reads that name too, or
+-- both names are scalars.
 use Rattle.std.specs.Prelude.{◌≡◌, ℕ, ◌<◌, Option, Some, None, List, length}
 use Rattle.word_base.specs.declared.operation.Operation.{Operation}
 use Rattle.word_base.specs.declared.operation.Truncation.{Truncation}
@@ -31,20 +32,28 @@ module _ (Reads : (x read : ℕ) → Type 0) where
     marker : {p : ℕ} → AreAlikeInstructions (Marker p) (Marker p)
     note : {x : ℕ} {v : NoteValue} → AreAlikeInstructions (Note x v) (Note x v)
     move : {x : ℕ} {a b : Operand} → AreAlikeOperands a b → AreAlikeInstructions (Move x a) (Move x b)
-    operate : {x : ℕ} {o : Operation} {a b c d : Operand} → AreAlikeOperands a c → AreAlikeOperands b d → AreAlikeInstructions (Operate x o a b) (Operate x o c d)
-    truncate : {x : ℕ} {t : Truncation} {a b : Operand} → AreAlikeOperands a b → AreAlikeInstructions (Truncate x t a) (Truncate x t b)
-    same : {x : ℕ} {a b c d : Operand} → AreAlikeOperands a c → AreAlikeOperands b d → AreAlikeInstructions (Same x a b) (Same x c d)
+    operate : {x : ℕ} {o : Operation} {a b c d : Operand} → AreAlikeOperands a c → AreAlikeOperands b d
+        → AreAlikeInstructions (Operate x o a b) (Operate x o c d)
+    truncate : {x : ℕ} {t : Truncation} {a b : Operand} → AreAlikeOperands a b
+        → AreAlikeInstructions (Truncate x t a) (Truncate x t b)
+    same : {x : ℕ} {a b c d : Operand} → AreAlikeOperands a c → AreAlikeOperands b d
+        → AreAlikeInstructions (Same x a b) (Same x c d)
     address : {x object : ℕ} → AreAlikeInstructions (Address x object) (Address x object)
-    load : {x : ℕ} {e : Element} {l m : Location} → AreAlikeLocations l m → AreAlikeInstructions (Load x e l) (Load x e m)
-    store : {e : Element} {l m : Location} {a b : Operand} → AreAlikeLocations l m → AreAlikeOperands a b → AreAlikeInstructions (Store e l a) (Store e m b)
+    load : {x : ℕ} {e : Element} {l m : Location} → AreAlikeLocations l m
+        → AreAlikeInstructions (Load x e l) (Load x e m)
+    store : {e : Element} {l m : Location} {a b : Operand} → AreAlikeLocations l m → AreAlikeOperands a b
+        → AreAlikeInstructions (Store e l a) (Store e m b)
     zero_words : {object words : ℕ} → AreAlikeInstructions (Zero object words) (Zero object words)
-    copy_words : {object bytes words : ℕ} → AreAlikeInstructions (CopyWords object bytes words) (CopyWords object bytes words)
-    call : {x : Option ℕ} {f : Callee} {all others : List Operand} → Pairs AreAlikeOperands all others → AreAlikeInstructions (Call x f all) (Call x f others)
+    copy_words : {object bytes words : ℕ}
+        → AreAlikeInstructions (CopyWords object bytes words) (CopyWords object bytes words)
+    call : {x : Option ℕ} {f : Callee} {all others : List Operand} → Pairs AreAlikeOperands all others
+        → AreAlikeInstructions (Call x f all) (Call x f others)
 
   -- The ends of blocks are alike: they lead to the same blocks by the same comparison, and their operands are alike.
   pub data AreAlikeEnds : End → End → Type 0 where
     jump : {l : ℕ} → AreAlikeEnds (Jump l) (Jump l)
-    branch : {k : Comparison} {a b c d : Operand} {l m : ℕ} → AreAlikeOperands a c → AreAlikeOperands b d → AreAlikeEnds (Branch k a b l m) (Branch k c d l m)
+    branch : {k : Comparison} {a b c d : Operand} {l m : ℕ} → AreAlikeOperands a c → AreAlikeOperands b d
+        → AreAlikeEnds (Branch k a b l m) (Branch k c d l m)
     return_none : AreAlikeEnds (Return None) (Return None)
     return_some : {a b : Operand} → AreAlikeOperands a b → AreAlikeEnds (Return (Some a)) (Return (Some b))
 
@@ -54,7 +63,8 @@ module _ (Reads : (x read : ℕ) → Type 0) where
     pub instructions : Pairs AreAlikeInstructions b.instructions c.instructions
     pub end : AreAlikeEnds b.end c.end
 
--- Graphs are alike: their blocks are, one by one, where a name is read for itself or a scalar for a scalar, and all else is the same.
+-- Graphs are alike: their blocks are, one by one, where a name is read for itself or a scalar for a scalar, and all
+-- else is the same.
 pub record AreAlike (g h : Graph) : Type 0 where
   pub rest : h ≡ record g { blocks = h.blocks }
   pub blocks : Pairs (AreAlikeBlocks (IsReadFor (length g.scalars))) g.blocks h.blocks

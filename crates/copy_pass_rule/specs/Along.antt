@@ -9,19 +9,30 @@ use Rattle.copy_pass_rule.specs.Found.{AreMissingAt}
 use Rattle.copy_pass_rule.specs.Known.{IsNoCopy}
 
 -- An instruction with this rest of its block behind it, as it is read by copies.
-pub record IsReadBy (g : Graph) (n : ℕ) (b : Block) (i : Instruction) (rest : List Instruction) (copies : List CopyAt) (made : Instruction) : Type 0 where
+pub record IsReadBy (g : Graph) (n : ℕ) (b : Block) (i : Instruction) (rest : List Instruction) (copies : List CopyAt)
+    (made : Instruction) : Type 0 where
   pub bits : Bits
   pub found : AreFound (lines_of g.blocks) copies bits
   pub missing : ℕ → Bool
   pub are : AreMissingAt copies bits n b (i ∷ rest) missing
   pub is : made ≡ reading (source_among copies missing 0) i
 
--- Along what is left of a block, to the copies that were found those are added that its instructions make, each as it is read by those found before.
-pub data AreFoundAlong (g : Graph) (n : ℕ) (b : Block) : (rest : List Instruction) → (found new : List CopyAt) → Type 0 where
+-- Along what is left of a block, to the copies that were found those are added that its instructions make, each as it
+-- is read by those found before.
+pub data AreFoundAlong (g : Graph) (n : ℕ) (b : Block) : (rest : List Instruction) → (found new : List CopyAt)
+    → Type 0 where
   done : {found : List CopyAt} → AreFoundAlong g n b [] found found
-  no_copy : {i made : Instruction} {rest : List Instruction} {found new : List CopyAt} → IsReadBy g n b i rest found made → IsNoCopy g.scalars made → AreFoundAlong g n b rest found new → AreFoundAlong g n b (i ∷ rest) found new
-  copy : {i : Instruction} {rest : List Instruction} {found new : List CopyAt} (x y : ℕ) → IsReadBy g n b i rest found (Move x (Name y)) → AreOfOneType g.scalars x y
-      → AreFoundAlong g n b rest (found ++ record { block = n; left = length rest; target = x; source = y } ∷ []) new → AreFoundAlong g n b (i ∷ rest) found new
+  no_copy : {i made : Instruction} {rest : List Instruction} {found new : List CopyAt}
+      → IsReadBy g n b i rest found made → IsNoCopy g.scalars made → AreFoundAlong g n b rest found new
+      → AreFoundAlong g n b (i ∷ rest) found new
+  copy : {i : Instruction} {rest : List Instruction} {found new : List CopyAt} (x y : ℕ)
+      → IsReadBy g n b i rest found (Move x (Name y)) → AreOfOneType g.scalars x y
+      → AreFoundAlong g n b rest (found ++ record {
+        block = n;
+        left = length rest;
+        target = x;
+        source = y;
+      } ∷ []) new → AreFoundAlong g n b (i ∷ rest) found new
 
 -- An instruction stands in a block of a graph with so many behind it.
 pub record IsPoint (g : Graph) (n left : ℕ) (i : Instruction) : Type 0 where

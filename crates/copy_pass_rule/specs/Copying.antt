@@ -55,23 +55,27 @@ pub record AreOfOneType (scalars : List Scalar) (x y : ℕ) : Type 0 where
   pub type : source.of ≡ target.of
   pub other : y ≢ x
 
--- One instruction that copies y to x, both scalars of one type, reaches a point on every path from the entry, with neither written since.
+-- One instruction that copies y to x, both scalars of one type, reaches a point on every path from the entry, with
+-- neither written since.
 pub record IsCopied (h : Graph) (x y n : ℕ) (rest : List Instruction) (e : End) : Type 0 where
   pub scalars : AreOfOneType h.scalars x y
   pub block : ℕ
   pub left : ℕ
   pub on_each : (hist : History) → Path h hist n rest e → IsCopiedAt block left x y hist
 
--- What a read of x at a point is: of y, where some path comes to the point and y was copied to x; of x itself, where no path comes there or nothing was copied to it.
+-- What a read of x at a point is: of y, where some path comes to the point and y was copied to x; of x itself, where no
+-- path comes there or nothing was copied to it.
 pub data IsReadAs (h : Graph) (n : ℕ) (rest : List Instruction) (e : End) (x : ℕ) : ℕ → Type 0 where
   of_copy : {y : ℕ} → IsReached h n rest e → IsCopied h x y n rest e → IsReadAs h n rest e x y
   of_none : (IsReached h n rest e → (y : ℕ) → IsCopied h x y n rest e → ⊥) → IsReadAs h n rest e x x
 
--- What is left of a block, before and after: each instruction is the same but for what it reads, and it reads what the copies that reach it, in the graph after, make of
--- what it read.
+-- What is left of a block, before and after: each instruction is the same but for what it reads, and it reads what the
+-- copies that reach it, in the graph after, make of what it read.
 pub data AreCopied (h : Graph) (n : ℕ) (end : End) : List Instruction → List Instruction → Type 0 where
   ends : AreCopied h n end [] []
-  next : {i : Instruction} {rest after : List Instruction} (read_as : ℕ → ℕ) → ((x : ℕ) → Among x (reads_of i) → IsReadAs h n (reading read_as i ∷ after) end x (read_as x)) → AreCopied h n end rest after
+  next : {i : Instruction} {rest after : List Instruction} (read_as : ℕ → ℕ)
+      → ((x : ℕ) → Among x (reads_of i) → IsReadAs h n (reading read_as i ∷ after) end x (read_as x))
+      → AreCopied h n end rest after
       → AreCopied h n end (i ∷ rest) (reading read_as i ∷ after)
 
 -- A block before and after: so are its instructions and its end.
@@ -82,10 +86,12 @@ pub record IsCopiedBlock (h : Graph) (n : ℕ) (b c : Block) : Type 0 where
   pub reads : (x : ℕ) → Among x (reads_of_end b.end) → IsReadAs h n [] c.end x (read_as x)
   pub instructions : AreCopied h n c.end b.instructions c.instructions
 
--- COPY PROPAGATION. The graphs are the same but for what their instructions and ends read. Each read is what the copies of the graph after make of the read of the graph
--- before, so no read is left that a copy reaches. There is one such graph: a copy that reaches a point on every path stands before it on each of them, so what the copy
--- itself reads is settled first.
+-- COPY PROPAGATION. The graphs are the same but for what their instructions and ends read. Each read is what the copies
+-- of the graph after make of the read of the graph before, so no read is left that a copy reaches. There is one such
+-- graph: a copy that reaches a point on every path stands before it on each of them, so what the copy itself reads is
+-- settled first.
 pub record IsPropagated (g h : Graph) : Type 0 where
   pub rest : h ≡ record g { blocks = h.blocks }
   pub count : length h.blocks ≡ length g.blocks
-  pub blocks : (n : ℕ) (b c : Block) → slice_get g.blocks n ≡ Some b → slice_get h.blocks n ≡ Some c → IsCopiedBlock h n b c
+  pub blocks : (n : ℕ) (b c : Block) → slice_get g.blocks n ≡ Some b → slice_get h.blocks n ≡ Some c
+      → IsCopiedBlock h n b c

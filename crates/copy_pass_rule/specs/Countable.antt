@@ -3,7 +3,8 @@ use Rattle.std.specs.Prelude.{ℕ, ◌<◌, ◌^◌, length}
 use Rattle.graph_core.specs.Graphs.{Graph}
 use Rattle.graph_core.specs.Validity.{instructions_of}
 
--- A graph has a block, and 31 bits count its blocks, its scalars, and its instructions that are neither markers nor notes.
+-- A graph has a block, and 31 bits count its blocks, its scalars, and its instructions that are neither markers nor
+-- notes.
 pub record IsCountable (g : Graph) : Type 0 where
   pub some : 0 < length g.blocks
   pub blocks : length g.blocks < 2 ^ 31

@@ -30,7 +30,7 @@ use Rattle.currency.specs.declared.verdict.PlaceVerdict as declared-row
 use Rattle.currency.specs.Telling.{AreRowsTold, IsCauseOf, IsNoneTold, IsRowTold, IsToldOf, IsToldRight, IsVerdictOf, IsVerdictOn, told_at}
 use Rattle.currency.specs.Named.{AreNamed, IsNamed, IsNumbered, IsTaking}
 use Rattle.currency.specs.Sound.{AreSo}
-use Rattle.currency.specs.Written.{AreWritten, IsWritten, Writes, WritesHome, binding as by_binding, function_of, instruction as by_instruction}
+use Rattle.currency.specs.Written.{AreWritten, IsWritten, Writes, WritesHome, binding as by_binding, writer_function, instruction as by_instruction}
 use Rattle.currency.specs.Evident.{AreEvident, AreToldEvident, IsEvident}
 
 -- ---- The changes
@@ -57,7 +57,7 @@ cause_named log flow u f g x variable p (cause.Reused n start w) q v told hides 
 -- ---- The writes
 
 -- what writes a name in a place writes it
-writes_so : (f : ℕ) (g : Graph) (p y : ℕ) (w : declared-writer.Writer) → IsWriter f g p y w → (function_of w ≡ f) × Writes g (function_of w) y w
+writes_so : (f : ℕ) (g : Graph) (p y : ℕ) (w : declared-writer.Writer) → IsWriter f g p y w → (writer_function w ≡ f) × Writes g (writer_function w) y w
 writes_so f g p y _ (instruction {n} {i} {rest} at target) = (refl, by_instruction at.block i at.is (subst (λ (l : List Instruction). slice_get l (length at.before) ≡ Some i) (sym at.instructions) (there at.before i rest)) target)
   where
     there : (before : List Instruction) (i : Instruction) (rest : List Instruction) → slice_get (before ++ i ∷ rest) (length before) ≡ Some i

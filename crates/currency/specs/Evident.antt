@@ -1,4 +1,5 @@
--- What hides variables, where that is told: evidence by a change of the log, a write and a path of the flow, and the first that there is.
+-- What hides variables, where that is told: evidence by a change of the log, a write and a path of the flow, and the
+-- first that there is.
 use Rattle.std.specs.Prelude.{◌≡◌, ◌⊎◌, ℕ, Some, option_map, List, slice_get}
 use Rattle.places.specs.declared.flow.FlowTable.{FlowTable}
 use Rattle.debug_records.specs.declared.change.Place.{Place}
@@ -32,15 +33,19 @@ IsHiding IsEvident (told.Recovered r c) = Unit {0}
 IsHiding IsEvident (told.Hidden hiding) = IsEvident hiding
 
 -- What is told at places that was not told before is so.
-abbrev pub AreNew : (IsSo : (p : ℕ) → declared-variable.ToldVariable → Type 0) → (old new : declared-places.ToldPlaces) → Type 0
-AreNew IsSo old new = (p : ℕ) (t : declared-variable.ToldVariable) → Among t (told_at new p) → Among t (told_at old p) ⊎ IsSo p t
+abbrev pub AreNew : (IsSo : (p : ℕ) → declared-variable.ToldVariable → Type 0) → (old new : declared-places.ToldPlaces)
+    → Type 0
+AreNew IsSo old new =
+    (p : ℕ) (t : declared-variable.ToldVariable) → Among t (told_at new p) → Among t (told_at old p) ⊎ IsSo p t
 
 -- What is told of a variable at a place, of which it is asked by this, is evident.
-abbrev pub IsHidingOn : (IsEvident : (p : ℕ) → declared-hiding.Hiding → Type 0) → (var : declared-var.Var) → (p : ℕ) → declared-variable.ToldVariable → Type 0
+abbrev pub IsHidingOn : (IsEvident : (p : ℕ) → declared-hiding.Hiding → Type 0) → (var : declared-var.Var) → (p : ℕ)
+    → declared-variable.ToldVariable → Type 0
 IsHidingOn IsEvident var p t = (t.var ≡ var) × IsHiding (λ c. IsEvident p c) t.told
 
 -- What is told is of a scalar, and evident.
-pub record IsHidingScalar (t : declared-teller.Teller) (w : declared-writers.Writers) (scalars : List declared-scalar.Scalar) (p : ℕ) (one : declared-variable.ToldVariable) : Type 0 where
+pub record IsHidingScalar (t : declared-teller.Teller) (w : declared-writers.Writers)
+    (scalars : List declared-scalar.Scalar) (p : ℕ) (one : declared-variable.ToldVariable) : Type 0 where
   pub x : ℕ
   pub scalar : declared-scalar.Scalar
   pub is : slice_get scalars x ≡ Some scalar
@@ -57,14 +62,16 @@ pub record IsScalarOf (u : HomedForm) (variable : ℕ) : Type 0 where
 -- given: the log of a unit, and the flow of its program
 module _ (log : List Logged) (flow : FlowTable) where
   -- What is told is of a scalar of a function of this number, at a place that a path of it reaches, and evident.
-  pub record IsHidingIn (home : ℕ → Home) (f : ℕ) (g : Graph) (p : ℕ) (t : declared-variable.ToldVariable) : Type 0 where
+  pub record IsHidingIn (home : ℕ → Home) (f : ℕ) (g : Graph) (p : ℕ) (t : declared-variable.ToldVariable)
+      : Type 0 where
     pub x : ℕ
     pub of : IsVariable g x t.var.0
     pub reached : IsPlaceReached g p
     pub hiding : IsHiding (λ c. Tells log flow home f g x t.var.0 p c) t.told
 
-  -- What hides a variable at a place, as a verdict tells it: it is a scalar of a function of the unit, and this is evident there, and the first that may be told. The place beside it
-  -- is the least at which a quiet path to there begins, or there is no such path.
+  -- What hides a variable at a place, as a verdict tells it: it is a scalar of a function of the unit, and this is
+  -- evident there, and the first that may be told. The place beside it is the least at which a quiet path to there
+  -- begins, or there is no such path.
   pub record IsEvidentAt (u : HomedForm) (variable p : ℕ) (v : declared-verdict.Verdict) : Type 0 where
     pub f : ℕ
     pub graph : Graph
@@ -75,7 +82,8 @@ module _ (log : List Logged) (flow : FlowTable) where
     pub told : IsHidingOf hiding v
     pub evident : Hides log flow (home_of u f) f graph x variable p hiding.cause
     pub first : IsFirst log flow (home_of u f) f graph x variable p hiding.cause
-    pub quiet : IsLeastQuiet log flow (home_of u f) f graph x variable p (option_map (λ (place : Place). place.0) hiding.quiet)
+    pub quiet : IsLeastQuiet log flow (home_of u f) f graph x variable p
+        (option_map (λ (place : Place). place.0) hiding.quiet)
 
   -- What each verdict says to hide a variable does, and one that gives a recipe gives it for a scalar.
   abbrev pub IsEvident : HomedForm → (variable p : ℕ) → declared-verdict.Verdict → Type 0

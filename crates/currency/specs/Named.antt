@@ -8,11 +8,7 @@ use Rattle.graph_core.specs.Paths.{Among}
 use Rattle.currency.specs.declared.verdict.Verdict as declared-verdict
 use Rattle.currency.specs.declared.verdict.Verdict.TheVariants as verdict
 use Rattle.currency.specs.declared.verdict.PlaceVerdict as declared-row
-
--- The change of a number in a log: numbers go from 1.
-pub record IsNumbered (log : List Logged) (number : ℕ) (change : Logged) : Type 0 where
-  pub some : 1 ≤ number
-  pub is : slice_get log (number - 1) ≡ Some change
+pub use Rattle.currency_hiding.specs.Changes.{IsNumbered}
 
 -- The change of a number in a log is of this kind, and concerns this variable.
 pub record IsLogged (log : List Logged) (number : ℕ) (wanted : declared-kind.Kind) (variable : ℕ) : Type 0 where
@@ -36,9 +32,10 @@ pub record IsRemoval (log : List Logged) (number variable place : ℕ) : Type 0 
   pub of : change.variable ≡ variable
   pub at : change.place ≡ place
 
--- The change that a verdict on a variable names is in the log: one by which an assignment of the variable went, where its value is recovered, or is not current with nothing that writes
--- its home, and then in the place that is told; one that moved a computation of its value, where something writes its home; and one that gave its register to other names, where it is not
--- resident. Where its home shows it, none is named.
+-- The change that a verdict on a variable names is in the log: one by which an assignment of the variable went, where
+-- its value is recovered, or is not current with nothing that writes its home, and then in the place that is told; one
+-- that moved a computation of its value, where something writes its home; and one that gave its register to other
+-- names, where it is not resident. Where its home shows it, none is named.
 abbrev pub IsNamed : List Logged → (variable : ℕ) → declared-verdict.Verdict → Type 0
 IsNamed log v verdict.Home = Unit {0}
 IsNamed log v (verdict.Recovered r c) = IsTaking log c v

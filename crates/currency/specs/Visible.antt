@@ -21,7 +21,8 @@ sights_at p variables = map (λ (v : Var). record { place = p; variable = v.0 })
 abbrev pub next : ℕ → ℕ
 next p = min (p + 1) 4294967295
 
--- The variables that are visible at the places of a table, whose first one has this number: place by place, and in each in the table's order.
+-- The variables that are visible at the places of a table, whose first one has this number: place by place, and in each
+-- in the table's order.
 abbrev pub sights_from : ℕ → List PlaceRow → List Sight
 sights_from p [] = []
 sights_from p (r ∷ rows) = sights_at p r.visible.items ++ sights_from (next p) rows

@@ -12,26 +12,29 @@ use Rattle.currency.specs.declared.verdict.Verdict as declared-verdict
 use Rattle.currency.specs.declared.verdict.Verdict.TheVariants as verdict
 use Rattle.currency.specs.declared.verdict.PlaceVerdict as declared-row
 
--- What is told to write a name of a function: an instruction that stands in one of its blocks, behind so many others, or the binding of one of its parameters.
+-- What is told to write a name of a function: an instruction that stands in one of its blocks, behind so many others,
+-- or the binding of one of its parameters.
 pub data Writes (g : Graph) (f y : ℕ) : declared-writer.Writer → Type 0 where
-  instruction : {n k : ℕ} (b : Block) (i : Instruction) → slice_get g.blocks n ≡ Some b → slice_get b.instructions k ≡ Some i → target_of i ≡ Some y → Writes g f y (writer.Instruction f n k)
+  instruction : {n k : ℕ} (b : Block) (i : Instruction) → slice_get g.blocks n ≡ Some b
+      → slice_get b.instructions k ≡ Some i → target_of i ≡ Some y → Writes g f y (writer.Instruction f n k)
   binding : {k : ℕ} → slice_get g.parameters k ≡ Some (ToScalar y) → Writes g f y (writer.Binding f k)
 
 -- the function in which it stands
-abbrev pub function_of : declared-writer.Writer → ℕ
-function_of (writer.Instruction f n k) = f
-function_of (writer.Binding f k) = f
+abbrev pub writer_function : declared-writer.Writer → ℕ
+writer_function (writer.Instruction f n k) = f
+writer_function (writer.Binding f k) = f
 
--- It writes the home of a variable for another name: the variable is a scalar of its function, and the home of the name that it writes is the home of this scalar.
+-- It writes the home of a variable for another name: the variable is a scalar of its function, and the home of the name
+-- that it writes is the home of this scalar.
 pub record WritesHome (u : HomedForm) (variable : ℕ) (w : declared-writer.Writer) : Type 0 where
   pub graph : Graph
   pub x : ℕ
   pub y : ℕ
-  pub is : slice_get u.unit.graphs (function_of w) ≡ Some graph
+  pub is : slice_get u.unit.graphs (writer_function w) ≡ Some graph
   pub scalar : IsVariable graph x variable
-  pub writes : Writes graph (function_of w) y w
+  pub writes : Writes graph (writer_function w) y w
   pub other : y ≢ x
-  pub shared : is_same_home (home_of u (function_of w) y) (home_of u (function_of w) x) ≡ true
+  pub shared : is_same_home (home_of u (writer_function w) y) (home_of u (writer_function w) x) ≡ true
 
 -- What a verdict says to write the home of a variable does.
 abbrev pub IsWritten : HomedForm → (variable : ℕ) → declared-verdict.Verdict → Type 0

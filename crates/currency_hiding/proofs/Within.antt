@@ -8,7 +8,7 @@ use Rattle.graph_core.specs.Graphs.{Name, Constant, StaticAddress, Instruction, 
 use Rattle.graph_core.specs.Paths.{Among, front, behind}
 use Rattle.graph_core.specs.Points.{is_place}
 use Rattle.graph_core.specs.Validity.{IsBlock, IsGraph, IsInstruction, IsOwnPlace, markers_in, markers_of_blocks, place_behind}
-use Rattle.graph_homes.specs.Reused.{first_among, first_copy, or_else}
+use Rattle.graph_homes.specs.Reused.{first_among, first_copy, one_or_other}
 use Rattle.currency_writers.specs.declared.writers.Writer as declared-writer
 use Rattle.currency_writers.specs.Writers.{IsWriter, instruction, parameter}
 use Rattle.currency_hiding.specs.Found.{AreCopiesBelow, ArePlaced}
@@ -89,7 +89,7 @@ module _ (u : UnitForm) (g : Graph) where
   among_low p x t place (CopyWords o b w ∷ more) valid e = among_low p x t place more valid.1 e
   among_low p x t place (Call y f a ∷ more) valid e = among_low p x t place more valid.1 e
 
-  either_of : (a b : Option ℕ) (t : ℕ) → or_else a b ≡ Some t → (a ≡ Some t) ⊎ (b ≡ Some t)
+  either_of : (a b : Option ℕ) (t : ℕ) → one_or_other a b ≡ Some t → (a ≡ Some t) ⊎ (b ≡ Some t)
   either_of None b t e = inr e
   either_of (Some a) b t e = inl e
 

@@ -21,7 +21,8 @@ log_of c = map logged c.all.now
 -- Each change has its number, and that is in the list of its variable; the numbers of a list ascend.
 pub record AreListed (c : declared-changes.Changes) : Type 0 where
   pub numbers : AreNumbered c.all.now
-  pub listed : (k : ℕ) (d : Change) → slice_get c.all.now k ≡ Some d → Contains (entries_of c.by_variable d.var.0) (k + 1)
+  pub listed : (k : ℕ) (d : Change) → slice_get c.all.now k ≡ Some d
+      → Contains (entries_of c.by_variable d.var.0) (k + 1)
   pub ordered : (variable : ℕ) → AllPairs (λ m n. m < n) (entries_of c.by_variable variable)
 
 -- the change of a number, of those that are listed
@@ -29,7 +30,8 @@ pub record IsListed (c : declared-changes.Changes) (number : ℕ) (d : Change) :
   pub some : 1 ≤ number
   pub is : slice_get c.all.now (number - 1) ≡ Some d
 
--- The kind by whose evidence a change hides a variable: where an assignment sank from, it is missing as where one was removed.
+-- The kind by whose evidence a change hides a variable: where an assignment sank from, it is missing as where one was
+-- removed.
 abbrev pub hides_as : Kind → Kind
 hides_as Removed = Removed
 hides_as Moved = Moved
@@ -37,10 +39,12 @@ hides_as Reused = Reused
 hides_as Replaced = Replaced
 hides_as Sunk = Removed
 
--- These are the changes of a variable that hide it as those of one kind do, in order: each is one, with its number, and all are among them.
+-- These are the changes of a variable that hide it as those of one kind do, in order: each is one, with its number, and
+-- all are among them.
 pub record AreFound (c : declared-changes.Changes) (variable : ℕ) (kind : Kind) (found : List Change) : Type 0 where
   pub each : All (λ (d : Change). IsListed c d.number d × (d.var.0 ≡ variable) × (hides_as d.kind ≡ kind)) found
-  pub all : (number : ℕ) (d : Change) → IsListed c number d → d.var.0 ≡ variable → hides_as d.kind ≡ kind → Contains found d
+  pub all : (number : ℕ) (d : Change) → IsListed c number d → d.var.0 ≡ variable → hides_as d.kind ≡ kind
+      → Contains found d
   pub ordered : AllPairs (λ (d e : Change). d.number < e.number) found
 
 -- the name by which the assignment of homes logs its changes: homes

@@ -15,13 +15,15 @@ use Rattle.currency_hiding.specs.declared.causes.Cause.TheVariants as cause
 use Rattle.currency_writers.specs.Writers.{IsWriter}
 use Rattle.currency_hiding.specs.Changes.{IsNumbered}
 
--- given: the log of a unit, the flow of its program, the homes of the names of a function of this number, and one of its scalars, which is this variable
+-- given: the log of a unit, the flow of its program, the homes of the names of a function of this number, and one of
+-- its scalars, which is this variable
 module _ (log : List Logged) (flow : FlowTable) (home : ℕ → Home) (f : ℕ) (g : Graph) (x variable : ℕ) where
   -- a name has the home of the scalar
   abbrev pub HasHomeOf : (y : ℕ) → Type 0
   HasHomeOf y = is_same_home (home y) (home x) ≡ true
 
-  -- By a change an assignment of the variable went from a place that assigns it, and no code of the place writes the scalar's home.
+  -- By a change an assignment of the variable went from a place that assigns it, and no code of the place writes the
+  -- scalar's home.
   pub record IsBareRemoval (number place : ℕ) : Type 0 where
     pub change : Logged
     pub is : IsNumbered log number change
@@ -31,7 +33,8 @@ module _ (log : List Logged) (flow : FlowTable) (home : ℕ → Home) (f : ℕ) 
     pub assigned : assigns flow.assignments.items place variable ≡ true
     pub bare : (y : ℕ) (w : declared-writer.Writer) → IsWriter f g place y w → HasHomeOf y → ⊥
 
-  -- A change moved a computation of the variable's value, and this writes the scalar's home, in this place, for the temporary that keeps the value.
+  -- A change moved a computation of the variable's value, and this writes the scalar's home, in this place, for the
+  -- temporary that keeps the value.
   pub record IsMovedWrite (number via : ℕ) (w : declared-writer.Writer) : Type 0 where
     pub change : Logged
     pub is : IsNumbered log number change
@@ -43,7 +46,8 @@ module _ (log : List Logged) (flow : FlowTable) (home : ℕ → Home) (f : ℕ) 
     pub writes : IsWriter f g via t w
     pub shared : HasHomeOf t
 
-  -- A change gave the scalar's register to other names too, and this writes it, in this place, for one that is no temporary of the variable's moved computations.
+  -- A change gave the scalar's register to other names too, and this writes it, in this place, for one that is no
+  -- temporary of the variable's moved computations.
   pub record IsReusedWrite (number via : ℕ) (w : declared-writer.Writer) : Type 0 where
     pub change : Logged
     pub is : IsNumbered log number change
@@ -67,8 +71,8 @@ module _ (log : List Logged) (flow : FlowTable) (home : ℕ → Home) (f : ℕ) 
     pub assigned : assigns flow.assignments.items start variable ≡ true
     pub route : HasRoute start via stop
 
-  -- EVIDENCE that the scalar's home may not hold its value at a place: an assignment went, from whose place a way leads there; or a moved computation, or another name,
-  -- writes its home on a way there from a place that assigns it.
+  -- EVIDENCE that the scalar's home may not hold its value at a place: an assignment went, from whose place a way leads
+  -- there; or a moved computation, or another name, writes its home on a way there from a place that assigns it.
   abbrev pub Hides : (stop : ℕ) → declared-cause.Cause → Type 0
   Hides stop (cause.Removed c start) = IsBareRemoval c start × HasRoute start start stop
   Hides stop (cause.Moved c start w) = HidesBy (λ via. IsMovedWrite c via w) start stop

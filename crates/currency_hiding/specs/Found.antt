@@ -39,7 +39,8 @@ ArePlaced f g places = (p x : ℕ) (w : declared-writer.Writer) → IsWriter f g
 abbrev pub AreCopiesBelow : Graph → (names : ℕ) → Type 0
 AreCopiesBelow g names = (p x t : ℕ) → first_copy p x g.blocks ≡ Some t → t < names
 
--- What is known of a function: what writes its names, and its copies; and the places and names that may be marked are all that it writes and copies.
+-- What is known of a function: what writes its names, and its copies; and the places and names that may be marked are
+-- all that it writes and copies.
 pub record IsFunction (f : declared-function.Function) : Type 0 where
   pub writers : AreWriters f.writers
   pub copies : AreCopies f.copies
@@ -54,11 +55,13 @@ pub record IsHomeWritten (v : declared-writers.Writers) (x p : ℕ) : Type 0 whe
   pub writes : Writes v p y writer
   pub shared : HaveOneHome v y x
 
--- The questions are on one scalar: the places where its home is written are marked, and the temporaries that keep moved computations of the variable's value, and no others.
+-- The questions are on one scalar: the places where its home is written are marked, and the temporaries that keep moved
+-- computations of the variable's value, and no others.
 pub record IsOn (log : List Logged) (f : declared-function.Function) (variable : ℕ) : Type 0 where
   pub function : IsFunction f
   pub scalar : f.scalar < length (graph_view f.writers.graph.now).scalars
-  pub written : (p y : ℕ) (w : declared-writer.Writer) → Writes f.writers p y w → HaveOneHome f.writers y f.scalar → mark_at f.written p ≢ None
+  pub written : (p y : ℕ) (w : declared-writer.Writer) → Writes f.writers p y w → HaveOneHome f.writers y f.scalar
+      → mark_at f.written p ≢ None
   pub bare : (p : ℕ) → mark_at f.written p ≢ None → IsHomeWritten f.writers f.scalar p
   pub own : (t : ℕ) → IsTemporaryOf log (graph_view f.writers.graph.now) f.scalar variable t → mark_at f.own t ≢ None
   pub only : (t : ℕ) → mark_at f.own t ≢ None → IsTemporaryOf log (graph_view f.writers.graph.now) f.scalar variable t
@@ -66,7 +69,9 @@ pub record IsOn (log : List Logged) (f : declared-function.Function) (variable :
 -- The temporary of which the first copy to the scalar in a place is, is marked.
 abbrev pub IsOwn : declared-function.Function → (p : ℕ) → Type 0
 IsOwn f p =
-    (t : ℕ) → f.scalar < length (graph_view f.writers.graph.now).scalars → first_copy p f.scalar (graph_view f.writers.graph.now).blocks ≡ Some t → length (graph_view f.writers.graph.now).scalars ≤ t → mark_at f.own t ≢ None
+    (t : ℕ) → f.scalar < length (graph_view f.writers.graph.now).scalars
+    → first_copy p f.scalar (graph_view f.writers.graph.now).blocks ≡ Some t
+    → length (graph_view f.writers.graph.now).scalars ≤ t → mark_at f.own t ≢ None
 
 -- A name is that of the first copy to the scalar in a place, and no scalar.
 pub record IsCopied (f : declared-function.Function) (p t : ℕ) : Type 0 where
@@ -88,23 +93,36 @@ pub record IsForeignWrite (f : declared-function.Function) (write : declared-wri
 
 -- All writes of names that are so are among these.
 abbrev pub AreForeign : declared-function.Function → List declared-write.Write → Type 0
-AreForeign f found = (k : ℕ) (z : declared-written.Written) → slice_get f.writers.all.items k ≡ Some z → IsForeign f z.name → Contains found (record { place = z.place; number = k })
+AreForeign f found =
+    (k : ℕ) (z : declared-written.Written) → slice_get f.writers.all.items k ≡ Some z → IsForeign f z.name
+    → Contains found (record {
+      place = z.place;
+      number = k;
+    })
 
 -- What was found is in the order in which it is told.
 abbrev pub AreInOrder : List declared-found.Found → Type 0
-AreInOrder all = (j k : ℕ) (z y : declared-found.Found) → j ≤ k → slice_get all j ≡ Some z → slice_get all k ≡ Some y → IsNoLater (order_of z.cause z.via) (order_of y.cause y.via)
+AreInOrder all =
+    (j k : ℕ) (z y : declared-found.Found) → j ≤ k → slice_get all j ≡ Some z → slice_get all k ≡ Some y
+    → IsNoLater (order_of z.cause z.via) (order_of y.cause y.via)
 
 -- What was found is told no later than what has these numbers in order.
 abbrev pub AreToldBefore : List declared-found.Found → (rank : List ℕ) → Type 0
-AreToldBefore all rank = (k : ℕ) (z : declared-found.Found) → slice_get all k ≡ Some z → IsNoLater (order_of z.cause z.via) rank
+AreToldBefore all rank =
+    (k : ℕ) (z : declared-found.Found) → slice_get all k ≡ Some z → IsNoLater (order_of z.cause z.via) rank
 
--- Places by which ways lead are in order: by their starts, then by themselves, then by the numbers of what writes there.
+-- Places by which ways lead are in order: by their starts, then by themselves, then by the numbers of what writes
+-- there.
 abbrev pub AreViasInOrder : List declared-via.Via → Type 0
-AreViasInOrder vias = AllPairs (λ (v w : declared-via.Via). IsNoLater (v.start ∷ v.place ∷ v.writer ∷ []) (w.start ∷ w.place ∷ w.writer ∷ [])) vias
+AreViasInOrder vias =
+    AllPairs
+    (λ (v w : declared-via.Via). IsNoLater (v.start ∷ v.place ∷ v.writer ∷ []) (w.start ∷ w.place ∷ w.writer ∷ []))
+    vias
 
 -- given: a search on one variable
 module _ (s : declared-search.Search) where
-  -- A place by which a way leads was found for a write, with a start that is not above a given one, and a write that is not behind it.
+  -- A place by which a way leads was found for a write, with a start that is not above a given one, and a write that is
+  -- not behind it.
   pub record IsViaFor (vias : List declared-via.Via) (place number start : ℕ) : Type 0 where
     pub via : declared-via.Via
     pub is : Contains vias via
@@ -126,7 +144,8 @@ module _ (s : declared-search.Search) where
     pub write : Contains writes (record { place = v.place; number = v.writer })
 
 -- A write of a place was found to hide the scalar, by what it writes.
-pub record IsViaTold (f : declared-function.Function) (all : List declared-found.Found) (make : (start : ℕ) → declared-writer.Writer → declared-cause.Cause) (v : declared-via.Via) : Type 0 where
+pub record IsViaTold (f : declared-function.Function) (all : List declared-found.Found)
+    (make : (start : ℕ) → declared-writer.Writer → declared-cause.Cause) (v : declared-via.Via) : Type 0 where
   pub written : declared-written.Written
   pub is : slice_get f.writers.all.items v.writer ≡ Some written
   pub told : Contains all (record { cause = make v.start written.writer; via = v.place })
@@ -159,19 +178,25 @@ module _ (l : declared-changes.Changes) (s : declared-search.Search) (f : declar
   -- EVIDENCE that a cause hides the scalar at a place
   abbrev pub HidesAt : (stop : ℕ) → declared-cause.Cause → Type 0
   HidesAt stop c =
-      Hides (log_of l) s.flow.table.now (home_in f.writers.homes.now) f.writers.function (graph_view f.writers.graph.now) f.scalar variable_of stop c
+      Hides (log_of l) s.flow.table.now (home_in f.writers.homes.now) f.writers.function
+      (graph_view f.writers.graph.now) f.scalar variable_of stop c
 
   -- A cause hides the scalar on each way that leads by a place.
   abbrev pub HidesFrom : declared-cause.Cause → (via : ℕ) → Type 0
   HidesFrom (cause.Removed c start) via =
-      (start ≡ via) × IsBareRemoval (log_of l) s.flow.table.now (home_in f.writers.homes.now) f.writers.function (graph_view f.writers.graph.now) f.scalar variable_of c start
+      (start ≡ via)
+      × IsBareRemoval (log_of l) s.flow.table.now (home_in f.writers.homes.now) f.writers.function
+      (graph_view f.writers.graph.now) f.scalar variable_of c start
   HidesFrom (cause.Moved c start w) via =
-      IsMovedWrite (log_of l) s.flow.table.now (home_in f.writers.homes.now) f.writers.function (graph_view f.writers.graph.now) f.scalar variable_of c via w
+      IsMovedWrite (log_of l) s.flow.table.now (home_in f.writers.homes.now) f.writers.function
+      (graph_view f.writers.graph.now) f.scalar variable_of c via w
       × IsStartBy s start via
   HidesFrom (cause.Reused c start w) via =
-      IsReusedWrite (log_of l) s.flow.table.now (home_in f.writers.homes.now) f.writers.function (graph_view f.writers.graph.now) f.scalar variable_of c via w
+      IsReusedWrite (log_of l) s.flow.table.now (home_in f.writers.homes.now) f.writers.function
+      (graph_view f.writers.graph.now) f.scalar variable_of c via w
       × IsStartBy s start via
-      × IsLastShared (log_of l) s.flow.table.now (home_in f.writers.homes.now) f.writers.function (graph_view f.writers.graph.now) f.scalar variable_of c
+      × IsLastShared (log_of l) s.flow.table.now (home_in f.writers.homes.now) f.writers.function
+      (graph_view f.writers.graph.now) f.scalar variable_of c
 
   -- A cause of this number was found, and execution may come to the place from where it hides the scalar.
   pub record IsToldBy (all : List declared-found.Found) (number p : ℕ) : Type 0 where
@@ -179,13 +204,14 @@ module _ (l : declared-changes.Changes) (s : declared-search.Search) (f : declar
     pub is : slice_get all number ≡ Some one
     pub comes : ComesOn s.flow one.via p
 
-  -- What is found hides the scalar, and is in the order in which it is told; and each place to which execution may come from where something hides the scalar is told of by the first
-  -- such cause.
+  -- What is found hides the scalar, and is in the order in which it is told; and each place to which execution may come
+  -- from where something hides the scalar is told of by the first such cause.
   pub record AreCauses (c : declared-causes.Causes) : Type 0 where
     pub each : All (λ (z : declared-found.Found). HidesFrom z.cause z.via) c.found.items
     pub told : (p number : ℕ) → mark_at c.told p ≡ Some number → IsToldBy c.found.items number p
     pub closed : IsClosed s.flow c.told
-    pub first : (k p : ℕ) (z : declared-found.Found) → slice_get c.found.items k ≡ Some z → ComesOn s.flow z.via p → IsSomeAnd (mark_at c.told p) (λ number. number ≤ k)
+    pub first : (k p : ℕ) (z : declared-found.Found) → slice_get c.found.items k ≡ Some z → ComesOn s.flow z.via p
+        → IsSomeAnd (mark_at c.told p) (λ number. number ≤ k)
     pub ordered : AreInOrder c.found.items
     pub room : HasRoom s.flow c.told
 
@@ -198,17 +224,20 @@ module _ (l : declared-changes.Changes) (s : declared-search.Search) (f : declar
 
   -- The removals of a change were found.
   abbrev pub IsRemovalFound : List declared-found.Found → (number : ℕ) → Type 0
-  IsRemovalFound all number = (start via : ℕ) → HidesFrom (cause.Removed number start) via → IsCovered all (cause.Removed number start) via
+  IsRemovalFound all number =
+      (start via : ℕ) → HidesFrom (cause.Removed number start) via → IsCovered all (cause.Removed number start) via
 
   -- The writes for the temporary of a change were found.
   abbrev pub AreMovesFound : List declared-found.Found → (number : ℕ) → Type 0
   AreMovesFound all number =
-      (start via : ℕ) (w : declared-writer.Writer) → HidesFrom (cause.Moved number start w) via → IsCovered all (cause.Moved number start w) via
+      (start via : ℕ) (w : declared-writer.Writer) → HidesFrom (cause.Moved number start w) via
+      → IsCovered all (cause.Moved number start w) via
 
   -- The writes for other names, by the change of a number, were found.
   abbrev pub AreSharesFound : List declared-found.Found → (number : ℕ) → Type 0
   AreSharesFound all number =
-      (start via : ℕ) (w : declared-writer.Writer) → HidesFrom (cause.Reused number start w) via → IsCovered all (cause.Reused number start w) via
+      (start via : ℕ) (w : declared-writer.Writer) → HidesFrom (cause.Reused number start w) via
+      → IsCovered all (cause.Reused number start w) via
 
   -- All that hides the scalar was found.
   pub record AreAllFound (all : List declared-found.Found) : Type 0 where
@@ -218,17 +247,22 @@ module _ (l : declared-changes.Changes) (s : declared-search.Search) (f : declar
 
   -- THE FIRST of all that may hide the scalar at a place
   abbrev pub IsFirstAt : (stop : ℕ) → declared-cause.Cause → Type 0
-  IsFirstAt stop c = IsFirst (log_of l) s.flow.table.now (home_in f.writers.homes.now) f.writers.function (graph_view f.writers.graph.now) f.scalar variable_of stop c
+  IsFirstAt stop c =
+      IsFirst (log_of l) s.flow.table.now (home_in f.writers.homes.now) f.writers.function
+      (graph_view f.writers.graph.now) f.scalar variable_of stop c
 
   -- nothing may hide it there
   abbrev pub HasNoneAt : (stop : ℕ) → Type 0
-  HasNoneAt stop = HasNone (log_of l) s.flow.table.now (home_in f.writers.homes.now) f.writers.function (graph_view f.writers.graph.now) f.scalar variable_of stop
+  HasNoneAt stop =
+      HasNone (log_of l) s.flow.table.now (home_in f.writers.homes.now) f.writers.function
+      (graph_view f.writers.graph.now) f.scalar variable_of stop
 
 -- Nothing of what was found is lost.
 abbrev pub AreMoreFound : (old new : declared-causes.Causes) → Type 0
 AreMoreFound old new = (z : declared-found.Found) → Contains old.found.items z → Contains new.found.items z
 
--- The questions of a unit are on a scalar of a function; what is found is all that hides it, and where its quiet paths begin.
+-- The questions of a unit are on a scalar of a function; what is found is all that hides it, and where its quiet paths
+-- begin.
 pub record IsReady (t : declared-teller.Teller) (f : declared-function.Function) : Type 0 where
   pub asked : IsAsked t.changes t.search f
   pub causes : AreCauses t.changes t.search f t.causes
@@ -243,8 +277,11 @@ pub record IsTeller (t : declared-teller.Teller) : Type 0 where
   pub quiet : HasQuietRoom t.search t.quiet
 
 -- EVIDENCE by what is known of a unit and of what writes a function's names.
-abbrev pub HidesBy : declared-teller.Teller → declared-writers.Writers → (x variable p : ℕ) → declared-cause.Cause → Type 0
-HidesBy t w x variable p c = Hides (log_of t.changes) t.search.flow.table.now (home_in w.homes.now) w.function (graph_view w.graph.now) x variable p c
+abbrev pub HidesBy : declared-teller.Teller → declared-writers.Writers → (x variable p : ℕ) → declared-cause.Cause
+    → Type 0
+HidesBy t w x variable p c =
+    Hides (log_of t.changes) t.search.flow.table.now (home_in w.homes.now) w.function (graph_view w.graph.now)
+    x variable p c
 
 -- Questions are still on the same unit.
 pub record IsSameTeller (old new : declared-teller.Teller) : Type 0 where
@@ -262,8 +299,11 @@ abbrev pub HidesFor : declared-teller.Teller → declared-function.Function → 
 HidesFor t f p c = HidesAt t.changes t.search f p c
 
 -- what is told by what is known of a unit and of what writes a function's names
-abbrev pub TellsBy : declared-teller.Teller → declared-writers.Writers → (x variable p : ℕ) → declared-hiding.Hiding → Type 0
-TellsBy t w x variable p c = Tells (log_of t.changes) t.search.flow.table.now (home_in w.homes.now) w.function (graph_view w.graph.now) x variable p c
+abbrev pub TellsBy : declared-teller.Teller → declared-writers.Writers → (x variable p : ℕ) → declared-hiding.Hiding
+    → Type 0
+TellsBy t w x variable p c =
+    Tells (log_of t.changes) t.search.flow.table.now (home_in w.homes.now) w.function (graph_view w.graph.now)
+    x variable p c
 
 -- what is told by the questions of a unit on a scalar of a function
 abbrev pub TellsFor : declared-teller.Teller → declared-function.Function → (p : ℕ) → declared-hiding.Hiding → Type 0

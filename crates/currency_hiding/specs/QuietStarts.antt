@@ -32,20 +32,24 @@ pub record IsTakenFrom (taken : List Change) (p : ℕ) : Type 0 where
 
 -- A place assigns the variable in question, or the home of the scalar is written there.
 abbrev pub IsDisturbedAt : declared-search.Search → declared-function.Function → (p : ℕ) → Type 0
-IsDisturbedAt s f p = (assigned s.flow p ≡ true) ⊎ ((y : ℕ) × (w : declared-writer.Writer) × Writes f.writers p y w × HaveOneHome f.writers y f.scalar)
+IsDisturbedAt s f p =
+    (assigned s.flow p ≡ true)
+    ⊎ ((y : ℕ) × (w : declared-writer.Writer) × Writes f.writers p y w × HaveOneHome f.writers y f.scalar)
 
 -- given: the changes of a unit, a search on one variable, and a function with one scalar in question
 module _ (l : declared-changes.Changes) (s : declared-search.Search) (f : declared-function.Function) where
   -- An assignment of the variable went from a place, or the home of the scalar is written there for another name.
   abbrev pub IsBarred : (p : ℕ) → Type 0
   IsBarred p =
-      WasTaken (log_of l) s.flow.table.now (home_in f.writers.homes.now) f.writers.function (graph_view f.writers.graph.now) f.scalar s.flow.var.0 p
+      WasTaken (log_of l) s.flow.table.now (home_in f.writers.homes.now) f.writers.function
+      (graph_view f.writers.graph.now) f.scalar s.flow.var.0 p
       ⊎ IsWrittenForOther f.writers f.scalar p
 
   -- THE LEAST at which a quiet path of the scalar to a place begins, if there is one
   abbrev pub IsLeastQuietAt : (stop : ℕ) → Option ℕ → Type 0
   IsLeastQuietAt stop start =
-      IsLeastQuiet (log_of l) s.flow.table.now (home_in f.writers.homes.now) f.writers.function (graph_view f.writers.graph.now) f.scalar s.flow.var.0 stop start
+      IsLeastQuiet (log_of l) s.flow.table.now (home_in f.writers.homes.now) f.writers.function
+      (graph_view f.writers.graph.now) f.scalar s.flow.var.0 stop start
 
   -- Each place is marked with the least at which a quiet path there begins, if there is one.
   abbrev pub AreQuietStarts : declared-marks.Marks ℕ → Type 0

@@ -18,12 +18,16 @@ pub record IsLeft (home : ℕ → Home) (x : ℕ) (r : Recipe) (h : History) : T
   pub before : (y : ℕ) → Among y (names_in r) → written_since home x (home y) h ≡ false
 
 module _ (m : declared-homes.Homes) (g : Graph) where
-  -- A path comes to a point, and what is so on all paths to it is so in a state: what is left of notes, and for which name each home with a new number was last written.
+  -- A path comes to a point, and what is so on all paths to it is so in a state: what is left of notes, and for which
+  -- name each home with a new number was last written.
   pub record IsFull (s : declared-state.State) (n : ℕ) (rest : List Instruction) (e : End) : Type 0 where
     pub history : History
     pub way : Path g history n rest e
-    pub noted : (x : ℕ) (r : Recipe) → x < length g.scalars → ((h : History) → Path g h n rest e → IsLeft (home_by m) x r h) → recipe_in s.noted.items x ≡ Some r
-    pub written : (y k : ℕ) → number_in m y ≡ Some k → ((h : History) → Path g h n rest e → last_writer (home_by m) g.parameters (home_by m y) h ≡ Some y) → slice_get s.written.items k ≡ Some (Some y)
+    pub noted : (x : ℕ) (r : Recipe) → x < length g.scalars
+        → ((h : History) → Path g h n rest e → IsLeft (home_by m) x r h) → recipe_in s.noted.items x ≡ Some r
+    pub written : (y k : ℕ) → number_in m y ≡ Some k
+        → ((h : History) → Path g h n rest e → last_writer (home_by m) g.parameters (home_by m y) h ≡ Some y)
+        → slice_get s.written.items k ≡ Some (Some y)
     pub scalars : length s.noted.items ≡ length g.scalars
     pub homes : length s.written.items ≡ length m.readers.items
 

@@ -19,9 +19,11 @@ abbrev pub AreToldApart : declared-homes.Homes → Type 0
 AreToldApart m = (y z : ℕ) → IsRead m y z → home_by m y ≡ home_by m z
 
 module _ (m : declared-homes.Homes) (g : Graph) where
-  -- The new numbers are those of homes, no two of one; each name that a note of the graph reads has one, if its home is one of so many, and the note's scalar is among its readers.
+  -- The new numbers are those of homes, no two of one; each name that a note of the graph reads has one, if its home is
+  -- one of so many, and the note's scalar is among its readers.
   pub record AreNumbered : Type 0 where
     pub within : (y k : ℕ) → number_in m y ≡ Some k → k < length m.readers.items
     pub apart : (y z k : ℕ) → number_in m y ≡ Some k → number_in m z ≡ Some k → IsRead m y z
-    pub given : (x : ℕ) (r : Recipe) → IsNoteIn g x r → (y : ℕ) → Among y (names_in r) → number_at (home_by m y) < length m.numbers.items → (k : ℕ) × (number_in m y ≡ Some k)
+    pub given : (x : ℕ) (r : Recipe) → IsNoteIn g x r → (y : ℕ) → Among y (names_in r)
+        → number_at (home_by m y) < length m.numbers.items → (k : ℕ) × (number_in m y ≡ Some k)
     pub readers : (x : ℕ) (r : Recipe) → IsNoteIn g x r → AreReadBy m r x

@@ -1,4 +1,5 @@
--- How much of a state can still be lost: the more is so in it, and the greater the changes are that are told, the higher it ranks.
+-- How much of a state can still be lost: the more is so in it, and the greater the changes are that are told, the
+-- higher it ranks.
 use Rattle.std.specs.Prelude.{◌≡◌, ℕ, ◌+◌, ◌*◌, min, Option, Some, None, List, [], ◌∷◌, length, slice_get}
 use Rattle.std.specs.Option.{option_map_or}
 use Rattle.graph_core.specs.Graphs.{Recipe, graph_view}
@@ -49,7 +50,9 @@ AreWrittenWithin less more = (k y : ℕ) → slice_get less k ≡ Some (Some y) 
 
 -- A state is one of a function: it says something of each scalar, and of each home with a new number.
 abbrev pub IsSized : declared-function.Function → declared-state.State → Type 0
-IsSized f s = (length s.noted.items ≡ length (graph_view f.graph.now).scalars) × (length s.written.items ≡ length f.homes.readers.items)
+IsSized f s =
+    (length s.noted.items ≡ length (graph_view f.graph.now).scalars)
+    × (length s.written.items ≡ length f.homes.readers.items)
 
 -- so high a state of a function ranks at most
 abbrev pub most_rank : declared-function.Function → ℕ

@@ -43,7 +43,8 @@ pub record IsStruck (old new : List (Option ℕ)) : Type 0 where
 
 -- Where a block to which this end leads has one directly before it, that is the block with this end.
 abbrev pub AreEdgesNext : (before : List (Option ℕ)) (positions : List ℕ) (n : ℕ) → End → Type 0
-AreEdgesNext before positions n e = (l : ℕ) → Among l (targets_of e) → (m : ℕ) → name_at before l ≡ Some m → (m ≡ n) × IsNext positions n e l
+AreEdgesNext before positions n e =
+    (l : ℕ) → Among l (targets_of e) → (m : ℕ) → name_at before l ≡ Some m → (m ≡ n) × IsNext positions n e l
 
 module _ (blocks : List declared-block.Block) where
   -- a block leads to another one alone
@@ -86,11 +87,13 @@ module _ (links : declared-links.Links) where
   IsFollowing (l ∷ next ∷ more) = (block_before links next ≡ Some l) × IsFollowing (next ∷ more)
 
 module _ (blocks : List declared-block.Block) (links : declared-links.Links) where
-  -- No block stands before the first one, and each that stands directly before another one leads to that alone; nothing else does.
+  -- No block stands before the first one, and each that stands directly before another one leads to that alone; nothing
+  -- else does.
   pub record AreLinks : Type 0 where
     pub size : length links.before.items ≡ length blocks
     pub first : block_before links 0 ≡ None
-    pub edges : (n : ℕ) (b : declared-block.Block) → slice_get blocks n ≡ Some b → AreEdgesNext links.before.items links.positions.items n (end_view b.end)
+    pub edges : (n : ℕ) (b : declared-block.Block) → slice_get blocks n ≡ Some b
+        → AreEdgesNext links.before.items links.positions.items n (end_view b.end)
 
   -- A block stands directly behind another one.
   pub record IsFollowed (n next : ℕ) : Type 0 where
@@ -99,7 +102,8 @@ module _ (blocks : List declared-block.Block) (links : declared-links.Links) whe
     pub later : position_at links.positions.items n < position_at links.positions.items next
     pub within : position_at links.positions.items next ≤ length links.positions.items
 
-  -- A chain begins with a block that has none before it, goes from block to block, and where it ends leads to blocks that have none before them.
+  -- A chain begins with a block that has none before it, goes from block to block, and where it ends leads to blocks
+  -- that have none before them.
   pub record IsChain (first : ℕ) (chain : List ℕ) : Type 0 where
     pub more : List ℕ
     pub begins : chain ≡ first ∷ more
@@ -107,7 +111,8 @@ module _ (blocks : List declared-block.Block) (links : declared-links.Links) whe
     pub linked : IsLinked blocks chain
     pub following : IsFollowing links chain
     pub within : (n : ℕ) → Among n chain → n < length blocks
-    pub ends : (n : ℕ) → last_in chain ≡ Some n → (b : declared-block.Block) → slice_get blocks n ≡ Some b → (l : ℕ) → Among l (targets_of (end_view b.end)) → block_before links l ≡ None
+    pub ends : (n : ℕ) → last_in chain ≡ Some n → (b : declared-block.Block) → slice_get blocks n ≡ Some b → (l : ℕ)
+        → Among l (targets_of (end_view b.end)) → block_before links l ≡ None
 
   -- Chains were begun with the blocks that are told, with each once.
   pub record AreBegun (all : declared-chains.Chains) : Type 0 where
@@ -125,15 +130,18 @@ module _ (blocks : List declared-block.Block) (links : declared-links.Links) whe
 abbrev pub AreKept : (old new : declared-chains.Chains) → Type 0
 AreKept old new = (l : ℕ) → Starts old.chains.items l → Starts new.chains.items l
 
--- Blocks stand in chains, each once: one begins with the first block, and one with each block to which the last of a chain leads.
+-- Blocks stand in chains, each once: one begins with the first block, and one with each block to which the last of a
+-- chain leads.
 pub record AreChains (blocks : List declared-block.Block) (chains : List (Vec ℕ)) : Type 0 where
   pub linked : AreLinked blocks chains
   pub some : (c : Vec ℕ) → Among c chains → 0 < length c.items
   pub within : (c : Vec ℕ) (n : ℕ) → Among c chains → Among n c.items → n < length blocks
   pub first : 0 < length blocks → Starts chains 0
-  pub next : (c : Vec ℕ) (n : ℕ) (b : declared-block.Block) (l : ℕ) → Among c chains → last_in c.items ≡ Some n → slice_get blocks n ≡ Some b → Among l (targets_of (end_view b.end)) → l < length blocks
+  pub next : (c : Vec ℕ) (n : ℕ) (b : declared-block.Block) (l : ℕ) → Among c chains → last_in c.items ≡ Some n
+      → slice_get blocks n ≡ Some b → Among l (targets_of (end_view b.end)) → l < length blocks
       → Starts chains l
-  pub apart : (x y i j n : ℕ) (c d : Vec ℕ) → slice_get chains x ≡ Some c → slice_get chains y ≡ Some d → slice_get c.items i ≡ Some n → slice_get d.items j ≡ Some n → (x ≡ y) × (i ≡ j)
+  pub apart : (x y i j n : ℕ) (c d : Vec ℕ) → slice_get chains x ≡ Some c → slice_get chains y ≡ Some d
+      → slice_get c.items i ≡ Some n → slice_get d.items j ≡ Some n → (x ≡ y) × (i ≡ j)
 
 -- what is so where a chain begins with a block that a path comes to
 abbrev pub comes_to : declared-states.States → (block : ℕ) → Option declared-state.State
@@ -173,25 +181,30 @@ module _ (blocks : List declared-block.Block) (chains : List (Vec ℕ)) where
   -- Where this end leads these blocks come, one after the other, and where the last of them leads chains begin.
   abbrev pub IsCourse : End → List ℕ → Type 0
   IsCourse e [] = AreStarts e
-  IsCourse e (n ∷ more) = (e ≡ Jump n) × ((b : declared-block.Block) × (slice_get blocks n ≡ Some b) × IsCourse (end_view b.end) more)
+  IsCourse e (n ∷ more) =
+      (e ≡ Jump n) × ((b : declared-block.Block) × (slice_get blocks n ≡ Some b) × IsCourse (end_view b.end) more)
 
 -- a state came to a block, to which another one came before, or none
-abbrev pub IsComeTo : (old : Option declared-state.State) (s : declared-state.State) (new : Option declared-state.State) → Type 0
+abbrev pub IsComeTo : (old : Option declared-state.State) (s : declared-state.State) (new : Option declared-state.State)
+    → Type 0
 IsComeTo old s None = ⊥
 IsComeTo None s (Some t) = IsEqual t s
 IsComeTo (Some q) s (Some t) = IsJoined q s t
 
 module _ (f : declared-function.Function) where
-  -- Some path comes to a point, and in a state of the function all is so that is so on all paths to it, if homes are numbered and told apart; and each change that is told is that of a note on some path to it.
+  -- Some path comes to a point, and in a state of the function all is so that is so on all paths to it, if homes are
+  -- numbered and told apart; and each change that is told is that of a note on some path to it.
   pub record IsWholeAt (s : declared-state.State) (n : ℕ) (rest : List Instruction) (e : End) : Type 0 where
     pub reached : IsReached (graph_view f.graph.now) n rest e
     pub sized : IsSized f s
     pub full : AreExact f → IsFullAt f s n rest e
-    pub attained : (log : List Logged) → AreToldOf log f.removed.now → IsAttained log (graph_view f.graph.now) s n rest e
+    pub attained : (log : List Logged) → AreToldOf log f.removed.now
+        → IsAttained log (graph_view f.graph.now) s n rest e
 
   -- the same where a block begins
   abbrev pub IsFullAtStart : declared-state.State → (l : ℕ) → Type 0
-  IsFullAtStart s l = (b : Block) → slice_get (graph_view f.graph.now).blocks l ≡ Some b → IsWholeAt s l b.instructions b.end
+  IsFullAtStart s l =
+      (b : Block) → slice_get (graph_view f.graph.now).blocks l ≡ Some b → IsWholeAt s l b.instructions b.end
 
   -- the same where it ends
   abbrev pub IsFullAtEnd : declared-state.State → (l : ℕ) → Type 0

@@ -36,7 +36,8 @@ IsSeen numbering visible x = (v : declared-var.Var) × Among v visible × (scala
 
 -- More is told of these scalars alone.
 abbrev pub AreOnlyOf : (ℕ → Type 0) → (old new : List (Vec declared-unshown.Unshown)) → Type 0
-AreOnlyOf Is old new = (x : ℕ) (u : declared-unshown.Unshown) → Among u (entries_of new x) → Among u (entries_of old x) ⊎ Is x
+AreOnlyOf Is old new =
+    (x : ℕ) (u : declared-unshown.Unshown) → Among u (entries_of new x) → Among u (entries_of old x) ⊎ Is x
 
 -- A place of a table, of the function of this number.
 pub record IsPlaceOf (table : declared-table.PlaceTable) (number p : ℕ) : Type 0 where
@@ -61,10 +62,13 @@ module _ (m : declared-homes.Homes) (s : declared-state.State) where
   abbrev pub IsShownBy : (x : ℕ) → Type 0
   IsShownBy x = (recipe_in s.noted.items x ≡ Some (Of (Name x))) × AreHeld m s (Of (Name x))
 
-  -- what is last noted shows a scalar, and is not its own value, if it is told, with the change that is told beside it; else nothing but its own value does
+  -- what is last noted shows a scalar, and is not its own value, if it is told, with the change that is told beside it;
+  -- else nothing but its own value does
   abbrev pub Shows : (x : ℕ) → Option declared-last.LastNote → Type 0
   Shows x None = (r : Recipe) → recipe_in s.noted.items x ≡ Some r → AreHeld m s r → r ≡ Of (Name x)
-  Shows x (Some l) = (recipe_in s.noted.items x ≡ Some (recipe_view l.recipe.now)) × AreHeld m s (recipe_view l.recipe.now) × (recipe_view l.recipe.now ≢ Of (Name x)) × (told_in s.noted.items x ≡ Some l.change)
+  Shows x (Some l) =
+      (recipe_in s.noted.items x ≡ Some (recipe_view l.recipe.now)) × AreHeld m s (recipe_view l.recipe.now)
+      × (recipe_view l.recipe.now ≢ Of (Name x)) × (told_in s.noted.items x ≡ Some l.change)
 
   -- A scalar is shown at a place by its home, or the place is told of it.
   abbrev pub IsTold : (p : ℕ) → List (Vec declared-unshown.Unshown) → (x : ℕ) → Type 0
@@ -74,12 +78,14 @@ module _ (m : declared-homes.Homes) (s : declared-state.State) where
   pub record IsAdded (p : ℕ) (old new : List (Vec declared-unshown.Unshown)) : Type 0 where
     pub size : length new ≡ length old
     pub kept : (x : ℕ) (u : declared-unshown.Unshown) → Among u (entries_of old x) → Among u (entries_of new x)
-    pub only : (x : ℕ) (u : declared-unshown.Unshown) → Among u (entries_of new x) → Among u (entries_of old x) ⊎ ((u.place.0 ≡ p) × Shows x u.last × (IsShownBy x → ⊥))
+    pub only : (x : ℕ) (u : declared-unshown.Unshown) → Among u (entries_of new x)
+        → Among u (entries_of old x) ⊎ ((u.place.0 ≡ p) × Shows x u.last × (IsShownBy x → ⊥))
 
   module _ (numbering : declared-numbering.Numbering) where
     -- The scalars among these variables are shown at a place by their homes, or the place is told of them.
     abbrev pub AreVisibleTold : (p : ℕ) → List (Vec declared-unshown.Unshown) → List declared-var.Var → Type 0
-    AreVisibleTold p all visible = (v : declared-var.Var) (x : ℕ) → Among v visible → scalar_in numbering v.0 ≡ Some x → IsTold p all x
+    AreVisibleTold p all visible =
+        (v : declared-var.Var) (x : ℕ) → Among v visible → scalar_in numbering v.0 ≡ Some x → IsTold p all x
 
     -- A place is met, which was not met before, and told of what is visible there.
     pub record IsNewPlace (table : declared-table.PlaceTable) (p : ℕ) (old new : declared-found.Found) : Type 0 where

@@ -12,37 +12,37 @@ use Rattle.graph_core.specs.declared.graph.Graph as declared-graph
 use Rattle.graph_core.specs.Graphs.{Name, Constant, StaticAddress, Instruction, Marker, Note, Move, Operate, Truncate, Same, Address, Load, Store, Zero, CopyWords, Call, Block, block_view, graph_view, instruction_view, scalar_view}
 use Rattle.graph_core.specs.Validity.{place_behind}
 use Rattle.graph_core.specs.Points.{is_place}
-use Rattle.graph_homes.specs.Reused.{first_among, first_copy, or_else}
+use Rattle.graph_homes.specs.Reused.{first_among, first_copy, one_or_other}
 use Rattle.currency_notes.proofs.Lists.{get_put_other, get_put_same, take_whole}
 use Rattle.currency_writers.specs.declared.copies.Copied as declared-copied
 use Rattle.currency_writers.specs.declared.copies.Copies as declared-copies
 use Rattle.currency_writers.specs.Copies.{AreCopied, AreCopies, copies_to, first_of}
 use Rattle.currency_writers.specs.Writers.{placed}
 
-pub or_none : {A : Type 0} (a : Option A) → or_else a None ≡ a
+pub or_none : {A : Type 0} (a : Option A) → one_or_other a None ≡ a
 or_none None = refl
 or_none (Some a) = refl
 
-or_or : {A : Type 0} (a b c : Option A) → or_else (or_else a b) c ≡ or_else a (or_else b c)
+or_or : {A : Type 0} (a b c : Option A) → one_or_other (one_or_other a b) c ≡ one_or_other a (one_or_other b c)
 or_or None b c = refl
 or_or (Some a) b c = refl
 
-or_if : {A : Type 0} (t : Bool) (a : A) (b c : Option A) → or_else (if t then Some a else b) c ≡ (if t then Some a else or_else b c)
+or_if : {A : Type 0} (t : Bool) (a : A) (b c : Option A) → one_or_other (if t then Some a else b) c ≡ (if t then Some a else one_or_other b c)
 or_if true a b c = refl
 or_if false a b c = refl
 
 -- the first of copies, one by one
-first_next : (t : Bool) (from : ℕ) (rest more : Option ℕ) (last : Option ℕ) → more ≡ or_else rest last → (if t then Some from else more) ≡ or_else (if t then Some from else rest) last
+first_next : (t : Bool) (from : ℕ) (rest more : Option ℕ) (last : Option ℕ) → more ≡ one_or_other rest last → (if t then Some from else more) ≡ one_or_other (if t then Some from else rest) last
 first_next true from rest more last e = refl
 first_next false from rest more last e = e
 
 -- one more copy
-first_more : (copies : List declared-copied.Copied) (c : declared-copied.Copied) (p : ℕ) → first_of (copies ++ (c ∷ [])) p ≡ or_else (first_of copies p) (if c.place == p then Some c.from else None)
+first_more : (copies : List declared-copied.Copied) (c : declared-copied.Copied) (p : ℕ) → first_of (copies ++ (c ∷ [])) p ≡ one_or_other (first_of copies p) (if c.place == p then Some c.from else None)
 first_more [] c p = refl
 first_more (d ∷ copies) c p = first_next (d.place == p) d.from (first_of copies p) (first_of (copies ++ (c ∷ [])) p) (if c.place == p then Some c.from else None) (first_more copies c p)
 
 -- one more instruction
-among_last : (p x : ℕ) (place : Option ℕ) (all : List Instruction) (i : Instruction) → first_among p x place (all ++ (i ∷ [])) ≡ or_else (first_among p x place all) (first_among p x (place_behind all place) (i ∷ []))
+among_last : (p x : ℕ) (place : Option ℕ) (all : List Instruction) (i : Instruction) → first_among p x place (all ++ (i ∷ [])) ≡ one_or_other (first_among p x place all) (first_among p x (place_behind all place) (i ∷ []))
 among_last p x place [] i = refl
 among_last p x place (Marker q ∷ more) i = among_last p x (Some q) more i
 among_last p x place (Note y v ∷ more) i = among_last p x place more i
@@ -61,19 +61,19 @@ among_last p x place (CopyWords o b w ∷ more) i = among_last p x place more i
 among_last p x place (Call y f a ∷ more) i = among_last p x place more i
 
 -- one more block
-pub copy_last : (p x : ℕ) (blocks : List Block) (b : Block) → first_copy p x (blocks ++ (b ∷ [])) ≡ or_else (first_copy p x blocks) (first_among p x b.place b.instructions)
+pub copy_last : (p x : ℕ) (blocks : List Block) (b : Block) → first_copy p x (blocks ++ (b ∷ [])) ≡ one_or_other (first_copy p x blocks) (first_among p x b.place b.instructions)
 copy_last p x [] b = or_none (first_among p x b.place b.instructions)
 copy_last p x (c ∷ blocks) b =
-    ap (λ o. or_else (first_among p x c.place c.instructions) o) (copy_last p x blocks b) ∙ sym (or_or (first_among p x c.place c.instructions) (first_copy p x blocks) (first_among p x b.place b.instructions))
+    ap (λ o. one_or_other (first_among p x c.place c.instructions) o) (copy_last p x blocks b) ∙ sym (or_or (first_among p x c.place c.instructions) (first_copy p x blocks) (first_among p x b.place b.instructions))
 
 -- one instruction behind others
 pub copied_more : (old mid new : declared-copies.Copies) (place : Option ℕ) (all : List Instruction) (i : Instruction) → AreCopied old mid place all → AreCopied mid new (place_behind all place) (i ∷ []) → AreCopied old new place (all ++ (i ∷ []))
 copied_more old mid new place all i before one = record {
   graph = one.graph ∙ before.graph;
   count = one.count ∙ before.count;
-  first = λ p x lt. one.first p x (subst (λ n. x < n) (sym before.count) lt) ∙ ap (λ o. or_else o (first_among p x (place_behind all place) (i ∷ []))) (before.first p x lt)
+  first = λ p x lt. one.first p x (subst (λ n. x < n) (sym before.count) lt) ∙ ap (λ o. one_or_other o (first_among p x (place_behind all place) (i ∷ []))) (before.first p x lt)
       ∙ or_or (first_of (copies_to old.by_target.items x) p) (first_among p x place all) (first_among p x (place_behind all place) (i ∷ []))
-      ∙ ap (λ o. or_else (first_of (copies_to old.by_target.items x) p) o) (sym (among_last p x place all i));
+      ∙ ap (λ o. one_or_other (first_of (copies_to old.by_target.items x) p) o) (sym (among_last p x place all i));
 }
 
 no_test : (b : Bool) (t : Bool) → t ≡ false → (b && t) ≡ false
@@ -96,20 +96,20 @@ module _ (old new : declared-copies.Copies) (q y m : ℕ) (v w : Vec declared-co
   and_true true t e = e
   and_true false t e = refl
 
-  here : (p : ℕ) → first_of (copies_to new.by_target.items y) p ≡ or_else (first_of (copies_to old.by_target.items y) p) (if (q == p) && (y == y) then Some m else None)
+  here : (p : ℕ) → first_of (copies_to new.by_target.items y) p ≡ one_or_other (first_of (copies_to old.by_target.items y) p) (if (q == p) && (y == y) then Some m else None)
   here p =
-      ap (λ l. first_of l p) list_at ∙ first_more v.items (record { place = q; from = m }) p ∙ ap (λ l. or_else (first_of l p) (if q == p then Some m else None)) (sym list_before)
-      ∙ ap (λ t. or_else (first_of (copies_to old.by_target.items y) p) (if t then Some m else None)) (sym (and_true (q == p) (y == y) (eq-eqb y y refl)))
+      ap (λ l. first_of l p) list_at ∙ first_more v.items (record { place = q; from = m }) p ∙ ap (λ l. one_or_other (first_of l p) (if q == p then Some m else None)) (sym list_before)
+      ∙ ap (λ t. one_or_other (first_of (copies_to old.by_target.items y) p) (if t then Some m else None)) (sym (and_true (q == p) (y == y) (eq-eqb y y refl)))
 
   pub copied_one : AreCopied old new (Some q) (Move y (Name m) ∷ [])
   copied_one = record {
     graph = graph;
     count = long;
     first = λ p x inside. elim (eqb_tells y x) [
-      | inl e ↦ subst (λ z. first_of (copies_to new.by_target.items z) p ≡ or_else (first_of (copies_to old.by_target.items z) p) (if (q == p) && (y == z) then Some m else None)) e.1 (here p)
+      | inl e ↦ subst (λ z. first_of (copies_to new.by_target.items z) p ≡ one_or_other (first_of (copies_to old.by_target.items z) p) (if (q == p) && (y == z) then Some m else None)) e.1 (here p)
       | inr e ↦ (let other : x ≢ y = λ s. e.1 (sym s) in
           ap (λ l. first_of l p) (list_other x other)
-          ∙ sym (ap (λ t. or_else (first_of (copies_to old.by_target.items x) p) (if t then Some m else None)) (no_test (q == p) (y == x) e.0) ∙ or_none (first_of (copies_to old.by_target.items x) p)))
+          ∙ sym (ap (λ t. one_or_other (first_of (copies_to old.by_target.items x) p) (if t then Some m else None)) (no_test (q == p) (y == x) e.0) ∙ or_none (first_of (copies_to old.by_target.items x) p)))
     ];
   }
 
@@ -136,5 +136,5 @@ pub copies_next : (c new : declared-copies.Copies) (g : declared-graph.Graph) (k
     → AreCopied c new (placed b.place) (map instruction_view b.instructions.items) → (p x : ℕ) → x < length new.by_target.items → first_of (copies_to new.by_target.items x) p ≡ first_copy p x (take (k + 1) (map block_view g.blocks.items))
 copies_next c new g k b lt is before more p x inside =
     let here : x < length c.by_target.items = subst (λ n. x < n) more.count inside in
-    more.first p x here ∙ ap (λ o. or_else o (first_among p x (placed b.place) (map instruction_view b.instructions.items))) (before p x here)
+    more.first p x here ∙ ap (λ o. one_or_other o (first_among p x (placed b.place) (map instruction_view b.instructions.items))) (before p x here)
     ∙ sym (copy_last p x (take k (map block_view g.blocks.items)) (block_view b)) ∙ sym (ap (λ l. first_copy p x l) (taken_block g.blocks.items k b lt is))

@@ -26,13 +26,16 @@ module _ (w : declared-ways.Ways) where
   abbrev pub HasRoomFor : {T : Type 0} → declared-marks.Marks T → Type 0
   HasRoomFor told = room_of w.blocked.now ≤ room_of told
 
-  -- A way may be gone on from a place: it is the one from which the ways begin, or they lead to it and it is not blocked.
+  -- A way may be gone on from a place: it is the one from which the ways begin, or they lead to it and it is not
+  -- blocked.
   abbrev pub IsBefore : (from q : ℕ) → Type 0
   IsBefore from q = (q ≡ from) ⊎ (LeadsTo from q × (is_blocked q ≡ false))
 
   -- Places keep what they were marked with; or they were not marked, are so with this, and a way leads to them.
   abbrev pub IsReachedFrom : {T : Type 0} → (from : ℕ) (value : T) (old new : declared-marks.Marks T) → Type 0
-  IsReachedFrom from value old new = (p : ℕ) → (mark_at new p ≡ mark_at old p) ⊎ ((mark_at old p ≡ None) × (mark_at new p ≡ Some value) × LeadsTo from p)
+  IsReachedFrom from value old new =
+      (p : ℕ)
+      → (mark_at new p ≡ mark_at old p) ⊎ ((mark_at old p ≡ None) × (mark_at new p ≡ Some value) × LeadsTo from p)
 
   -- Each place to which a way leads from a place is marked.
   abbrev pub AreReached : {T : Type 0} → (from : ℕ) → declared-marks.Marks T → Type 0
@@ -58,4 +61,5 @@ module _ (w : declared-ways.Ways) where
 
   -- Each place to which a way leads from one of these is marked, and not with one above that.
   abbrev pub AreLeastOf : (from : List ℕ) → declared-marks.Marks ℕ → Type 0
-  AreLeastOf from starts = (start p : ℕ) → Contains from start → LeadsTo start p → IsSomeAnd (mark_at starts p) (λ least. least ≤ start)
+  AreLeastOf from starts =
+      (start p : ℕ) → Contains from start → LeadsTo start p → IsSomeAnd (mark_at starts p) (λ least. least ≤ start)

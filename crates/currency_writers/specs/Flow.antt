@@ -12,7 +12,8 @@ use Rattle.currency_writers.specs.Lists.{entries_of}
 use Rattle.currency_writers.specs.Marks.{mark_at, room_of}
 use Rattle.currency_writers.specs.Ways.{Comes}
 
--- A flow is of places below a number: its steps lead from such places to such, they alone assign variables, and what is assigned is in order.
+-- A flow is of places below a number: its steps lead from such places to such, they alone assign variables, and what is
+-- assigned is in order.
 pub record IsFlowOfPlaces (table : FlowTable) (places : ℕ) : Type 0 where
   pub from : (p q : ℕ) → can_go table.steps.items p q ≡ true → p < places
   pub to : (p q : ℕ) → can_go table.steps.items p q ≡ true → q < places
@@ -38,7 +39,8 @@ module _ (f : declared-flow.Flow) where
   abbrev pub ComesOn : (from p : ℕ) → Type 0
   ComesOn from p = Comes f.table.now.steps.items (λ q. assigns f.table.now.assignments.items q f.var.0) from p
 
-  -- The lists are those of the flow, the places that assign a variable are in order, and the places of the flow are those that may be marked.
+  -- The lists are those of the flow, the places that assign a variable are in order, and the places of the flow are
+  -- those that may be marked.
   pub record IsFlow : Type 0 where
     pub after : AreFollowing f.table.now.steps.items f.after
     pub assigning : AreAssigning f.table.now.assignments.items f.assigning
@@ -58,13 +60,17 @@ module _ (f : declared-flow.Flow) where
   abbrev pub AreStarts : declared-marks.Marks ℕ → Type 0
   AreStarts starts = (p start : ℕ) → mark_at starts p ≡ Some start → (assigned start ≡ true) × ComesOn start p
 
-  -- Each place to which execution may come from one that assigns the variable is marked, and not with one above that place.
+  -- Each place to which execution may come from one that assigns the variable is marked, and not with one above that
+  -- place.
   abbrev pub AreLeast : declared-marks.Marks ℕ → Type 0
-  AreLeast starts = (start p : ℕ) → assigned start ≡ true → ComesOn start p → IsSomeAnd (mark_at starts p) (λ least. least ≤ start)
+  AreLeast starts =
+      (start p : ℕ) → assigned start ≡ true → ComesOn start p → IsSomeAnd (mark_at starts p) (λ least. least ≤ start)
 
   -- Places keep what they were marked with; or they were not marked, are so with this, and execution may come to them.
   abbrev pub IsToldFrom : {T : Type 0} → (from : ℕ) (value : T) (old new : declared-marks.Marks T) → Type 0
-  IsToldFrom from value old new = (p : ℕ) → (mark_at new p ≡ mark_at old p) ⊎ ((mark_at old p ≡ None) × (mark_at new p ≡ Some value) × ComesOn from p)
+  IsToldFrom from value old new =
+      (p : ℕ)
+      → (mark_at new p ≡ mark_at old p) ⊎ ((mark_at old p ≡ None) × (mark_at new p ≡ Some value) × ComesOn from p)
 
   -- Each place to which execution may come from a place is marked.
   abbrev pub AreTold : {T : Type 0} → (from : ℕ) → declared-marks.Marks T → Type 0

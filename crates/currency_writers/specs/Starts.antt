@@ -9,14 +9,16 @@ module _ (s : declared-search.Search) where
     pub flow : IsFlow s.flow
     pub room : HasRoom s.flow s.starts
 
-  -- The questions are on one variable: the places that assign it are marked, and the start of a place is the least of them from which execution may come there.
+  -- The questions are on one variable: the places that assign it are marked, and the start of a place is the least of
+  -- them from which execution may come there.
   pub record IsTurned : Type 0 where
     pub search : IsSearch
     pub blocked : IsBlocked s.flow
     pub starts : AreStarts s.flow s.starts
     pub least : AreLeast s.flow s.starts
 
-  -- A place assigns the variable, and a way leads from it by another one: it is that itself, or execution may come there, and that does not assign the variable.
+  -- A place assigns the variable, and a way leads from it by another one: it is that itself, or execution may come
+  -- there, and that does not assign the variable.
   pub record IsStartBy (start via : ℕ) : Type 0 where
     pub assigns : assigned s.flow start ≡ true
     pub by : (start ≡ via) ⊎ (ComesOn s.flow start via × (assigned s.flow via ≡ false))

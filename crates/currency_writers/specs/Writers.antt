@@ -17,10 +17,13 @@ use Rattle.currency_writers.specs.declared.writers.Write as declared-write
 use Rattle.currency_writers.specs.declared.writers.Writers as declared-writers
 use Rattle.currency_writers.specs.Order.{IsNoLater, rank_of}
 
--- A name is written in a place of a function: by an instruction that stands there, whether a path reaches it or not; or, at the entry, by the binding of a parameter.
+-- A name is written in a place of a function: by an instruction that stands there, whether a path reaches it or not;
+-- or, at the entry, by the binding of a parameter.
 pub data IsWriter (f : ℕ) (g : Graph) (p x : ℕ) : declared-writer.Writer → Type 0 where
-  instruction : {n : ℕ} {i : Instruction} {rest : List Instruction} {e : End} → (at : StandsWith g p n (i ∷ rest) e) → target_of i ≡ Some x → IsWriter f g p x (writer.Instruction f n (length at.before))
-  parameter : {k : ℕ} → p ≡ g.entry → slice_get g.parameters k ≡ Some (ToScalar x) → IsWriter f g p x (writer.Binding f k)
+  instruction : {n : ℕ} {i : Instruction} {rest : List Instruction} {e : End} → (at : StandsWith g p n (i ∷ rest) e)
+      → target_of i ≡ Some x → IsWriter f g p x (writer.Instruction f n (length at.before))
+  parameter : {k : ℕ} → p ≡ g.entry → slice_get g.parameters k ≡ Some (ToScalar x)
+      → IsWriter f g p x (writer.Binding f k)
 
 -- the number of a place, if there is one
 abbrev pub placed : Option Place → Option ℕ
@@ -51,7 +54,11 @@ module _ (all : List declared-written.Written) (key : ℕ → ℕ) (n : ℕ) whe
   -- These are all the writes of names of this number, and no others.
   pub record AreWritesBy (found : List declared-write.Write) : Type 0 where
     pub each : All IsWriteBy found
-    pub complete : (k : ℕ) (z : declared-written.Written) → slice_get all k ≡ Some z → key z.name ≡ n → Contains found (record { place = z.place; number = k })
+    pub complete : (k : ℕ) (z : declared-written.Written) → slice_get all k ≡ Some z → key z.name ≡ n
+        → Contains found (record {
+          place = z.place;
+          number = k;
+        })
 
 module _ (v : declared-writers.Writers) where
   -- this writes a name in a place of the function
@@ -77,7 +84,8 @@ module _ (v : declared-writers.Writers) where
 
   -- What is known to write names comes no later than what has these numbers in order.
   abbrev pub AreNoLater : (rank : List ℕ) → Type 0
-  AreNoLater rank = (k : ℕ) (z : declared-written.Written) → slice_get v.all.items k ≡ Some z → IsNoLater (rank_of z.writer) rank
+  AreNoLater rank =
+      (k : ℕ) (z : declared-written.Written) → slice_get v.all.items k ≡ Some z → IsNoLater (rank_of z.writer) rank
 
   -- What is told to write names does.
   abbrev pub AreSound : Type 0
@@ -90,20 +98,26 @@ module _ (v : declared-writers.Writers) where
   -- So many bindings of parameters are known to write their names.
   abbrev pub AreBindings : (count : ℕ) → Type 0
   AreBindings count =
-      (k x : ℕ) → k < count → slice_get (graph_view v.graph.now).parameters k ≡ Some (ToScalar x) → IsKnown (graph_view v.graph.now).entry x (writer.Binding v.function k)
+      (k x : ℕ) → k < count → slice_get (graph_view v.graph.now).parameters k ≡ Some (ToScalar x)
+      → IsKnown (graph_view v.graph.now).entry x (writer.Binding v.function k)
 
   -- So many instructions of the block of a number are known to write their names.
   abbrev pub AreInstructions : (n : ℕ) → List Instruction → (place : Option ℕ) → (count : ℕ) → Type 0
   AreInstructions n all place count =
-      (p x : ℕ) (before : List Instruction) (i : Instruction) (rest : List Instruction) → all ≡ before ++ i ∷ rest → length before < count → place_behind before place ≡ Some p → target_of i ≡ Some x → IsKnown p x (writer.Instruction v.function n (length before))
+      (p x : ℕ) (before : List Instruction) (i : Instruction) (rest : List Instruction) → all ≡ before ++ i ∷ rest
+      → length before < count → place_behind before place ≡ Some p → target_of i ≡ Some x
+      → IsKnown p x (writer.Instruction v.function n (length before))
 
   -- The instructions of so many blocks are known so.
   abbrev pub AreBlocks : (count : ℕ) → Type 0
-  AreBlocks count = (n : ℕ) (b : Block) → n < count → slice_get (graph_view v.graph.now).blocks n ≡ Some b → AreInstructions n b.instructions b.place (length b.instructions)
+  AreBlocks count =
+      (n : ℕ) (b : Block) → n < count → slice_get (graph_view v.graph.now).blocks n ≡ Some b
+      → AreInstructions n b.instructions b.place (length b.instructions)
 
   -- What writes names stands in order, and by homes and names there are all writes of theirs.
   pub record IsIndexed : Type 0 where
-    pub ordered : (j k : ℕ) (z y : declared-written.Written) → j ≤ k → slice_get v.all.items j ≡ Some z → slice_get v.all.items k ≡ Some y → IsNoLater (rank_of z.writer) (rank_of y.writer)
+    pub ordered : (j k : ℕ) (z y : declared-written.Written) → j ≤ k → slice_get v.all.items j ≡ Some z
+        → slice_get v.all.items k ≡ Some y → IsNoLater (rank_of z.writer) (rank_of y.writer)
     pub by_home : (n : ℕ) → AreWritesBy v.all.items home_key n (writes_in v.by_home.items n)
     pub by_name : (n : ℕ) → AreWritesBy v.all.items (λ y. y) n (writes_in v.by_name.items n)
 

@@ -5,7 +5,8 @@ use Rattle.graph_core.specs.Graphs.{Operand, NoteValue, Instruction, Note, Call,
 use Rattle.graph_core.specs.Uses.{is_computation}
 use Rattle.pass_law.specs.Kept.{KeepsAllButBlocks}
 
--- What is left of an instruction: itself; nothing of a computation, which only writes a name; of a call the call without its target; of a note a note of the same scalar.
+-- What is left of an instruction: itself; nothing of a computation, which only writes a name; of a call the call
+-- without its target; of a note a note of the same scalar.
 pub data IsLeftAs : Instruction → Option Instruction → Type 0 where
   stays : {i : Instruction} → IsLeftAs i (Some i)
   goes : {i : Instruction} → is_computation i ≡ true → IsLeftAs i None
@@ -15,8 +16,10 @@ pub data IsLeftAs : Instruction → Option Instruction → Type 0 where
 -- What is left of instructions, in their order.
 pub data AreLeft : List Instruction → List Instruction → Type 0 where
   none : AreLeft [] []
-  kept : {i j : Instruction} {rest left : List Instruction} → IsLeftAs i (Some j) → AreLeft rest left → AreLeft (i ∷ rest) (j ∷ left)
-  gone : {i : Instruction} {rest left : List Instruction} → IsLeftAs i None → AreLeft rest left → AreLeft (i ∷ rest) left
+  kept : {i j : Instruction} {rest left : List Instruction} → IsLeftAs i (Some j) → AreLeft rest left
+      → AreLeft (i ∷ rest) (j ∷ left)
+  gone : {i : Instruction} {rest left : List Instruction} → IsLeftAs i None → AreLeft rest left
+      → AreLeft (i ∷ rest) left
 
 -- A block keeps its place and its end.
 pub record IsLeftBlock (b c : Block) : Type 0 where

@@ -32,7 +32,8 @@ pub record IsVisited (idle : IdleGraph) (n : ℕ) (b : Block) : Type 0 where
   pub reached : bits_of idle.reached 0 n ≡ true
 
 -- The walk has come to an instruction of a block that a path reaches. Where it is a note, its place is in force.
-pub record IsHere (idle : IdleGraph) (notes : Notes) (at : NotePoint) (b : Block) (before : List Instruction) (i : Instruction) (rest : List Instruction) : Type 0 where
+pub record IsHere (idle : IdleGraph) (notes : Notes) (at : NotePoint) (b : Block) (before : List Instruction)
+    (i : Instruction) (rest : List Instruction) : Type 0 where
   pub visited : IsVisited idle at.spot.block b
   pub instructions : b.instructions ≡ before ++ i ∷ rest
   pub behind : length rest ≡ at.spot.left
@@ -40,7 +41,8 @@ pub record IsHere (idle : IdleGraph) (notes : Notes) (at : NotePoint) (b : Block
   pub come : HasComeBehind idle notes at.spot.block before (suc at.spot.left)
 
 -- Behind others stands what is left of an instruction that stays: if it is a note, it says what it shall.
-pub record IsSaidBehind (assignments : List Assignment) (log : List Logged) (g : Graph) (n : ℕ) (b : Block) (i : Instruction) (rest old new : List Instruction) : Type 0 where
+pub record IsSaidBehind (assignments : List Assignment) (log : List Logged) (g : Graph) (n : ℕ) (b : Block)
+    (i : Instruction) (rest old new : List Instruction) : Type 0 where
   pub left : Instruction
   pub is : new ≡ old ++ left ∷ []
   pub says : SaysAs assignments log g n rest b.end i left

@@ -6,7 +6,7 @@ use Rattle.places.specs.declared.flow.Assignment.{Assignment}
 use Rattle.graph_core.specs.declared.value.Value.{Value}
 use Rattle.graph_core.specs.declared.value.Shadow.{Shadow}
 use Rattle.graph_core.specs.Graphs.{NoteValue, Instruction, Marker, Note, Move, Operate, Truncate, Same, Address, Load, Store, Zero, CopyWords, Call, End, Block, Graph, Logged, UnitForm}
-use Rattle.graph_core.specs.Memory.{is_live, address_of, read}
+use Rattle.graph_core.specs.Memory.{is_live, pointer_to_object, read}
 use Rattle.graph_core.specs.Points.{StandsWith}
 use Rattle.graph_core.specs.Runs.{Activation, Configuration, Stepped, value, pointed, step_from, step}
 use Rattle.graph_core.specs.Uses.{target_of}
@@ -74,7 +74,7 @@ module _ (u v : UnitForm) (log : List Logged) (made : EachFunction (IsMade u log
     gone_followed (Same x a b) more after went came left =
         inl (writes_nothing u v log made (behind more) blocks others shadows still after wants waiting waits n (Same x a b) x (same (is_live c.memory) (value u.statics c.here.names a) (value u.statics c.here.names b)) refl tt went came left)
     gone_followed (Address x object) more after went came left =
-        inl (writes_nothing u v log made (behind more) blocks others shadows still after wants waiting waits n (Address x object) x (address_of c.memory (c.here.first_object + object)) refl tt went came left)
+        inl (writes_nothing u v log made (behind more) blocks others shadows still after wants waiting waits n (Address x object) x (pointer_to_object c.memory (c.here.first_object + object)) refl tt went came left)
     gone_followed (Load x f l) more after went came left =
         inl (some_nothing u v log made (behind more) blocks others shadows still after wants waiting waits n x f l (read c.memory f (pointed u.statics c.memory c.here l)) went came left)
     gone_followed (Call x f all) more after went came left =

@@ -3,7 +3,7 @@ use Rattle.std.proofs.Common.{◌≡◌, ℕ, zero, suc, inl, inr, Option, Some,
 use Rattle.event_runs.specs.Following.{Reached}
 use Rattle.graph_core.specs.Graphs.{Logged, UnitForm}
 use Rattle.graph_core.specs.Memory.{first_memory}
-use Rattle.graph_core.specs.Runs.{Configuration, Event, Stepped, Goes, Shows, Ends, Wild, after, step, run, run_some, enter, unit_run}
+use Rattle.graph_core.specs.Runs.{Configuration, Event, Stepped, Goes, Shows, Ends, Wild, events_after, step, run, run_some, enter, unit_run}
 use Rattle.pass_law.specs.Kept.{EachFunction, ShareTheSame}
 use Rattle.pass_law.specs.Keeps.{SameEvent}
 use Rattle.dead_pass_laws.specs.Follows.{Follows}
@@ -22,18 +22,18 @@ module _ (u v : UnitForm) (log : List Logged) (made : EachFunction (IsMade u log
   nothing d = record { steps = 0; shown = []; more = []; is = refl; same = tt }
 
   -- Where the unit after has nothing to do, it comes to what it comes to anyway.
-  behind_nothing : (n : ℕ) (d : Configuration) → ((c : Configuration) → Related u log c d → IsReached (run u n c) d) → (p : Stepped) → DoesNothing u log p d → IsReached (after p (run u n)) d
+  behind_nothing : (n : ℕ) (d : Configuration) → ((c : Configuration) → Related u log c d → IsReached (run u n c) d) → (p : Stepped) → DoesNothing u log p d → IsReached (events_after p (run u n)) d
   behind_nothing n d later (Goes c) does = later c does
   behind_nothing n d later Wild does = nothing d
   behind_nothing n d later (Shows e c) does = absurd does
   behind_nothing n d later (Ends e) does = absurd does
 
   -- one step, and what comes behind it
-  one_more : (d : Configuration) (q : Stepped) (k : ℕ) → step (after_of u v log made) d ≡ q → run (after_of u v log made) (suc k) d ≡ after q (run (after_of u v log made) k)
-  one_more d q k e = ap (λ s. after s (run (after_of u v log made) k)) e
+  one_more : (d : Configuration) (q : Stepped) (k : ℕ) → step (after_of u v log made) d ≡ q → run (after_of u v log made) (suc k) d ≡ events_after q (run (after_of u v log made) k)
+  one_more d q k e = ap (λ s. events_after s (run (after_of u v log made) k)) e
 
   -- Where it does the same, it comes to the same behind that.
-  behind_same : (n : ℕ) (d : Configuration) → ((c b : Configuration) → Related u log c b → IsReached (run u n c) b) → (p q : Stepped) → step (after_of u v log made) d ≡ q → DoesSame u log p q → IsReached (after p (run u n)) d
+  behind_same : (n : ℕ) (d : Configuration) → ((c b : Configuration) → Related u log c b → IsReached (run u n c) b) → (p q : Stepped) → step (after_of u v log made) d ≡ q → DoesSame u log p q → IsReached (events_after p (run u n)) d
   behind_same n d later Wild q e does = nothing d
   behind_same n d later (Goes a) (Goes b) e does =
       let r = later a b does in

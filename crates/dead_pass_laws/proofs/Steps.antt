@@ -16,8 +16,8 @@ use Rattle.graph_core.specs.Paths.{Among, front, behind}
 use Rattle.graph_core.specs.Bounds.{most_activations}
 use Rattle.graph_core.specs.Histories.{name_by}
 use Rattle.graph_core.specs.Values.{operate, truncate, same, holds, is_odd}
-use Rattle.graph_core.specs.Memory.{Memory, is_live, address_of, ended_from, read, write, zeroed, copied}
-use Rattle.graph_core.specs.Runs.{Activation, Configuration, Stop, TooDeep, Goes, Shows, Ends, Wild, frame, put, value, recipe_value, pointed, entered, wrote, wrote_some, with_memory, unless_odd, take_wanted, at_place, go_to, branched, leave, put_out, got, goes_if, first_of, enter, call_function, call, execute, execute_end}
+use Rattle.graph_core.specs.Memory.{Memory, is_live, pointer_to_object, ended_from, read, write, zeroed, copied}
+use Rattle.graph_core.specs.Runs.{Activation, Configuration, Stop, TooDeep, Goes, Shows, Ends, Wild, frame, with_value_at, value, recipe_value, pointed, entered, wrote, wrote_some, with_memory, unless_odd, take_wanted, at_place, go_to, branched, leave, put_out, got, goes_if, first_argument, enter, call_function, call, execute, execute_end}
 use Rattle.pass_law.specs.Kept.{EachFunction}
 use Rattle.dead_pass_rule.specs.Idle as rule
 use Rattle.pass_law.specs.Keeps.{stays, goes, byte, deep, stop}
@@ -65,7 +65,7 @@ module _ (u v : UnitForm) (log : List Logged) (made : EachFunction (IsMade u log
     writes_same : (i : Instruction) (x : ℕ) (w z : Value) → target_of i ≡ Some x → IsValueOf u.statics c.here.names i w → z ≡ w → CameAt i → IsLeft → DoesSame u log (wrote c x w) (wrote d x z)
     writes_same i x w z target is e came left = subst (λ k. DoesSame u log (wrote c x w) (wrote d x k)) (sym e) (record {
       blocks = blocks;
-      others = put others x w;
+      others = with_value_at others x w;
       shadows = shadows;
       rest = rest;
       wants = wants;
@@ -171,8 +171,8 @@ module _ (u v : UnitForm) (log : List Logged) (made : EachFunction (IsMade u log
       callee_same : (k : Callee) (vs : List Value) → DoesSame u log (call u c x k vs) (call after_of d z k vs)
       callee_same (callee.Function f) vs = function_same f vs
       callee_same callee.Getchar vs = got_same c.input
-      callee_same callee.Putchar vs = put_same (first_of vs)
-      callee_same callee.Exit vs = exited_same u log (first_of vs)
+      callee_same callee.Putchar vs = put_same (first_argument vs)
+      callee_same callee.Exit vs = exited_same u log (first_argument vs)
 
       -- A call of what has the same arguments.
       pub call_same : (f : Callee) (all : List Operand) → Agree (names_of_all all) → DoesSame u log (execute u (Call x f all) c) (execute after_of (Call z f all) d)
@@ -212,12 +212,12 @@ module _ (u v : UnitForm) (log : List Logged) (made : EachFunction (IsMade u log
         by_test false = (stop (frame_same u log before.here blocks others shadows rest wants still, frames_same u log c.waiting waiting waits), related)
 
     -- a shadow of the activation becomes another
-    shadowed : (x : ℕ) (k : NoteValue) (s t : Shadow) → AreStill (put c.here.shadows x s) (put shadows x t) → CameAt (Note x k) → IsLeft
-        → Related u log (record c { here = record c.here { shadows = put c.here.shadows x s } }) (record d { here = record d.here { shadows = put shadows x t } })
+    shadowed : (x : ℕ) (k : NoteValue) (s t : Shadow) → AreStill (with_value_at c.here.shadows x s) (with_value_at shadows x t) → CameAt (Note x k) → IsLeft
+        → Related u log (record c { here = record c.here { shadows = with_value_at c.here.shadows x s } }) (record d { here = record d.here { shadows = with_value_at shadows x t } })
     shadowed x k s t now came left = record {
       blocks = blocks;
       others = others;
-      shadows = put shadows x t;
+      shadows = with_value_at shadows x t;
       rest = rest;
       wants = wants;
       waiting = waiting;
@@ -236,13 +236,13 @@ module _ (u v : UnitForm) (log : List Logged) (made : EachFunction (IsMade u log
         known : Shadow
         known = shadow.Known (recipe_value u.statics c.here.names r)
 
-        by_test : (b : Bool) → Related u log (record c { here = record c.here { shadows = put c.here.shadows x known } }) (record d { here = record d.here { shadows = put shadows x shadow.Gone } })
-            → DoesSame u log (if b then Wild else Goes (record c { here = record c.here { shadows = put c.here.shadows x known } })) (Goes (record d { here = record d.here { shadows = put shadows x shadow.Gone } }))
+        by_test : (b : Bool) → Related u log (record c { here = record c.here { shadows = with_value_at c.here.shadows x known } }) (record d { here = record d.here { shadows = with_value_at shadows x shadow.Gone } })
+            → DoesSame u log (if b then Wild else Goes (record c { here = record c.here { shadows = with_value_at c.here.shadows x known } })) (Goes (record d { here = record d.here { shadows = with_value_at shadows x shadow.Gone } }))
         by_test true related = tt
         by_test false related = related
     note_same x k m (is_same {r} {s} e) came left =
-        subst (λ w. DoesSame u log (execute u (Note x (Is r)) c) (unless_odd w (Goes (record d { here = record d.here { shadows = put shadows x (shadow.Known w) } })))) (sym e)
-        (unless_same u log (is_odd (recipe_value u.statics c.here.names r)) (Goes (record c { here = record c.here { shadows = put c.here.shadows x known } })) (Goes (record d { here = record d.here { shadows = put shadows x known } }))
+        subst (λ w. DoesSame u log (execute u (Note x (Is r)) c) (unless_odd w (Goes (record d { here = record d.here { shadows = with_value_at shadows x (shadow.Known w) } })))) (sym e)
+        (unless_same u log (is_odd (recipe_value u.statics c.here.names r)) (Goes (record c { here = record c.here { shadows = with_value_at c.here.shadows x known } })) (Goes (record d { here = record d.here { shadows = with_value_at shadows x known } }))
         (shadowed x (Is r) known known (put_still c.here.shadows shadows x known known still stays) came left))
       where
         known : Shadow
@@ -286,7 +286,7 @@ module _ (u v : UnitForm) (log : List Logged) (made : EachFunction (IsMade u log
     execute_same (Operate x o a b) plain agree came left = writes_same (Operate x o a b) x (operate o (value_before a) (value_before b)) (operate o (value_after a) (value_after b)) refl refl (two_same u.statics c.here.names others (operate o) a b agree) came left
     execute_same (Truncate x t a) plain agree came left = writes_same (Truncate x t a) x (truncate t (value_before a)) (truncate t (value_after a)) refl refl (ap (truncate t) (value_same u.statics c.here.names others a agree)) came left
     execute_same (Same x a b) plain agree came left = writes_same (Same x a b) x (same (is_live c.memory) (value_before a) (value_before b)) (same (is_live c.memory) (value_after a) (value_after b)) refl tt (two_same u.statics c.here.names others (same (is_live c.memory)) a b agree) came left
-    execute_same (Address x object) plain agree came left = (let at : Value = address_of c.memory (c.here.first_object + object) in writes_same (Address x object) x at at refl tt refl came left)
+    execute_same (Address x object) plain agree came left = (let at : Value = pointer_to_object c.memory (c.here.first_object + object) in writes_same (Address x object) x at at refl tt refl came left)
     execute_same (Load x e l) plain agree came left = load_same x e l agree came left
     execute_same (Store e l a) plain agree came left = store_same e l a agree came left
     execute_same (Zero object words) plain agree came left = memory_same (Zero object words) (zeroed c.memory (c.here.first_object + object) words) refl tt came left

@@ -22,7 +22,8 @@ assignments_of idle = idle.flow.now.assignments.items
 abbrev pub IsOf : List Assignment → IdleGraph → Type 0
 IsOf assignments idle = assignments_of idle ≡ assignments
 
--- What is told of a graph is so: just the writes go which shall, of each block it is told whether some way leads to it, and of each name where a place writes it once.
+-- What is told of a graph is so: just the writes go which shall, of each block it is told whether some way leads to it,
+-- and of each name where a place writes it once.
 pub record IsBorneOut (idle : IdleGraph) : Type 0 where
   pub goes : AreIdle (assignments_of idle) (graph_of idle) (is_going (turn_of idle.turns.items))
   pub led : AreLed (graph_of idle).blocks (bits_of idle.reached 0)

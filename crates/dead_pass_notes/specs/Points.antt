@@ -15,7 +15,8 @@ abbrev pub variable_in : List Scalar → (x : ℕ) → Option ℕ
 variable_in scalars x = option_map (λ (s : Scalar). s.variable) (slice_get scalars x)
 
 -- A point at which this name is written is where an assignment goes.
-pub record IsRemovedAt (scalars : List Scalar) (goes : Bool) (place : Option ℕ) (block index : ℕ) (target : Option ℕ) (c : Case) : Type 0 where
+pub record IsRemovedAt (scalars : List Scalar) (goes : Bool) (place : Option ℕ) (block index : ℕ) (target : Option ℕ)
+    (c : Case) : Type 0 where
   pub gone : goes ≡ true
   pub in_place : place ≡ Some c.place.0
   pub in_block : c.block ≡ block

@@ -22,11 +22,13 @@ module _ (goes : (block left : ℕ) → Bool) (to : Spot) (y n : ℕ) where
   abbrev pub stays_written : Instruction → (left : ℕ) → Bool
   stays_written i left = writes y i && not (goes n left)
 
-  -- Where a way along instructions of a block comes that has such a write on it already or not: it stops at the point, with or without a write, or at a marker as if without one; or it
-  -- leaves the block.
+  -- Where a way along instructions of a block comes that has such a write on it already or not: it stops at the point,
+  -- with or without a write, or at a marker as if without one; or it leaves the block.
   abbrev pub scan_of : Bool → List Instruction → Scanned
   scan_of was [] = Leaves was
-  scan_of was (i ∷ rest) = if is_there (length rest) then Stops was else if is_marker i then Stops false else scan_of (was || stays_written i (length rest)) rest
+  scan_of was (i ∷ rest) =
+      if is_there (length rest) then Stops was else if is_marker i then Stops false
+      else scan_of (was || stays_written i (length rest)) rest
 
 -- the number of a state of a search
 abbrev pub number_of : (block : ℕ) → Bool → ℕ
@@ -38,21 +40,28 @@ HasCome ahead block is_written = Among (record { block = block; is_written = is_
 
 -- what was seen by this search it has come to
 abbrev pub AreSeen : Ways → Type 0
-AreSeen ways = (block : ℕ) (is_written : Bool) → number_of block is_written < length ways.seen.items → slice_index_or ways.seen.items (number_of block is_written) 0 ≡ ways.search → HasCome ways.ahead.items block is_written
+AreSeen ways =
+    (block : ℕ) (is_written : Bool) → number_of block is_written < length ways.seen.items
+    → slice_index_or ways.seen.items (number_of block is_written) 0 ≡ ways.search
+    → HasCome ways.ahead.items block is_written
 
 -- To where a search came, nothing was added but blocks to which an end leads, as a scan leaves for them.
 pub record HasGrown (end : End) (scanned : Scanned) (old new : List Way) : Type 0 where
   pub more : List Way
   pub is : new ≡ old ++ more
-  pub only : (block : ℕ) (is_written : Bool) → HasCome more block is_written → Among block (targets_of end) × (scanned ≡ Leaves is_written)
+  pub only : (block : ℕ) (is_written : Bool) → HasCome more block is_written
+      → Among block (targets_of end) × (scanned ≡ Leaves is_written)
 
--- From a scan a search goes on: it did not stop at the point with a write, and where it leaves the block it has come to each block to which the end leads.
+-- From a scan a search goes on: it did not stop at the point with a write, and where it leaves the block it has come to
+-- each block to which the end leads.
 pub record GoesOn (count : ℕ) (ahead : List Way) (end : End) (scanned : Scanned) : Type 0 where
   pub unwritten : scanned ≢ Stops true
   pub leaves : (was : Bool) (l : ℕ) → scanned ≡ Leaves was → Among l (targets_of end) → l < count → HasCome ahead l was
 
--- What goes is told by the rule, the point that is sought is an instruction of the graph, and there is room for its blocks.
-pub record IsReady (assignments : List Assignment) (g : Graph) (goes : (block left : ℕ) → Bool) (to : Spot) (ways : Ways) : Type 0 where
+-- What goes is told by the rule, the point that is sought is an instruction of the graph, and there is room for its
+-- blocks.
+pub record IsReady (assignments : List Assignment) (g : Graph) (goes : (block left : ℕ) → Bool) (to : Spot)
+    (ways : Ways) : Type 0 where
   pub idle : AreIdle assignments g goes
   pub point : IsPoint g to.block (suc to.left)
   pub count : length ways.seen.items ≡ length g.blocks * 2

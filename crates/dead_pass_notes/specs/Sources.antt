@@ -32,7 +32,9 @@ module _ (g : Graph) (note : NotePoint) where
   -- What is read is no temporary that is resolved further, and what is made is no copy.
   abbrev pub IsSource : Source → Type 0
   IsSource (Read at operand) = IsPoint g at.block at.left × ((t : ℕ) → operand_view operand ≡ Name t → IsLocal g t → ⊥)
-  IsSource (Made at) = IsPoint g at.block (suc at.left) × ((x : ℕ) (a : Operand) (rest : List Instruction) → left_at g at.block (suc at.left) ≢ Move x a ∷ rest)
+  IsSource (Made at) =
+      IsPoint g at.block (suc at.left)
+      × ((x : ℕ) (a : Operand) (rest : List Instruction) → left_at g at.block (suc at.left) ≢ Move x a ∷ rest)
   IsSource Unknown = ⊤
 
   abbrev pub AreSources : declared-computed.Computed → Type 0
@@ -44,18 +46,23 @@ module _ (g : Graph) (note : NotePoint) where
 module _ (assignments : List Assignment) (g : Graph) (note : NotePoint) where
   -- the recipe at the note of an operand that the instruction at a spot reads
   abbrev pub IsRead : Spot → Operand → Recipe → Type 0
-  IsRead at a r = IsRecipe assignments g note.place.0 note.spot.block (noted g note) (end_at g note.spot.block) at.block (left_at g at.block at.left) (end_at g at.block) a r
+  IsRead at a r =
+      IsRecipe assignments g note.place.0 note.spot.block (noted g note) (end_at g note.spot.block) at.block
+      (left_at g at.block at.left) (end_at g at.block) a r
 
   -- a name has at the note the value that the instruction at a spot reads
   pub record StillHolds (at : Spot) (y : ℕ) : Type 0 where
     pub fresh : ComesStale assignments g y note.spot.block (noted g note) (end_at g note.spot.block) → ⊥
-    pub unwritten : IsWrittenBetween assignments g note.spot.block (noted g note) y at.block (left_at g at.block at.left) (end_at g at.block) → ⊥
+    pub unwritten : IsWrittenBetween assignments g note.spot.block (noted g note) y at.block
+        (left_at g at.block at.left) (end_at g at.block)
+        → ⊥
 
   -- the recipe at the note of what the instruction at a spot computes
   pub record IsMade (at : Spot) (r : Recipe) : Type 0 where
     pub instruction : Instruction
     pub is : left_at g at.block (suc at.left) ≡ instruction ∷ left_at g at.block at.left
-    pub right : IsRightSide assignments g note.place.0 note.spot.block (noted g note) (end_at g note.spot.block) at.block (left_at g at.block at.left) (end_at g at.block) instruction r
+    pub right : IsRightSide assignments g note.place.0 note.spot.block (noted g note) (end_at g note.spot.block)
+        at.block (left_at g at.block at.left) (end_at g at.block) instruction r
 
   -- a source gives a recipe
   abbrev pub Gives : Source → Recipe → Type 0
@@ -66,7 +73,8 @@ module _ (assignments : List Assignment) (g : Graph) (note : NotePoint) where
   -- what is computed of sources gives a recipe
   abbrev pub Computes : declared-computed.Computed → Recipe → Type 0
   Computes (computed.Truncated truncation from) r = (q : Recipe) × (r ≡ Truncated truncation q) × Gives from q
-  Computes (computed.Operated operation left right) r = (q w : Recipe) × (r ≡ Operated operation q w) × Gives left q × Gives right w
+  Computes (computed.Operated operation left right) r =
+      (q w : Recipe) × (r ≡ Operated operation q w) × Gives left q × Gives right w
   Computes computed.Unknown r = ⊥
 
 -- A recipe that is found is given, and is at most so deep; where none is found none is given that is.
@@ -76,13 +84,16 @@ IsFound depth Given (Some r) = Given r × (depth_of r ≤ depth)
 
 -- what a note says in the end that said this
 abbrev pub IsSaidAt : List Assignment → List Logged → Graph → NotePoint → (x : ℕ) → (before after : NoteValue) → Type 0
-IsSaidAt assignments log g note x before after = IsSaid assignments log g note.place.0 note.spot.block x before (noted g note) (end_at g note.spot.block) after
+IsSaidAt assignments log g note x before after =
+    IsSaid assignments log g note.place.0 note.spot.block x before (noted g note) (end_at g note.spot.block) after
 
 -- What is known where a note stands: the row of a walk tells of the names that are stale there.
 pub record IsKnown (idle : IdleGraph) (stale : Marks) (note : NotePoint) : Type 0 where
   pub borne_out : IsBorneOut idle
   pub point : IsPoint (graph_of idle) note.spot.block (suc note.spot.left)
-  pub tells : (y : ℕ) → (bits_of stale (length (graph_of idle).blocks) y ≡ true) ↔ ComesStale (assignments_of idle) (graph_of idle) y note.spot.block (noted (graph_of idle) note) (end_at (graph_of idle) note.spot.block)
+  pub tells : (y : ℕ)
+      → (bits_of stale (length (graph_of idle).blocks) y ≡ true) ↔ ComesStale (assignments_of idle) (graph_of idle)
+      y note.spot.block (noted (graph_of idle) note) (end_at (graph_of idle) note.spot.block)
 
 -- a search has room for the blocks of a graph
 abbrev pub HasRoom : IdleGraph → Ways → Type 0
@@ -90,4 +101,6 @@ HasRoom idle ways = length ways.seen.items ≡ length (graph_of idle).blocks * 2
 
 -- Each name that is written is one of the graph.
 abbrev pub AreNamed : Graph → Type 0
-AreNamed g = (n : ℕ) (b : Block) (before rest : List Instruction) (i : Instruction) (x : ℕ) → slice_get g.blocks n ≡ Some b → b.instructions ≡ before ++ i ∷ rest → target_of i ≡ Some x → x < g.name_count
+AreNamed g =
+    (n : ℕ) (b : Block) (before rest : List Instruction) (i : Instruction) (x : ℕ) → slice_get g.blocks n ≡ Some b
+    → b.instructions ≡ before ++ i ∷ rest → target_of i ≡ Some x → x < g.name_count

@@ -1,4 +1,5 @@
--- Which names are stale: those that have not the value any more which the program gave them, since the write of it goes.
+-- Which names are stale: those that have not the value any more which the program gave them, since the write of it
+-- goes.
 use Rattle.std.specs.Prelude.{◌≡◌, ℕ, true, false, List, ◌∷◌, length}
 use Rattle.places.specs.declared.flow.Assignment.{Assignment}
 use Rattle.graph_core.specs.Graphs.{Instruction, End, Graph}

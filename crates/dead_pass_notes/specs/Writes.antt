@@ -8,8 +8,9 @@ use Rattle.graph_core.specs.WellMarked.{IsVariable}
 use Rattle.pass_law.specs.declared.cases.Case.{Case}
 use Rattle.dead_pass_rule.specs.Idle.{Goes}
 
--- AN ASSIGNMENT THAT WAS REMOVED. At a point of the graph before, in the place of the case and behind as many instructions of its block as it says, an instruction that goes writes the
--- scalar of its variable. It is no read, so its operand is 0.
+-- AN ASSIGNMENT THAT WAS REMOVED. At a point of the graph before, in the place of the case and behind as many
+-- instructions of its block as it says, an instruction that goes writes the scalar of its variable. It is no read, so
+-- its operand is 0.
 pub record IsRemovedWrite (assignments : List Assignment) (g : Graph) (c : Case) : Type 0 where
   pub instruction : Instruction
   pub rest : List Instruction

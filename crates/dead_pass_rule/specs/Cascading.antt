@@ -15,7 +15,8 @@ graph_of free = graph_view free.graph.now
 abbrev pub assignments_of : FreeGraph → List Assignment
 assignments_of free = free.flow.now.assignments.items
 
--- What is told of the graph is so: how many blocks it has, to which of these ways lead, how many names it has, and which writes may go.
+-- What is told of the graph is so: how many blocks it has, to which of these ways lead, how many names it has, and
+-- which writes may go.
 pub record IsTold (free : FreeGraph) : Type 0 where
   pub blocks : free.count ≡ length (graph_of free).blocks
   pub few : free.count + 2 < 2 ^ 32

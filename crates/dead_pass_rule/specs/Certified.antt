@@ -16,4 +16,5 @@ pub record IsFree (assignments : List Assignment) (g : Graph) (place : Option �
 
 -- The writes that go are just those that shall.
 pub record AreIdle (assignments : List Assignment) (g : Graph) (going : (block left : ℕ) → Bool) : Type 0 where
-  pub goes : (n : ℕ) (b : Block) (before rest : List Instruction) (i : Instruction) → slice_get g.blocks n ≡ Some b → b.instructions ≡ before ++ i ∷ rest → (going n (length rest) ≡ true) ↔ Goes assignments g n (i ∷ rest) b.end
+  pub goes : (n : ℕ) (b : Block) (before rest : List Instruction) (i : Instruction) → slice_get g.blocks n ≡ Some b
+      → b.instructions ≡ before ++ i ∷ rest → (going n (length rest) ≡ true) ↔ Goes assignments g n (i ∷ rest) b.end

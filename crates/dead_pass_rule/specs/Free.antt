@@ -21,7 +21,8 @@ pub record IsWrittenOnce (g : Graph) (p x : ℕ) : Type 0 where
   pub left : ℕ
   pub is : IsOnce g p x block left
 
--- a write of a name in a place may go, if it stands there: the name is a temporary, or one instruction writes it there, and the place assigns its variable
+-- a write of a name in a place may go, if it stands there: the name is a temporary, or one instruction writes it there,
+-- and the place assigns its variable
 abbrev pub MayGoOnce : List Assignment → Graph → (p x : ℕ) → Type 0
 MayGoOnce assignments g p x = (length g.scalars ≤ x) ⊎ (IsWrittenOnce g p x × (assigns_scalar assignments g p x ≡ true))
 
@@ -59,7 +60,8 @@ AreFree assignments g b free =
 
 -- it is told of the instructions of all blocks
 abbrev pub AreAllFree : List Assignment → Graph → List (Vec Bool Global) → Type 0
-AreAllFree assignments g free = (n : ℕ) (b : Block) → slice_get g.blocks n ≡ Some b → AreFree assignments g b (flags_in (slice_get free n))
+AreAllFree assignments g free =
+    (n : ℕ) (b : Block) → slice_get g.blocks n ≡ Some b → AreFree assignments g b (flags_in (slice_get free n))
 
 -- each name that an instruction writes is one of so many
 abbrev pub AreNamed : List Block → (names : ℕ) → Type 0

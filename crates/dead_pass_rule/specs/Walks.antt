@@ -1,4 +1,5 @@
--- Rows by which it is found which names are asked for: one for each of so many blocks, that tells of its start, one for the point to which a walk back has come, and one without bits.
+-- Rows by which it is found which names are asked for: one for each of so many blocks, that tells of its start, one for
+-- the point to which a walk back has come, and one without bits.
 use Rattle.std.specs.Prelude.{◌≡◌, ◌≢◌, ℕ, ◌+◌, ◌<◌, ◌==◌, ◌&&◌, ◌||◌, Bool, true, false, not, Option, Some, None, List, [], ◌∷◌, length, slice_get, slice_index_or, ⊤}
 use Rattle.std.specs.Option.{option_map_or}
 use Rattle.std.specs.List.{list_any}
@@ -45,7 +46,8 @@ pub record IsAskedAt (turns : Turns) (all : List Block) (x n : ℕ) : Type 0 whe
 
 -- what is told of blocks is so
 abbrev pub AreAsked : Turns → List Block → (blocks names : ℕ) → Marks → Type 0
-AreAsked turns all blocks names marks = (n x : ℕ) → n < blocks → x < names → bits_of marks n x ≡ true → IsAskedAt turns all x n
+AreAsked turns all blocks names marks =
+    (n x : ℕ) → n < blocks → x < names → bits_of marks n x ≡ true → IsAskedAt turns all x n
 
 -- It is told of one of the blocks to which an end leads.
 pub record IsToldOfOne (blocks : ℕ) (e : End) (marks : Marks) (x : ℕ) : Type 0 where
@@ -57,16 +59,19 @@ pub record IsToldOfOne (blocks : ℕ) (e : End) (marks : Marks) (x : ℕ) : Type
 -- it is told of each name that is asked for at the start of a block
 abbrev pub AreTold : Turns → List Block → (names : ℕ) → Marks → Type 0
 AreTold turns all names marks =
-    (n x : ℕ) (b : Block) → slice_get all n ≡ Some b → x < names → TellsAsked turns (λ l. bits_of marks l x) (length all) x n (bits_of marks n x) b.instructions b.end
+    (n x : ℕ) (b : Block) → slice_get all n ≡ Some b → x < names
+    → TellsAsked turns (λ l. bits_of marks l x) (length all) x n (bits_of marks n x) b.instructions b.end
 
 -- whether a name is asked for before instructions of a block, from whether it is behind them
 abbrev pub asked_along : Turns → (x n : ℕ) → List Instruction → (behind : Bool) → Bool
 asked_along turns x n [] behind = behind
-asked_along turns x n (i ∷ rest) behind = asks turns n (length rest) i x || (not (writes x i) && asked_along turns x n rest behind)
+asked_along turns x n (i ∷ rest) behind =
+    asks turns n (length rest) i x || (not (writes x i) && asked_along turns x n rest behind)
 
 -- whether it is at the start of a block, from whether it is where its end leads
 abbrev pub asked_before : Turns → (x n : ℕ) → Block → (behind : Bool) → Bool
-asked_before turns x n b behind = asked_along turns x n b.instructions (list_any (λ y. y == x) (reads_of_end b.end) || behind)
+asked_before turns x n b behind =
+    asked_along turns x n b.instructions (list_any (λ y. y == x) (reads_of_end b.end) || behind)
 
 abbrev pub asked_before_some : Turns → (x n : ℕ) → Option Block → (behind : Bool) → Bool
 asked_before_some turns x n None behind = false
@@ -74,4 +79,11 @@ asked_before_some turns x n (Some b) behind = asked_before turns x n b behind
 
 -- how the names flow that are asked for: against execution, through all blocks
 abbrev pub asking : Turns → List Block → (names : ℕ) → Course
-asking turns all names = record { blocks = all; is_open = λ n. true; forward = false; width = names; does = λ n x behind. asked_before_some turns x n (slice_get all n) behind }
+asking turns all names =
+    record {
+      blocks = all;
+      is_open = λ n. true;
+      forward = false;
+      width = names;
+      does = λ n x behind. asked_before_some turns x n (slice_get all n) behind;
+    }

@@ -23,7 +23,9 @@ with_removal is_one number was = if is_one then Some (record { first = first_wit
 -- what is told behind changes, where so many came before them
 abbrev pub removals_by : (p v : ℕ) → Option Removals → (count : ℕ) → List Logged → Option Removals
 removals_by p v was count [] = was
-removals_by p v was count (c ∷ more) = removals_by p v (with_removal (is_taken c.kind && (c.place == p && c.variable == v)) (count + 1) was) (count + 1) more
+removals_by p v was count (c ∷ more) =
+    removals_by p v (with_removal (is_taken c.kind && (c.place == p && c.variable == v)) (count + 1) was) (count + 1)
+    more
 
 -- The changes of a log are told.
 abbrev pub AreToldOf : List Logged → RemovedChanges → Type 0

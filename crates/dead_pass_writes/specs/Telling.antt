@@ -48,7 +48,11 @@ with_binding is_one was = if is_one then Some More else was
 -- what is told behind instructions of a block, of which the first stands where a place is in force
 abbrev pub written_by : (p x : ℕ) → Option Written → (place : Option ℕ) → (n : ℕ) → List Instruction → Option Written
 written_by p x was place n [] = was
-written_by p x was place n (i ∷ rest) = written_by p x (with_write (is_place p place && writes x i) (record { block = n; left = length rest }) was) (place_behind (i ∷ []) place) n rest
+written_by p x was place n (i ∷ rest) =
+    written_by p x (with_write (is_place p place && writes x i) (record {
+      block = n;
+      left = length rest;
+    }) was) (place_behind (i ∷ []) place) n rest
 
 -- what is told behind blocks, of which the first has this number
 abbrev pub written_in : (p x : ℕ) → Option Written → (n : ℕ) → List Block → Option Written

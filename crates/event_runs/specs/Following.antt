@@ -2,7 +2,8 @@
 use Rattle.std.specs.Prelude.{◌≡◌, ℕ, ◌+◌, ◌≤◌, List, [], ◌∷◌, ◌++◌}
 use Rattle.event_runs.specs.Agreement.{Pairs}
 
--- After some steps the run shows an event that is related to this one, and it goes on as another run does with what is left of the bound.
+-- After some steps the run shows an event that is related to this one, and it goes on as another run does with what is
+-- left of the bound.
 pub record Shows {A B : Type 0} (R : A → B → Type 0) (event : A) (run : ℕ → List B) : Type 0 where
   pub steps : ℕ
   pub shown : B
@@ -10,7 +11,8 @@ pub record Shows {A B : Type 0} (R : A → B → Type 0) (event : A) (run : ℕ 
   pub same : R event shown
   pub is : (k j : ℕ) → j ≡ steps + k → run j ≡ shown ∷ rest k
 
--- The run shows these events one after the other: the first after at most `first` steps, each other one after at most `more` further steps.
+-- The run shows these events one after the other: the first after at most `first` steps, each other one after at most
+-- `more` further steps.
 abbrev pub Follows : {A B : Type 0} → (A → B → Type 0) → (first more : ℕ) → List A → (ℕ → List B) → Type 0
 Follows R first more [] run = Unit {0}
 Follows R first more (e ∷ es) run = (next : Shows R e run) × (next.steps ≤ first) × Follows R more more es next.rest

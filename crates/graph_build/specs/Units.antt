@@ -8,7 +8,7 @@ use Rattle.c_tree.specs.declared.object_type.Object.TheVariants as object
 use Rattle.c_tree.specs.declared.program.Relocation as source-relocation
 use Rattle.c_tree.specs.Programs.{AutomaticTree, LiteralTree, StaticTree, TypedFunctionTree, ProgramTree}
 use Rattle.c_type_rules.specs.Types.{same_object}
-use Rattle.c_places.specs.Places.{numbers_from, parameters_of, places_of_program, number_at}
+use Rattle.c_places.specs.Places.{numbers_from, parameters_of, places_of_program, place_number_at}
 use Rattle.c_flow.specs.Flow.{start_of_all, ways_of_body}
 use Rattle.memory_map.specs.declared.map.Room.TheVariants.{Small}
 use Rattle.graph_core.specs.declared.instruction.Element as declared-element
@@ -98,15 +98,22 @@ module _ (p : ProgramTree) where
   abbrev pub declared_at : TypedFunctionTree → (entry variable : ℕ) → ℕ
   declared_at f entry x =
       if nat_lt x (f.first_variable + f.parameters) then entry
-      else option_map_or (λ (a : AutomaticTree). number_at (places_of_program p) a.spot.at) (slice_get p.automatics x) entry
+      else option_map_or (λ (a : AutomaticTree). place_number_at (places_of_program p) a.spot.at)
+      (slice_get p.automatics x) entry
 
   -- a scalar as the graph lists it: its variable, its type, and the place that declares it
   abbrev pub scalar_record : TypedFunctionTree → (entry : ℕ) → (scalars : List ℕ) → (variable : ℕ) → Scalar
-  scalar_record f entry scalars x = record { variable = variable_of p x; of = type_index scalars x; place = declared_at f entry x }
+  scalar_record f entry scalars x =
+      record { variable = variable_of p x; of = type_index scalars x; place = declared_at f entry x }
 
   -- an automatic object as the graph lists it: its variable, its element and its count
   abbrev pub memory_object : (variable : ℕ) → MemoryObject
-  memory_object x = record { var = record { 0 = variable_of p x }; element = object_element (object_type_of p x); count = object_count (object_type_of p x) }
+  memory_object x =
+      record {
+        var = record { 0 = variable_of p x };
+        element = object_element (object_type_of p x);
+        count = object_count (object_type_of p x);
+      }
 
   -- what the code of a function with these names stands on, in a graph of so many blocks
   abbrev pub coding_with : TypedFunctionTree → Names → (top : ℕ) → Coding
@@ -114,7 +121,7 @@ module _ (p : ProgramTree) where
     names = n;
     program = p;
     places = places_of_program p;
-    entry = number_at (places_of_program p) f.spot.at;
+    entry = place_number_at (places_of_program p) f.spot.at;
     scalars = length (scalars_among n (variables_in f));
     top = top;
   }
@@ -128,17 +135,24 @@ module _ (c : Coding) where
   -- the place at the closing brace of a function, if it has one: there it returns, with 0 in main
   abbrev pub add_close : (is_main : Bool) → (closing : Option ℕ) → Part → Part
   add_close is_main None part = part
-  add_close is_main (Some at) part = placed_at c at (ending (unit.Return (if is_main then Some (unit.Constant 0) else None)) part.inner) part.placed
+  add_close is_main (Some at) part =
+      placed_at c at (ending (unit.Return (if is_main then Some (unit.Constant 0) else None)) part.inner) part.placed
 
   -- The blocks of a function: its entry, its statements, and its closing brace.
   abbrev pub body_part : TypedFunctionTree → (is_main : Bool) → Part
-  body_part f is_main = add_all c f.body c.scalars (ways_of_body f) (add_close is_main (ways_of_body f).next (record { placed = []; inner = [] }))
+  body_part f is_main =
+      add_all c f.body c.scalars (ways_of_body f) (add_close is_main (ways_of_body f).next (record {
+        placed = [];
+        inner = [];
+      }))
 
   -- the code of a function, from its entry to its closing brace
   abbrev pub function_part : TypedFunctionTree → (is_main : Bool) → Part
   function_part f is_main =
       let body = body_part f is_main in
-      placed_at c f.spot.at (note_parameters c.names (parameters_of f) (going c (start_of_all f.body (ways_of_body f).next) body.inner)) body.placed
+      placed_at c f.spot.at
+      (note_parameters c.names (parameters_of f) (going c (start_of_all f.body (ways_of_body f).next) body.inner))
+      body.placed
 
   -- the places' blocks in the order of the text, and behind them the inner ones in order of evaluation
   abbrev pub blocks_in : Part → List unit.Block
@@ -183,7 +197,8 @@ module _ (p : ProgramTree) where
   graphs_from number [] = []
   graphs_from number (f ∷ more) = graph_of f (number == p.main) ∷ graphs_from (number + 1) more
 
-  -- the number of an object of static storage: the static variables come first, and then the literals; an automatic object is none, and 0 stands for it
+  -- the number of an object of static storage: the static variables come first, and then the literals; an automatic
+  -- object is none, and 0 stands for it
   abbrev pub static_number : designator.Object → ℕ
   static_number (object.Static n) = n
   static_number (object.Literal n) = length p.statics + n
@@ -195,13 +210,20 @@ module _ (p : ProgramTree) where
 
   -- a static variable as the unit lists it
   abbrev pub static_of : StaticTree → StaticObject
-  static_of v = record { element = object_element v.of; count = object_count v.of; bytes = v.bytes; relocations = map relocation_of v.relocations }
+  static_of v =
+      record {
+        element = object_element v.of;
+        count = object_count v.of;
+        bytes = v.bytes;
+        relocations = map relocation_of v.relocations;
+      }
 
 -- a string literal as the unit lists it: an object of bytes
 abbrev pub literal_of : LiteralTree → StaticObject
 literal_of l = record { element = Unsigned8; count = length l.bytes; bytes = l.bytes; relocations = [] }
 
--- The unit of a program by its forms; flow and assignments are told apart from these. The log is empty, and the room the smaller one.
+-- The unit of a program by its forms; flow and assignments are told apart from these. The log is empty, and the room
+-- the smaller one.
 pub record IsUnitOf (p : ProgramTree) (u : UnitForm) : Type 0 where
   pub graphs : u.graphs ≡ graphs_from p 0 p.functions
   pub main : u.main ≡ p.main

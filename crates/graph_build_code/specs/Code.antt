@@ -10,7 +10,7 @@ use Rattle.word_base.specs.declared.operation.Operation.TheVariants as operation
 use Rattle.graph_core.specs.Graphs as unit
 use Rattle.graph_core.specs.Graphs.{Operand, Location, Instruction, Operate, Truncate, Same, Address, Store, Jump, Block}
 use Rattle.c_type_rules.specs.ValueTypes.{type_of, given_by, integer_in, is_void, is_pointer}
-use Rattle.graph_build_names.specs.Conversions.{word_of, keeps_bits, is_kept_constant}
+use Rattle.graph_build_names.specs.Conversions.{unsigned_bits, keeps_bits, is_kept_constant}
 use Rattle.graph_build_names.specs.Operands.{held}
 use Rattle.graph_build_layout.specs.declared.laid.Use.{Use}
 use Rattle.graph_build_layout.specs.declared.laid.Use.TheVariants.{Anywhere, In, Nothing, Tested}
@@ -19,7 +19,7 @@ use Rattle.graph_build_names.specs.Writes.{writes, writes_any, is_moved, is_loca
 use Rattle.graph_build_layout.specs.Laid.{Laid, PlaceLaid, Pair, pair, behind_move, behind_own, use_for}
 use Rattle.graph_build_layout.specs.Layout.{laid, place_laid, passed_laid}
 use Rattle.graph_build_steps.specs.Rules.{element_of, callee_for, truncation_to, steps_by}
-use Rattle.graph_build_steps.specs.Drafts.{Made, Goal, To, Unused, Either, use_of, before, ending, zero, leaf, target, follow, label_of, closed, forked, valued, operated, move_if, hold_location, held_location, stored, note, noted, keep_old, use_old, behind_old, assign_goal, left_free, used, called_by}
+use Rattle.graph_build_steps.specs.Drafts.{Made, Goal, To, Unused, Either, use_of, instruction_before, ending, zero, leaf, target, follow, label_of, with_inner_block, forked, valued, operated, move_if, hold_location, held_location, stored, note, noted, keep_old, use_old, behind_old, assign_goal, left_free, used, called_by}
 use Rattle.graph_build_steps.specs.declared.site.Two.TheVariants as two
 use Rattle.graph_build_steps.specs.declared.change.Change as declared-change
 use Rattle.graph_build_steps.specs.declared.change.Change.TheVariants as change
@@ -30,25 +30,32 @@ module _ (n : Names) (place top : ℕ) where
   abbrev mutual
     -- the code of an expression that begins when a name is free, then what it is for
     pub code : RvalueTree → ℕ → Goal → Made
-    code (Constant z ty) t g = leaf g (unit.Constant (word_of z))
+    code (Constant z ty) t g = leaf g (unit.Constant (unsigned_bits z))
     code Null t g = leaf g zero
     code (Load s l) t g = elim (scalar_named n l) [
       | Some x ↦ leaf g (unit.Name x)
-      | None ↦ let q = place_laid n l t in code_place l t (operated n g t q.next (λ x. unit.Load x (element_of s) q.location))
+      | None ↦ let q =
+          place_laid n l t in code_place l t (operated n g t q.next (λ x. unit.Load x (element_of s) q.location))
     ]
     code (Decay l) t g = code_address l t g
     code (AddressOf l) t g = code_address l t g
     code (Convert ty e) t g =
         let r = laid n e Anywhere t in
         if keeps_bits (integer_in (type_of n.results e)) ty then code e t (valued g r.value)
-        else code e t (To None (if is_kept_constant ty r.value then leaf g r.value else operated n g t r.next (λ x. Truncate x (truncation_to ty) r.value)))
+        else code e t
+        (To None
+        (if is_kept_constant ty r.value then leaf g r.value
+        else operated n g t r.next (λ x. Truncate x (truncation_to ty) r.value)))
     code (Discard e) t g = code e t (Unused (leaf g zero))
     code (Signed Plus ty e) t g = code e t (valued g (laid n e Anywhere t).value)
-    code (Signed o ty e) t g = let r = laid n e Anywhere t in code e t (To None (operated n g t r.next (signed o r.value)))
+    code (Signed o ty e) t g =
+        let r = laid n e Anywhere t in code e t (To None (operated n g t r.next (signed o r.value)))
     code (Not e) t (Either one other inner) = code e t (Either other one inner)
     code (Not e) t g =
         let r = laid n e Anywhere t in code e t (To None
-        (operated n g t r.next (λ x. if is_pointer (type_of n.results e) then Same x r.value zero else Operate x operation.Sltu r.value (unit.Constant 1))))
+        (operated n g t r.next
+        (λ x. if is_pointer (type_of n.results e) then Same x r.value zero
+        else Operate x operation.Sltu r.value (unit.Constant 1))))
     code (Arithmetic o ty a b) t g =
         let q = pair (λ y. writes n y b) (laid n a Anywhere t) (laid n b Anywhere) in
         in_turn (code a) (code b) t q (finished n (two.Arithmetic o ty) g t q)
@@ -69,28 +76,38 @@ module _ (n : Names) (place top : ℕ) where
         in_turn (code a) (code b) t q (finished n (two.Difference (object_size of)) g t q)
     code (And a b) t g =
         let at = behind_own (use_of g) t in let way = forked place top g t in
-        let m = code b (pick n at (laid n a Tested at).top) (Either way.one way.other way.inner) in code a at (Either (label_of top m) way.other (closed place m))
+        let m = code b (pick n at (laid n a Tested at).top) (Either way.one way.other way.inner) in
+        code a at (Either (label_of top m) way.other (with_inner_block place m))
     code (Or a b) t g =
         let at = behind_own (use_of g) t in let way = forked place top g t in
-        let m = code b (pick n at (laid n a Tested at).top) (Either way.one way.other way.inner) in code a at (Either way.one (label_of top m) (closed place m))
+        let m = code b (pick n at (laid n a Tested at).top) (Either way.one way.other way.inner) in
+        code a at (Either way.one (label_of top m) (with_inner_block place m))
     code (Conditional c a b) t g =
         let void = is_void (type_of n.results a) in let at = behind_move (not void) t in
         let at_a = pick n at (laid n c Tested at).top in let at_b = pick n at (laid n a (arm_use void t) at_a).top in
         let m = leaf g (arm_value void t) in
-        let y = code b at_b (arm_goal void t (ending (Jump (label_of top m)) (closed place m))) in
-        let x = code a at_a (arm_goal void t (ending (Jump (label_of top m)) (closed place y))) in
-        code c at (Either (label_of top x) (label_of top y) (closed place x))
+        let y = code b at_b (arm_goal void t (ending (Jump (label_of top m)) (with_inner_block place m))) in
+        let x = code a at_a (arm_goal void t (ending (Jump (label_of top m)) (with_inner_block place y))) in
+        code c at (Either (label_of top x) (label_of top y) (with_inner_block place x))
     code (Comma a b) t g = code a t (Unused (code b (pick n t (laid n a Nothing t).top) g))
     code (Assign s l e) t g = elim (scalar_named n l) [
       | Some x ↦ code e t (To (Some x) (noted x g))
-      | None ↦ let q = place_laid n l t in let moved = is_location_moved (λ y. writes n y e) q.location in let from = behind_move moved q.next in
+      | None ↦ let q =
+          place_laid n l t in let moved = is_location_moved (λ y. writes n y e)
+          q.location in let from = behind_move moved q.next in
           code_place l t (hold_location moved q.next q.location (code e from
           (assigned_memory g q moved (element_of s) (laid n e (use_for None (use_of g)) from).value)))
     ]
-    code (Update o ty v l e) t g = updated n (scalar_named n l) (change.Integer o ty v) (λ y. writes n y e) (place_laid n l t) t (code e) (laid n e Anywhere) (code_place l t) g
-    code (UpdatePointer d of l e) t g = updated n (scalar_named n l) (change.Pointer d (object_size of)) (λ y. writes n y e) (place_laid n l t) t (code e) (laid n e Anywhere) (code_place l t) g
-    code (Step d k ty v l) t g = stepped n (scalar_named n l) (change.Integer (steps_by d) ty v) k (place_laid n l t) t (code_place l t) g
-    code (StepPointer d k of l) t g = stepped n (scalar_named n l) (change.Pointer d (object_size of)) k (place_laid n l t) t (code_place l t) g
+    code (Update o ty v l e) t g =
+        updated n (scalar_named n l) (change.Integer o ty v) (λ y. writes n y e) (place_laid n l t) t (code e)
+        (laid n e Anywhere) (code_place l t) g
+    code (UpdatePointer d of l e) t g =
+        updated n (scalar_named n l) (change.Pointer d (object_size of)) (λ y. writes n y e) (place_laid n l t) t
+        (code e) (laid n e Anywhere) (code_place l t) g
+    code (Step d k ty v l) t g =
+        stepped n (scalar_named n l) (change.Integer (steps_by d) ty v) k (place_laid n l t) t (code_place l t) g
+    code (StepPointer d k of l) t g =
+        stepped n (scalar_named n l) (change.Pointer d (object_size of)) k (place_laid n l t) t (code_place l t) g
     code (Call c all) t g = let q = passed_laid n all t in code_all all t
         (called_by (is_void (given_by n.results c)) g (pick n t q.next) (λ x. unit.Call x (callee_for c) q.values))
 
@@ -125,11 +142,15 @@ module _ (n : Names) (place top : ℕ) where
 
   -- two values in turn, and what is made of them
   abbrev pub code_two : (first second : RvalueTree) → declared-two.Two → ℕ → Goal → Made
-  code_two a b k t g = let q = pair (λ y. writes n y b) (laid n a Anywhere t) (laid n b Anywhere) in in_turn (code a) (code b) t q (finished n k g t q)
+  code_two a b k t g =
+      let q = pair (λ y. writes n y b) (laid n a Anywhere t) (laid n b Anywhere) in
+      in_turn (code a) (code b) t q (finished n k g t q)
 
   -- an object's value changes by that of an expression
   abbrev pub code_updated : declared-change.Change → LvalueTree → RvalueTree → ℕ → Goal → Made
-  code_updated change l e t g = updated n (scalar_named n l) change (λ y. writes n y e) (place_laid n l t) t (code e) (laid n e Anywhere) (code_place l t) g
+  code_updated change l e t g =
+      updated n (scalar_named n l) change (λ y. writes n y e) (place_laid n l t) t (code e) (laid n e Anywhere)
+      (code_place l t) g
 
   -- it changes by 1, and the new value or the old one is used
   abbrev pub code_stepped : declared-change.Change → declared-given.Given → LvalueTree → ℕ → Goal → Made

@@ -20,13 +20,13 @@ use Rattle.graph_build_layout.specs.declared.laid.Use.TheVariants.{Anywhere, In,
 use Rattle.graph_build_names.specs.Names.{Names, pick, object_of}
 use Rattle.graph_build_layout.specs.Laid.{Laid, Pair, PlaceLaid, behind_move}
 use Rattle.graph_build_steps.specs.Rules.{truncation_to, operation_for, move_by}
-use Rattle.graph_build_steps.specs.Drafts.{Made, Goal, To, Unused, Either, use_of, before, leaf, target, follow, scale, scaling, unscaling, move_if, note, noted, compare_by, compare_pointers_by, closed, arm, forked, valued, used, stored, keep_old, use_old, behind_old, left_free, called_by, renew, operated, code_scaled_pair, compared, compared_value, compared_pointers, compared_pointers_value, label_of, held_location}
+use Rattle.graph_build_steps.specs.Drafts.{Made, Goal, To, Unused, Either, use_of, instruction_before, leaf, target, follow, scale, scaling, unscaling, move_if, note, noted, compare_by, compare_pointers_by, with_inner_block, arm, forked, valued, used, stored, keep_old, use_old, behind_old, left_free, called_by, renew, operated, code_scaled_pair, compared, compared_value, compared_pointers, compared_pointers_value, label_of, held_location}
 use Rattle.graph_build_steps.specs.Drafts as drafts
 use Rattle.graph_build_steps.specs.declared.site.Two as declared-two
 use Rattle.graph_build_steps.specs.declared.site.Two.TheVariants as two
 use Rattle.graph_build_steps.specs.declared.change.Change as declared-change
 use Rattle.graph_build_steps.specs.declared.change.Change.TheVariants as change
-use Rattle.graph_build_steps.specs.Steps.{finished, distance, changed, changed_element, takes_more, renewed_scalar, loaded_first, renewed_memory, left_scalar, left_memory, object_address, or_zero}
+use Rattle.graph_build_steps.specs.Steps.{finished, element_distance, changed, changed_element, takes_more, renewed_scalar, loaded_first, renewed_memory, left_scalar, left_memory, object_address, or_zero}
 use Rattle.graph_build_laws.proofs.Pieces.{total_append}
 
 -- how many arguments the calls of blocks pass
@@ -43,10 +43,10 @@ goal_arguments (To want m) = made_arguments m
 goal_arguments (Unused m) = made_arguments m
 goal_arguments (Either one other inner) = passed_in inner
 
-pub before_none : (i : Instruction) (m : Made) → arguments_in i ≡ 0 → made_arguments (before i m) ≤ made_arguments m
+pub before_none : (i : Instruction) (m : Made) → arguments_in i ≡ 0 → made_arguments (instruction_before i m) ≤ made_arguments m
 before_none i m h = omega (arith, h)
 
-pub closed_arguments : (place : ℕ) (m : Made) → passed_in (closed place m) ≡ made_arguments m
+pub closed_arguments : (place : ℕ) (m : Made) → passed_in (with_inner_block place m) ≡ made_arguments m
 closed_arguments place m =
     let it : Block = record { place = Some place; instructions = m.ops; end = m.end } in
     omega (arith, total_append (λ (b : Block). total arguments_in b.instructions) m.inner it)
@@ -87,17 +87,17 @@ unscaling_none (Some k) size x t = omega arith
 scale_arguments : (size : ℕ) (a : Operand) (t : ℕ) (m : Made) → made_arguments (scale size a t m) ≤ made_arguments m
 scale_arguments size a t m = go (is_scaled size a)
   where
-    go : (b : Bool) → made_arguments (if b then before (scaling (shift_of size) size t a) m else m) ≤ made_arguments m
+    go : (b : Bool) → made_arguments (if b then instruction_before (scaling (shift_of size) size t a) m else m) ≤ made_arguments m
     go true = before_none (scaling (shift_of size) size t a) m (scaling_none (shift_of size) size t a)
     go false = omega arith
 
 pub changed_arguments : (c : declared-change.Change) (x t free : ℕ) (old by : Operand) (m : Made) → made_arguments (changed c x t free old by m) ≤ made_arguments m
 changed_arguments (change.Integer o ty v) x t free old by m = go (is_narrow ty)
   where
-    go : (b : Bool) → made_arguments (if b then before (Operate t (operation_for o v) old by) (before (Truncate x (truncation_to ty) (unit.Name t)) m) else before (Operate x (operation_for o v) old by) m) ≤ made_arguments m
+    go : (b : Bool) → made_arguments (if b then instruction_before (Operate t (operation_for o v) old by) (instruction_before (Truncate x (truncation_to ty) (unit.Name t)) m) else instruction_before (Operate x (operation_for o v) old by) m) ≤ made_arguments m
     go true = omega arith
     go false = omega arith
-changed_arguments (change.Pointer d bytes) x t free old by m = omega (arith, scale_arguments bytes by free (before (Operate x (move_by d) old (scaled bytes by free)) m))
+changed_arguments (change.Pointer d bytes) x t free old by m = omega (arith, scale_arguments bytes by free (instruction_before (Operate x (move_by d) old (scaled bytes by free)) m))
 
 pub stored_arguments : (e : declared-element.Element) (l : Location) (a : Operand) (g : Goal) → made_arguments (stored e l a g) ≤ goal_arguments g
 stored_arguments e l a (To want m) = omega arith
@@ -126,7 +126,7 @@ keep_arguments Anywhere x t m = omega arith
 keep_arguments Tested x t m = omega arith
 keep_arguments (In y) x t m = go (y == x)
   where
-    go : (b : Bool) → made_arguments (if b then before (unit.Move t (unit.Name x)) m else before (unit.Move y (unit.Name x)) m) ≤ made_arguments m
+    go : (b : Bool) → made_arguments (if b then instruction_before (unit.Move t (unit.Name x)) m else instruction_before (unit.Move y (unit.Name x)) m) ≤ made_arguments m
     go true = omega arith
     go false = omega arith
 
@@ -136,7 +136,7 @@ use_arguments (To None k) x t = omega arith
 use_arguments (Either one other inner) x t = omega arith
 use_arguments (To (Some y) k) x t = go (y == x)
   where
-    go : (b : Bool) → made_arguments (if b then before (unit.Move x (unit.Name t)) k else k) ≤ made_arguments k
+    go : (b : Bool) → made_arguments (if b then instruction_before (unit.Move x (unit.Name t)) k else k) ≤ made_arguments k
     go true = omega arith
     go false = omega arith
 
@@ -150,13 +150,13 @@ called_arguments false (Either one other inner) own count i h = omega (arith, h 
 pub forked_arguments : (place top : ℕ) (g : Goal) (own : ℕ) → passed_in (forked place top g own).inner ≤ goal_arguments g
 forked_arguments place top (Either one other inner) own = omega arith
 forked_arguments place top (Unused m) own =
-    let arm0 : Made = record { ops = unit.Move own (unit.Constant 0) ∷ []; end = Jump (label_of top m); inner = closed place m } in
-    let arm1 : Made = record { ops = unit.Move own (unit.Constant 1) ∷ []; end = Jump (label_of top m); inner = closed place arm0 } in
+    let arm0 : Made = record { ops = unit.Move own (unit.Constant 0) ∷ []; end = Jump (label_of top m); inner = with_inner_block place m } in
+    let arm1 : Made = record { ops = unit.Move own (unit.Constant 1) ∷ []; end = Jump (label_of top m); inner = with_inner_block place arm0 } in
     omega (arith, closed_arguments place m, closed_arguments place arm0, closed_arguments place arm1)
 forked_arguments place top (To want k) own =
     let m = leaf (To want k) (unit.Name own) in
-    let arm0 : Made = record { ops = unit.Move own (unit.Constant 0) ∷ []; end = Jump (label_of top m); inner = closed place m } in
-    let arm1 : Made = record { ops = unit.Move own (unit.Constant 1) ∷ []; end = Jump (label_of top m); inner = closed place arm0 } in
+    let arm0 : Made = record { ops = unit.Move own (unit.Constant 0) ∷ []; end = Jump (label_of top m); inner = with_inner_block place m } in
+    let arm1 : Made = record { ops = unit.Move own (unit.Constant 1) ∷ []; end = Jump (label_of top m); inner = with_inner_block place arm0 } in
     omega (arith, closed_arguments place m, closed_arguments place arm0, closed_arguments place arm1, leaf_arguments (To want k) (unit.Name own))
 
 module _ (n : Names) where
@@ -185,10 +185,10 @@ module _ (n : Names) where
   compared_pointers_arguments (To want m) o begun q = pointers_value_arguments (To want m) o begun q
   compared_pointers_arguments (Unused m) o begun q = pointers_value_arguments (Unused m) o begun q
 
-  distance_arguments : (bytes : ℕ) (g : Goal) (begun : ℕ) (q : Pair) → made_arguments (distance n bytes g begun q) ≤ goal_arguments g
+  distance_arguments : (bytes : ℕ) (g : Goal) (begun : ℕ) (q : Pair) → made_arguments (element_distance n bytes g begun q) ≤ goal_arguments g
   distance_arguments bytes g begun q = go (bytes == 1)
     where
-      go : (b : Bool) → made_arguments (if b then operated n g begun q.next (λ x. Operate x operation.Sub q.left q.right) else before (Operate (pick n begun q.next) operation.Sub q.left q.right) (operated n g begun (q.next + 1) (λ x. unscaling (shift_of bytes) bytes x (pick n begun q.next)))) ≤ goal_arguments g
+      go : (b : Bool) → made_arguments (if b then operated n g begun q.next (λ x. Operate x operation.Sub q.left q.right) else instruction_before (Operate (pick n begun q.next) operation.Sub q.left q.right) (operated n g begun (q.next + 1) (λ x. unscaling (shift_of bytes) bytes x (pick n begun q.next)))) ≤ goal_arguments g
       go true = operated_arguments g begun q.next (λ x. Operate x operation.Sub q.left q.right) (λ x. refl)
       go false = omega (arith, operated_arguments g begun (q.next + 1) (λ x. unscaling (shift_of bytes) bytes x (pick n begun q.next)) (λ x. unscaling_none (shift_of bytes) bytes x (pick n begun q.next)))
 
@@ -221,7 +221,7 @@ module _ (n : Names) where
   pub left_memory_arguments : (c : declared-change.Change) (q : PlaceLaid) (g : Goal) → made_arguments (left_memory c q g) ≤ goal_arguments g
   left_memory_arguments c q g =
       let old = target g q.next in let free = left_free (use_of g) q.next in let own = behind_move (takes_more c (unit.Constant 1)) free in
-      let last = before (Store (changed_element c) q.location (unit.Name own)) (follow g old) in
+      let last = instruction_before (Store (changed_element c) q.location (unit.Name own)) (follow g old) in
       omega (arith, changed_arguments c own free free (unit.Name old) (unit.Constant 1) last, follow_arguments g old)
 
   pub object_arguments : (o : declared-object.Object) (t : ℕ) (g : Goal) → made_arguments (object_address n o t g) ≤ goal_arguments g

@@ -16,7 +16,7 @@ use Rattle.word_base.specs.declared.operation.Operation.TheVariants as operation
 use Rattle.graph_core.specs.Graphs as unit
 use Rattle.graph_core.specs.Graphs.{Operand, Instruction, Operate, Truncate, Same, Block, Jump}
 use Rattle.graph_core.specs.Validity.{arguments_in}
-use Rattle.graph_build_names.specs.Conversions.{word_of, keeps_bits, is_kept_constant}
+use Rattle.graph_build_names.specs.Conversions.{unsigned_bits, keeps_bits, is_kept_constant}
 use Rattle.graph_build_names.specs.Operands.{held, operand_at}
 use Rattle.graph_build_layout.specs.declared.laid.Use.TheVariants.{Anywhere, Nothing, Tested}
 use Rattle.graph_build_names.specs.Names.{Names, scalar_named, pick}
@@ -24,7 +24,7 @@ use Rattle.graph_build_names.specs.Writes.{writes, writes_any, is_moved, is_loca
 use Rattle.graph_build_layout.specs.Laid.{Pair, PlaceLaid, pair, behind_move, behind_own, use_for}
 use Rattle.graph_build_layout.specs.Layout.{laid, place_laid, passed_laid}
 use Rattle.graph_build_steps.specs.Rules.{element_of, truncation_to, callee_for, steps_by}
-use Rattle.graph_build_steps.specs.Drafts.{Made, Goal, To, Unused, Either, use_of, ending, leaf, label_of, closed, forked, valued, used, operated, move_if, hold_location, held_location, stored, noted, called_by}
+use Rattle.graph_build_steps.specs.Drafts.{Made, Goal, To, Unused, Either, use_of, ending, leaf, label_of, with_inner_block, forked, valued, used, operated, move_if, hold_location, held_location, stored, noted, called_by}
 use Rattle.graph_build_steps.specs.Drafts as drafts
 use Rattle.graph_build_steps.specs.declared.site.Two as declared-two
 use Rattle.graph_build_steps.specs.declared.site.Two.TheVariants as two
@@ -91,11 +91,11 @@ module _ (n : Names) (place top : ℕ) where
   not_arguments e h t (Unused m) = one_arguments e h t (Unused m) (λ x. if is_pointer (type_of n.results e) then Same x (laid n e Anywhere t).value (drafts.zero) else Operate x operation.Sltu (laid n e Anywhere t).value (unit.Constant 1)) (λ x. not_none (is_pointer (type_of n.results e)) (laid n e Anywhere t).value x)
 
   both_arguments : (a b : RvalueTree) → PassesFew a → PassesFew b → (g : Goal) (t at later one_a other_a : ℕ) →
-      made_arguments (code n place top a at (Either one_a other_a (closed place (code n place top b later (Either (forked place top g t).one (forked place top g t).other (forked place top g t).inner))))) + 2 ≤ goal_arguments g + (nodes a + nodes b)
+      made_arguments (code n place top a at (Either one_a other_a (with_inner_block place (code n place top b later (Either (forked place top g t).one (forked place top g t).other (forked place top g t).inner))))) + 2 ≤ goal_arguments g + (nodes a + nodes b)
   both_arguments a b ha hb g t at later one_a other_a =
       let way = forked place top g t in
       let m = code n place top b later (Either way.one way.other way.inner) in
-      omega (arith, ha at (Either one_a other_a (closed place m)), closed_arguments place m, hb later (Either way.one way.other way.inner), forked_arguments place top g t)
+      omega (arith, ha at (Either one_a other_a (with_inner_block place m)), closed_arguments place m, hb later (Either way.one way.other way.inner), forked_arguments place top g t)
 
   arm_arguments : (void : Bool) (e : RvalueTree) → PassesFew e → (t at : ℕ) (m : Made) → made_arguments (code n place top e at (arm_goal void t m)) + 1 ≤ made_arguments m + nodes e
   arm_arguments true e h t at m = h at (Unused m)
@@ -106,11 +106,11 @@ module _ (n : Names) (place top : ℕ) where
       let void = is_void (type_of n.results a) in let at = behind_move (not void) t in
       let at_a = pick n at (laid n c Tested at).top in let at_b = pick n at (laid n a (arm_use void t) at_a).top in
       let m = leaf g (arm_value void t) in
-      let join = ending (Jump (label_of top m)) (closed place m) in
+      let join = ending (Jump (label_of top m)) (with_inner_block place m) in
       let y = code n place top b at_b (arm_goal void t join) in
-      let join_a = ending (Jump (label_of top m)) (closed place y) in
+      let join_a = ending (Jump (label_of top m)) (with_inner_block place y) in
       let x = code n place top a at_a (arm_goal void t join_a) in
-      omega (arith, hc at (Either (label_of top x) (label_of top y) (closed place x)), closed_arguments place x, arm_arguments void a ha t at_a join_a, closed_arguments place y, arm_arguments void b hb t at_b join, closed_arguments place m, leaf_arguments g (arm_value void t))
+      omega (arith, hc at (Either (label_of top x) (label_of top y) (with_inner_block place x)), closed_arguments place x, arm_arguments void a ha t at_a join_a, closed_arguments place y, arm_arguments void b hb t at_b join, closed_arguments place m, leaf_arguments g (arm_value void t))
 
   assigned_arguments : (g : Goal) (q : PlaceLaid) (moved : Bool) (s : Scalar) (e : RvalueTree) → PassesFew e → (t : ℕ) (a : Operand) → made_arguments (code n place top e t (assigned_memory g q moved (element_of s) a)) + 1 ≤ goal_arguments g + nodes e
   assigned_arguments (To (Some x) m) q moved s e h t a = omega (arith, h t (To (Some x) (stored (element_of s) (held_location moved q.next q.location) a (To (Some x) m))), stored_arguments (element_of s) (held_location moved q.next q.location) a (To (Some x) m))
@@ -170,7 +170,7 @@ module _ (n : Names) (place top : ℕ) where
 
   mutual
     pub code_arguments : (e : RvalueTree) → PassesFew e
-    code_arguments (Constant z ty) t g = omega (arith, leaf_arguments g (unit.Constant (word_of z)))
+    code_arguments (Constant z ty) t g = omega (arith, leaf_arguments g (unit.Constant (unsigned_bits z)))
     code_arguments Null t g = omega (arith, leaf_arguments g (drafts.zero))
     code_arguments (Load s l) t g = load_arguments s l (place_arguments l) t g (scalar_named n l)
     code_arguments (Decay l) t g = (place_arguments l).address t g

@@ -3,7 +3,7 @@ use Rattle.std.proofs.Common.{◌≡◌, ℕ, zero, suc, ◌+◌, ◌≤◌, ◌
 use Rattle.std.specs.Prelude.{nat_lt}
 use Rattle.std.proofs.lemmas.List.{append_assoc}
 use Rattle.c_tree.specs.Programs.{TypedFunctionTree}
-use Rattle.c_places.specs.Places.{Place, places_of_function, places_of_functions, count_before, number_at}
+use Rattle.c_places.specs.Places.{Place, places_of_function, places_of_functions, count_before, place_number_at}
 use Rattle.base_laws.proofs.Numbers.{less as is_before, not_before}
 use Rattle.base_laws.proofs.Options.{none_is, some_same}
 
@@ -67,7 +67,7 @@ split_at (x ∷ all) zero q e = record { before = []; behind = all; is = ap (λ 
 split_at (x ∷ all) (suc k) q e = let s = split_at all k q e in record { before = x ∷ s.before; behind = s.behind; is = ap (λ (l : List Place). x ∷ l) s.is; many = ap suc s.many }
 
 -- The places of a program are numbered from 1.
-pub numbered_in : (all : List Place) → AllAscend all → (k : ℕ) (q : Place) → slice_get all k ≡ Some q → number_at all q.spot.at ≡ k + 1
+pub numbered_in : (all : List Place) → AllAscend all → (k : ℕ) (q : Place) → slice_get all k ≡ Some q → place_number_at all q.spot.at ≡ k + 1
 numbered_in all h k q e =
     let s = split_at all k q e in
     let c = counted_all s.before s.behind q (subst AllAscend s.is h) in
@@ -111,6 +111,6 @@ got_after (x ∷ xs) ys k q e = subst (λ j. slice_get (x ∷ (xs ++ ys)) j ≡ 
     one = omega arith
 
 -- The place that stands in a function behind so many of its places has the number behind theirs.
-pub numbered_within : (all own : List Place) → AllAscend all → (w : Among' all own) → (k : ℕ) (q : Place) → slice_get own k ≡ Some q → number_at all q.spot.at ≡ length w.before + k + 1
+pub numbered_within : (all own : List Place) → AllAscend all → (w : Among' all own) → (k : ℕ) (q : Place) → slice_get own k ≡ Some q → place_number_at all q.spot.at ≡ length w.before + k + 1
 numbered_within all own h w k q e =
     numbered_in all h (length w.before + k) q (subst (λ (l : List Place). slice_get l (length w.before + k) ≡ Some q) (sym w.is) (got_after w.before (own ++ w.behind) k q (got_front own w.behind k q e)))

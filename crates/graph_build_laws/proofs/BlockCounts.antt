@@ -10,7 +10,7 @@ use Rattle.c_tree.specs.TypedStatements.{InitialTree, Zero, Scalar as scalar-ini
 use Rattle.c_type_rules.specs.Integers.{scalar_size}
 use Rattle.c_type_laws.specs.Nodes.{nodes, element_nodes, initial_nodes, declared_nodes, start_nodes, option_nodes, step_nodes, statement_nodes, statements_nodes}
 use Rattle.c_flow.specs.declared.edge.Ways.{Ways}
-use Rattle.c_flow.specs.Flow.{start, start_of_all, start_of_declarators, round_of, within_loop, within_switch, before as with_rest}
+use Rattle.c_flow.specs.Flow.{start_place, start_of_all, start_of_declarators, round_of, within_loop, within_switch, ways_before as with_rest}
 use Rattle.graph_core.specs.Graphs as unit
 use Rattle.graph_core.specs.Graphs.{Operand, Automatic, Store, CopyWords}
 use Rattle.graph_build_layout.specs.declared.laid.Use.TheVariants.{Anywhere, Tested}
@@ -18,7 +18,7 @@ use Rattle.graph_build_names.specs.Inner.{inner}
 use Rattle.graph_build_names.specs.Names.{scalar_of, object_of, pick}
 use Rattle.graph_build_layout.specs.Layout.{laid}
 use Rattle.graph_build_steps.specs.Rules.{element_of}
-use Rattle.graph_build_steps.specs.Drafts.{Made, Goal, To, Unused, Either, before, ending, note}
+use Rattle.graph_build_steps.specs.Drafts.{Made, Goal, To, Unused, Either, instruction_before, ending, note}
 use Rattle.graph_build_steps.specs.Steps.{or_zero}
 use Rattle.graph_build_code.specs.Code.{code}
 use Rattle.graph_build_statements.specs.Coding.{Coding, Part, place_of, begun, going, label_for, with_end, placed_at, coded}
@@ -42,7 +42,7 @@ case_blocks (default rest) = case_blocks rest
 cleared_same : (object bytes covered : ℕ) (m : Made) → length (cleared object bytes covered m).inner ≡ length m.inner
 cleared_same object bytes covered m = go (nat_le (words_of bytes) covered)
   where
-    go : (b : Bool) → length (if b then m else before (unit.Zero object (words_of bytes)) m).inner ≡ length m.inner
+    go : (b : Bool) → length (if b then m else instruction_before (unit.Zero object (words_of bytes)) m).inner ≡ length m.inner
     go true = refl
     go false = refl
 
@@ -79,17 +79,17 @@ module _ (c : Coding) where
   elements_blocks at s object index (e ∷ more) t m =
       let r = laid c.names (bare e) Anywhere t in
       let rest = store_elements c at s object (index + 1) more (pick c.names t r.top) m in
-      omega (arith, of_code at (bare e) t (To None (before (Store (element_of s) (Automatic object (index * scalar_size s)) r.value) rest)), bare_most e, elements_blocks at s object (index + 1) more (pick c.names t r.top) m)
+      omega (arith, of_code at (bare e) t (To None (instruction_before (Store (element_of s) (Automatic object (index * scalar_size s)) r.value) rest)), bare_most e, elements_blocks at s object (index + 1) more (pick c.names t r.top) m)
 
   single_blocks : (at object : ℕ) (s : Scalar) (i : InitialTree) (t : ℕ) (m : Made) → length (declare_single c at object s i t m).inner ≤ length m.inner + 3 * initial_nodes i
   single_blocks at object s Zero t m = omega arith
-  single_blocks at object s (scalar-initial e) t m = omega (arith, of_code at e (begun c t) (To None (before (Store (element_of s) (Automatic object 0) (laid c.names e Anywhere (begun c t)).value) m)), inner_most e false)
+  single_blocks at object s (scalar-initial e) t m = omega (arith, of_code at e (begun c t) (To None (instruction_before (Store (element_of s) (Automatic object 0) (laid c.names e Anywhere (begun c t)).value) m)), inner_most e false)
   single_blocks at object s (Elements all) t m = omega (arith, cleared_same object (scalar_size s) 0 m)
   single_blocks at object s (Literal k) t m = omega (arith, cleared_same object (scalar_size s) 0 m)
 
   array_blocks : (at object : ℕ) (s : Scalar) (bytes : ℕ) (i : InitialTree) (t : ℕ) (m : Made) → length (declare_array c at object s bytes i t m).inner ≤ length m.inner + 3 * initial_nodes i
   array_blocks at object s bytes (Elements all) t m = omega (arith, cleared_same object bytes 0 (store_elements c at s object 0 all (begun c t) m), elements_blocks at s object 0 all (begun c t) m)
-  array_blocks at object s bytes (Literal k) t m = omega (arith, cleared_same object bytes (copied_words c k bytes) (before (CopyWords object k (copied_words c k bytes)) m))
+  array_blocks at object s bytes (Literal k) t m = omega (arith, cleared_same object bytes (copied_words c k bytes) (instruction_before (CopyWords object k (copied_words c k bytes)) m))
   array_blocks at object s bytes Zero t m = omega (arith, cleared_same object bytes 0 m)
   array_blocks at object s bytes (scalar-initial e) t m = omega (arith, cleared_same object bytes 0 m)
 
@@ -152,21 +152,21 @@ module _ (c : Coding) where
     statement_blocks (Empty spot) t w part = omega (arith, going_blocks spot.at w.next part)
     statement_blocks (Run spot e) t w part = omega (arith, run_blocks spot.at e t w.next part)
     statement_blocks (If spot e s) t w part =
-        omega (arith, branching_blocks spot.at e t (start s w.next) w.next (add c s (reached c e Tested t) w part), statement_blocks s (reached c e Tested t) w part)
+        omega (arith, branching_blocks spot.at e t (start_place s w.next) w.next (add c s (reached c e Tested t) w part), statement_blocks s (reached c e Tested t) w part)
     statement_blocks (IfElse spot e s r) t w part =
         let behind_s = statement_reached c s (reached c e Tested t) in
         let later = add c r behind_s w part in
-        omega (arith, branching_blocks spot.at e t (start s w.next) (start r w.next) (add c s (reached c e Tested t) w later), statement_blocks s (reached c e Tested t) w later, statement_blocks r behind_s w part)
+        omega (arith, branching_blocks spot.at e t (start_place s w.next) (start_place r w.next) (add c s (reached c e Tested t) w later), statement_blocks s (reached c e Tested t) w later, statement_blocks r behind_s w part)
     statement_blocks (While spot e s) t w part =
-        omega (arith, branching_blocks spot.at e t (start s (Some spot.at)) w.next (add c s (reached c e Tested t) (within_loop spot.at w) part), statement_blocks s (reached c e Tested t) (within_loop spot.at w) part)
+        omega (arith, branching_blocks spot.at e t (start_place s (Some spot.at)) w.next (add c s (reached c e Tested t) (within_loop spot.at w) part), statement_blocks s (reached c e Tested t) (within_loop spot.at w) part)
     statement_blocks (DoWhile s spot e) t w part =
-        let later = add_branching c spot.at e (statement_reached c s t) (start s (Some spot.at)) w.next part in
-        omega (arith, statement_blocks s t (within_loop spot.at w) later, branching_blocks spot.at e (statement_reached c s t) (start s (Some spot.at)) w.next part)
+        let later = add_branching c spot.at e (statement_reached c s t) (start_place s (Some spot.at)) w.next part in
+        omega (arith, statement_blocks s t (within_loop spot.at w) later, branching_blocks spot.at e (statement_reached c s t) (start_place s (Some spot.at)) w.next part)
     statement_blocks (For begin spot e step s) t w part =
         let behind_head = condition_reached c e (start_reached c begin t) in
         let body = add c s behind_head (within_loop (round_of step spot.at) w) part in
         let later = add_step c step (statement_reached c s behind_head) spot.at body in
-        omega (arith, head_blocks begin t spot.at e (start s (Some (round_of step spot.at))) w.next later, round_blocks step (statement_reached c s behind_head) spot.at body, statement_blocks s behind_head (within_loop (round_of step spot.at) w) part)
+        omega (arith, head_blocks begin t spot.at e (start_place s (Some (round_of step spot.at))) w.next later, round_blocks step (statement_reached c s behind_head) spot.at body, statement_blocks s behind_head (within_loop (round_of step spot.at) w) part)
     statement_blocks (Switch spot e all) t w part =
         omega (arith, switch_blocks spot.at e all t w.next (add_all c all (reached c e Anywhere t) (within_switch w) part), statements_blocks all (reached c e Anywhere t) (within_switch w) part)
     statement_blocks (Break spot) t w part = omega (arith, going_blocks spot.at w.by_break part)

@@ -15,7 +15,7 @@ use Rattle.c_tree.specs.TypedStatements as statement
 use Rattle.c_tree.specs.TypedStatements.{InitialTree, Zero, Scalar as scalar-initial, Elements, Literal, DeclaredTree, TypedStartTree, Nothing, Value, Declares, StepTree, TypedStatementTree, Block, Declaration, Empty, Run, If, IfElse, While, DoWhile, For, Switch, Break, Continue, Return, TypedStatementTrees, case, default}
 use Rattle.c_tree.specs.Programs.{AutomaticTree, LiteralTree, TypedFunctionTree}
 use Rattle.c_places.specs.Memory.{keeps, kept_values, kept_initial, kept_declared, kept_start, kept_option, kept_step, kept_by, kept_by_all}
-use Rattle.c_type_rules.specs.Types.{loaded}
+use Rattle.c_type_rules.specs.Types.{loaded_type}
 use Rattle.c_type_laws.specs.Kind.{Kind, Wrong, NullPointer, Of}
 use Rattle.c_type_laws.specs.Kinds.{is_of, is_typed, is_scalar}
 use Rattle.c_type_laws.specs.Expressions.{kind_of}
@@ -55,13 +55,13 @@ module _ (x : Setting) (f : TypedFunctionTree) (have : HasHomes x.program f x.un
   elements_named : (s : Scalar) (es : List RvalueTree) (ks : List ℕ) → are_elements x.program f s es ≡ true → M (kept_values es ks) → ElementsName x es
   elements_named s [] ks h m = tt
   elements_named s (e ∷ more) ks h m =
-      let b = two_true (is_of (K e) (loaded s)) (are_elements x.program f s more) h in
-      (named_by e ks (typed_of (K e) (loaded s) b.0) (values_front all more (keeps false e ks) m), elements_named s more (keeps false e ks) b.1 m)
+      let b = two_true (is_of (K e) (loaded_type s)) (are_elements x.program f s more) h in
+      (named_by e ks (typed_of (K e) (loaded_type s) b.0) (values_front all more (keeps false e ks) m), elements_named s more (keeps false e ks) b.1 m)
 
   -- what a well-typed declarator writes names what is there,
   initial_named : (of : ObjectType) (i : InitialTree) (ks : List ℕ) → initialises x.program f of i ≡ true → M (kept_initial i ks) → InitialNames x i
   initial_named of Zero ks h m = tt
-  initial_named (of-object.Scalar s) (scalar-initial e) ks h m = named_by e ks (typed_of (K e) (loaded s) h) m
+  initial_named (of-object.Scalar s) (scalar-initial e) ks h m = named_by e ks (typed_of (K e) (loaded_type s) h) m
   initial_named (of-object.Array s k) (scalar-initial e) ks h m = cc
   initial_named (of-object.Scalar s) (Elements es) ks h m = cc
   initial_named (of-object.Array s k) (Elements es) ks h m = elements_named s es ks (two_true (nat_le (length es) k) (are_elements x.program f s es) h).1 m

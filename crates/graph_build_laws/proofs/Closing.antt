@@ -5,7 +5,7 @@ use Rattle.c_tree.specs.TypedExpressions.{RvalueTree}
 use Rattle.c_tree.specs.TypedStatements as statement
 use Rattle.c_tree.specs.TypedStatements.{DeclaredTree, TypedStartTree, Nothing, Value, Declares, StepTree, TypedStatementTree, Block, Declaration, Empty, Run, If, IfElse, While, DoWhile, For, Switch, Break, Continue, Return, TypedStatementTrees, case, default}
 use Rattle.c_flow.specs.declared.edge.Ways.{Ways}
-use Rattle.c_flow.specs.Flow.{start, round_of, within_loop, within_switch, before as with_rest}
+use Rattle.c_flow.specs.Flow.{start_place, round_of, within_loop, within_switch, ways_before as with_rest}
 use Rattle.graph_build_layout.specs.declared.laid.Use.TheVariants.{Anywhere, Tested}
 use Rattle.graph_build_names.specs.Names.{scalar_of}
 use Rattle.graph_build_statements.specs.Coding.{Coding, Part}
@@ -52,13 +52,13 @@ module _ (k : Activity) (c : Coding) where
         let n = reached c e Tested t in
         let m = statement_reached c s n in statement_back r m w part (statement_back s n w (add c r m w part) h.1)
     statement_back (While spot e s) t w part h = statement_back s (reached c e Tested t) (within_loop spot.at w) part h.1
-    statement_back (DoWhile s spot e) t w part h = (statement_back s t (within_loop spot.at w) (add_branching c spot.at e (statement_reached c s t) (start s (Some spot.at)) w.next part) h).1
+    statement_back (DoWhile s spot e) t w part h = (statement_back s t (within_loop spot.at w) (add_branching c spot.at e (statement_reached c s t) (start_place s (Some spot.at)) w.next part) h).1
     statement_back (For begin spot e step s) t w part h =
         let n = condition_reached c e (start_reached c begin t) in
         let ways = within_loop (round_of step spot.at) w in
         let body = add c s n ways part in
         let later = add_step c step (statement_reached c s n) spot.at body in
-        statement_back s n ways part (step_back step (statement_reached c s n) spot.at body (head_back begin spot e t (start s (Some (round_of step spot.at))) w.next later h))
+        statement_back s n ways part (step_back step (statement_reached c s n) spot.at body (head_back begin spot e t (start_place s (Some (round_of step spot.at))) w.next later h))
     statement_back (Switch spot e all) t w part h = all_back all (reached c e Anywhere t) (within_switch w) part h.1
     statement_back (Break spot) t w part h = h.1
     statement_back (Continue spot) t w part h = h.1

@@ -21,7 +21,7 @@ use Rattle.graph_build_layout.specs.declared.laid.Use.TheVariants.{Anywhere}
 use Rattle.graph_build_names.specs.Names.{pick, scalar_of, object_of}
 use Rattle.graph_build_layout.specs.Layout.{laid}
 use Rattle.graph_build_steps.specs.Rules.{element_of}
-use Rattle.graph_build_steps.specs.Drafts.{Made, Goal, To, use_of, before, ending, note}
+use Rattle.graph_build_steps.specs.Drafts.{Made, Goal, To, use_of, instruction_before, ending, note}
 use Rattle.graph_build_steps.specs.Steps.{or_zero}
 use Rattle.graph_build_code.specs.Code.{code}
 use Rattle.graph_build_statements.specs.Coding.{Coding, Part, place_of, begun, going, with_end, placed_at, coded}
@@ -165,7 +165,7 @@ module _ (x : Setting) (places : List Place) (entry scalars top : ℕ) where
   cleared_is : (at : ℕ) (part : Part) (object bytes covered : ℕ) (m : Made) → object < length x.graph.objects → IsCode at part m → IsCode at part (cleared object bytes covered m)
   cleared_is at part object bytes covered m lt k = go (nat_le (words_of bytes) covered)
     where
-      go : (b : Bool) → IsCode at part (if b then m else before (unit.Zero object (words_of bytes)) m)
+      go : (b : Bool) → IsCode at part (if b then m else instruction_before (unit.Zero object (words_of bytes)) m)
       go true = k
       go false = before_is x (Here at part) (unit.Zero object (words_of bytes)) m lt k
 
@@ -188,7 +188,7 @@ module _ (x : Setting) (places : List Place) (entry scalars top : ℕ) where
       let rest = store_elements c at s object (index + 1) more (pick (n x) t r.top) m in
       let named = bare_names x e names.0 in
       let small : r.top ≤ most x = omega (arith, top_is) in
-      code_at at part (bare e) named t (To None (before (Store (element_of s) (Automatic object (index * scalar_size s)) r.value) rest)) small (
+      code_at at part (bare e) named t (To None (instruction_before (Store (element_of s) (Automatic object (index * scalar_size s)) r.value) rest)) small (
         tt,
         before_is x (Here at part) (Store (element_of s) (Automatic object (index * scalar_size s)) r.value) rest (in_object o object index count s is element many (omega (arith, le)), value_stands x (bare e) named Anywhere t tt small)
             (elements_are at part o s object (index + 1) count more (pick (n x) t r.top) m is element many (omega (arith, le)) names.1 (omega (arith, top_is)) k),
@@ -198,7 +198,7 @@ module _ (x : Setting) (places : List Place) (entry scalars top : ℕ) where
   single_is at part o object s Zero t m is names le k = before_is x (Here at part) (Store (element_of s) (Automatic object 0) (unit.Constant 0)) m (at_beginning o object is, tt) k
   single_is at part o object s (scalar-initial e) t m is names le k =
       let r = laid (n x) e Anywhere (begun c t) in
-      coded_at at part e names t (To None (before (Store (element_of s) (Automatic object 0) r.value) m)) le
+      coded_at at part e names t (To None (instruction_before (Store (element_of s) (Automatic object 0) r.value) m)) le
       (tt, before_is x (Here at part) (Store (element_of s) (Automatic object 0) r.value) m (at_beginning o object is, value_stands x e names Anywhere (begun c t) tt (omega (arith, le))) k)
   single_is at part o object s (Elements all) t m is names le k = cleared_is at part object (scalar_size s) 0 m (slice_get_within x.graph.objects object o is) k
   single_is at part o object s (Literal j) t m is names le k = cleared_is at part object (scalar_size s) 0 m (slice_get_within x.graph.objects object o is) k
@@ -210,7 +210,7 @@ module _ (x : Setting) (places : List Place) (entry scalars top : ℕ) where
       cleared_is at part object bytes 0 rest (slice_get_within x.graph.objects object o is) (elements_are at part o s object 0 count all (begun c t) m is element many (omega (arith, fits)) names (omega (arith, le)) k)
   array_is at part o object s count bytes (Literal j) t m is element many names fits le k =
       let within = slice_get_within x.graph.objects object o is in
-      let rest = before (CopyWords object j (copied_words c j bytes)) m in
+      let rest = instruction_before (CopyWords object j (copied_words c j bytes)) m in
       cleared_is at part object bytes (copied_words c j bytes) rest within (before_is x (Here at part) (CopyWords object j (copied_words c j bytes)) m (within, fits) k)
   array_is at part o object s count bytes Zero t m is element many names fits le k = cleared_is at part object bytes 0 m (slice_get_within x.graph.objects object o is) k
   array_is at part o object s count bytes (scalar-initial e) t m is element many names fits le k = cleared_is at part object bytes 0 m (slice_get_within x.graph.objects object o is) k
@@ -220,7 +220,7 @@ module _ (x : Setting) (places : List Place) (entry scalars top : ℕ) where
   kept_is at part (of-object.Scalar s) o object i t m is element many names fits le k = single_is at part o object s i t m is names le k
   kept_is at part (of-object.Array s count) o object i t m is element many names fits le k = array_is at part o object s count (scalar_size s * count) i t m is element many names fits le k
 
-  moved_note : (at : ℕ) (part : Part) (y : ℕ) (m : Made) → y < length x.graph.scalars → IsCode at part m → IsCode at part (before (unit.Move y (unit.Constant 0)) (note y m))
+  moved_note : (at : ℕ) (part : Part) (y : ℕ) (m : Made) → y < length x.graph.scalars → IsCode at part m → IsCode at part (instruction_before (unit.Move y (unit.Constant 0)) (note y m))
   moved_note at part y m lt k = let few = x.few in before_is x (Here at part) (unit.Move y (unit.Constant 0)) (note y m) (omega (arith, lt, few), tt) (note_is x (Here at part) y m lt k)
 
   scalar_is : (at : ℕ) (part : Part) (y : ℕ) (i : InitialTree) (t : ℕ) (m : Made) → y < length x.graph.scalars → InitialNames x i → initial_reached c (Some y) i t ≤ most x → IsCode at part m → IsCode at part (declare_scalar c at y i t m)

@@ -10,7 +10,7 @@ use Rattle.graph_core.specs.Graphs.{Instruction, Marker, Note, Move, Operate, Tr
 use Rattle.graph_core.specs.Uses.{targets_of}
 use Rattle.graph_core.specs.Paths.{Among, front, behind}
 use Rattle.graph_core.specs.Validity.{KeepsPlace, IsKept, HasPlace, place_behind}
-use Rattle.graph_build_steps.specs.Drafts.{Made, closed, label_of}
+use Rattle.graph_build_steps.specs.Drafts.{Made, with_inner_block, label_of}
 use Rattle.graph_build_statements.specs.Coding.{Coding, Part, place_of, block_of}
 use Rattle.graph_build.specs.Units.{block_count, function_coding, function_part, graph_of}
 use Rattle.graph_build_laws.specs.Passing.{Grows, IsPassing}
@@ -112,10 +112,10 @@ module _ (blocks : List Block) where
     pub grown_stand : (xs ys : List Block) → Grows xs ys → StandIn blocks top ys → StandIn blocks top xs
     grown_stand xs ys h st k b e = st k b (subst (λ (zs : List Block). slice_get zs k ≡ Some b) (sym h.1) (got_before xs h.0 k b e))
 
-    closed_stand : (place : ℕ) (m : Made) → StandIn blocks top (closed place m) → StandIn blocks top m.inner
+    closed_stand : (place : ℕ) (m : Made) → StandIn blocks top (with_inner_block place m) → StandIn blocks top m.inner
     closed_stand place m st k b e = st k b (got_before m.inner (record { place = Some place; instructions = m.ops; end = m.end } ∷ []) k b e)
 
-    closed_label : (place : ℕ) (m : Made) → StandIn blocks top (closed place m) → KeptAt place (label_of top m)
+    closed_label : (place : ℕ) (m : Made) → StandIn blocks top (with_inner_block place m) → KeptAt place (label_of top m)
     closed_label place m st =
         let it : Block = record { place = Some place; instructions = m.ops; end = m.end } in
         let there : slice_get blocks (label_of top m) ≡ Some it = st (length m.inner) it (got_next m.inner it) in

@@ -9,7 +9,7 @@ use Rattle.c_tree.specs.declared.object_type.ObjectType.TheVariants as of-object
 use Rattle.c_tree.specs.Programs.{AutomaticTree, TypedFunctionTree, ProgramTree}
 use Rattle.c_places.specs.Places.{Place, parameters_of}
 use Rattle.c_flow.specs.Flow.{start_of_all, ways_of_body}
-use Rattle.c_meaning_values.specs.Types.{element_of, count_of}
+use Rattle.c_meaning_values.specs.Types.{element_scalar, value_count}
 use Rattle.graph_core.specs.declared.graph.MemoryObject.{MemoryObject}
 use Rattle.graph_core.specs.Graphs as unit
 use Rattle.graph_core.specs.Graphs.{Graph, Marker, Binding}
@@ -57,20 +57,20 @@ mapped_alike n [] = refl
 mapped_alike n (x ∷ xs) = ap (λ b. b ∷ map (binding_of n) xs) (bound_alike n x) ∙ ap (λ l. bound_to n x ∷ l) (mapped_alike n xs)
 
 -- an object's elements by its type
-elements_alike : (of : ObjectType) → object_element of ≡ rule.element_of (element_of of)
+elements_alike : (of : ObjectType) → object_element of ≡ rule.element_of (element_scalar of)
 elements_alike (of-object.Scalar s) = refl
 elements_alike (of-object.Array s n) = refl
 
-counts_alike : (of : ObjectType) → object_count of ≡ count_of of
+counts_alike : (of : ObjectType) → object_count of ≡ value_count of
 counts_alike (of-object.Scalar s) = refl
 counts_alike (of-object.Array s n) = refl
 
 -- scalars by their numbers
-single_at : (all : List AutomaticTree) → are_single all ≡ true → (i : ℕ) (a : AutomaticTree) → slice_get all i ≡ Some a → count_of a.of ≡ 1
+single_at : (all : List AutomaticTree) → are_single all ≡ true → (i : ℕ) (a : AutomaticTree) → slice_get all i ≡ Some a → value_count a.of ≡ 1
 single_at [] h i a e = cc
-single_at (c ∷ more) h zero a e = subst (λ z. count_of z.of ≡ 1) (some_same e) (by c.of (two_true (is_single c.of) (are_single more) h).0)
+single_at (c ∷ more) h zero a e = subst (λ z. value_count z.of ≡ 1) (some_same e) (by c.of (two_true (is_single c.of) (are_single more) h).0)
   where
-    by : (of : ObjectType) → is_single of ≡ true → count_of of ≡ 1
+    by : (of : ObjectType) → is_single of ≡ true → value_count of ≡ 1
     by (of-object.Scalar s) h = refl
     by (of-object.Array s n) h = cc
 single_at (c ∷ more) h (suc i) a e = single_at more (two_true (is_single c.of) (are_single more) h).1 i a e

@@ -14,7 +14,7 @@ use Rattle.c_type_rules.specs.Integers.{object_size}
 use Rattle.c_type_rules.specs.ValueTypes.{given_by, is_void}
 use Rattle.graph_core.specs.Graphs as unit
 use Rattle.graph_core.specs.Graphs.{Operand, Instruction}
-use Rattle.graph_build_names.specs.Conversions.{word_of, is_narrow}
+use Rattle.graph_build_names.specs.Conversions.{unsigned_bits, is_narrow}
 use Rattle.graph_build_names.specs.Operands.{operand_at, held as held_operand}
 use Rattle.graph_build_layout.specs.declared.laid.Use.{Use}
 use Rattle.graph_build_layout.specs.declared.laid.Use.TheVariants.{Anywhere, In, Nothing, Tested}
@@ -202,7 +202,7 @@ module _ (n : Names) (place top scalars : ℕ) (few : NamesFew n scalars) where
 
   mutual
     pub within : (e : RvalueTree) → In' e
-    within (Constant z ty) = within_constant n place top scalars few (Constant z ty) (unit.Constant (word_of z)) refl refl (λ t g. omega arith)
+    within (Constant z ty) = within_constant n place top scalars few (Constant z ty) (unit.Constant (unsigned_bits z)) refl refl (λ t g. omega arith)
     within Null = within_constant n place top scalars few Null zero refl refl (λ t g. omega arith)
     within (Load s l) = within_load n place top scalars few s l (within_place l)
     within (Decay l) = within_decay n place top scalars few l (within_place l)

@@ -2,14 +2,14 @@
 use Rattle.std.proofs.Common.{◌≡◌, ◌⊎◌, inl, inr, ℕ, suc, ◌+◌, ◌-◌, Bool, true, false, Option, Some, None, List, [], ◌∷◌, ◌++◌, length, slice_get, refl, sym, subst, arith, if◌then◌else◌}
 use Rattle.c_tree.specs.Programs.{TypedFunctionTree, ProgramTree}
 use Rattle.c_places.specs.Flow.{reaches_end}
-use Rattle.c_places.specs.Places.{Place, stop, brought_by_body, parameters_of, entry_of, close_of, places_of_all, places_of_function, places_of_program, number_at}
+use Rattle.c_places.specs.Places.{Place, stop, brought_by_body, parameters_of, entry_of, close_of, places_of_all, places_of_function, places_of_program, place_number_at}
 use Rattle.c_flow.specs.declared.edge.Edge.{Edge}
 use Rattle.c_flow.specs.Flow.{edge, start_of_all, ways_of_body, flow_of_all, flow_of_function}
 use Rattle.graph_core.specs.declared.block.Comparison.{Comparison}
 use Rattle.graph_core.specs.Graphs.{Operand, End, Branch, Block}
 use Rattle.graph_core.specs.Uses.{targets_of}
 use Rattle.graph_core.specs.Paths.{Among, front, behind}
-use Rattle.graph_build_steps.specs.Drafts.{Made, closed, label_of}
+use Rattle.graph_build_steps.specs.Drafts.{Made, with_inner_block, label_of}
 use Rattle.graph_build_laws.specs.Passing.{Grows, IsPassing}
 use Rattle.graph_build_laws.specs.Points.{StandIn}
 use Rattle.graph_build_laws.proofs.Instances.{got_before, got_next}
@@ -54,13 +54,13 @@ module _ (blocks : List Block) (top : ℕ) (placed : (b : Block) → slice_get b
   abbrev pub StandAvoided : List Block → Type 0
   StandAvoided inner = StandIn blocks top inner → AllAvoid inner
 
-  before_closed : (p : ℕ) (m : Made) → StandIn blocks top (closed p m) → StandIn blocks top m.inner
+  before_closed : (p : ℕ) (m : Made) → StandIn blocks top (with_inner_block p m) → StandIn blocks top m.inner
   before_closed p m st k b e = st k b (got_before m.inner (record { place = Some p; instructions = m.ops; end = m.end } ∷ []) k b e)
 
   before_grown : (xs ys : List Block) → Grows xs ys → StandIn blocks top ys → StandIn blocks top xs
   before_grown xs ys g st k b e = st k b (subst (λ (zs : List Block). slice_get zs k ≡ Some b) (sym g.1) (got_before xs g.0 k b e))
 
-  closed_away : (p : ℕ) (m : Made) → StandIn blocks top (closed p m) → label_of top m ≡ 0 → ⊥
+  closed_away : (p : ℕ) (m : Made) → StandIn blocks top (with_inner_block p m) → label_of top m ≡ 0 → ⊥
   closed_away p m st e =
       let it : Block = record { place = Some p; instructions = m.ops; end = m.end } in
       clash (placed it (subst (λ l. slice_get blocks l ≡ Some it) e (st (length m.inner) it (got_next m.inner it))))
@@ -153,10 +153,10 @@ module _ (p : ProgramTree) (k : ℕ) (f : TypedFunctionTree) (is : slice_get p.f
       by (inr b) = (edge_among (0 + k) Later (flow_of_all ways f.body) e (flows_fit (0 + k) Later f.body (parameters_of f) ways body_later (record { next = next; by_break = tt; by_continue = tt })) b).1
 
   -- the block of such a place is not the first
-  pub later_block : (entry : ℕ) → entry ≡ number_at (places_of_program p) f.spot.at → (at : ℕ) → Later at → number_at (places_of_program p) at - entry ≡ 0 → ⊥
+  pub later_block : (entry : ℕ) → entry ≡ place_number_at (places_of_program p) f.spot.at → (at : ℕ) → Later at → place_number_at (places_of_program p) at - entry ≡ 0 → ⊥
   later_block entry same at (j, q, got, e) zero_is =
       let within = places_within 0 p.functions k f is in
       let here = numbered_within (places_of_program p) own ascend within (suc j) q got in
       let first = numbered_within (places_of_program p) own ascend within 0 (entry_of (0 + k) f) refl in
-      let there : number_at (places_of_program p) at ≡ length within.before + suc j + 1 = subst (λ a. number_at (places_of_program p) a ≡ length within.before + suc j + 1) e here in
+      let there : place_number_at (places_of_program p) at ≡ length within.before + suc j + 1 = subst (λ a. place_number_at (places_of_program p) a ≡ length within.before + suc j + 1) e here in
       omega (arith, there, first, same, zero_is)

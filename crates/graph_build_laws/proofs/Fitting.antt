@@ -12,8 +12,8 @@ use Rattle.c_tree.specs.TypedStatements.{InitialTree, Zero, Scalar as scalar-ini
 use Rattle.c_tree.specs.Programs.{AutomaticTree}
 use Rattle.c_places.specs.Memory.{keeps, kept_values, kept_initial, kept_declared, kept_start, kept_option, kept_step, kept_by, kept_by_all}
 use Rattle.c_places.specs.Places.{stop, brought, brought_by_start, places_of_head, places_of_step, places_of, places_of_all}
-use Rattle.c_flow.specs.Flow.{start}
-use Rattle.c_type_rules.specs.Types.{loaded}
+use Rattle.c_flow.specs.Flow.{start_place}
+use Rattle.c_type_rules.specs.Types.{loaded_type}
 use Rattle.c_type_laws.specs.Kind.{Kind, Wrong, NullPointer, Of}
 use Rattle.c_type_laws.specs.Kinds.{is_of, is_typed, is_scalar}
 use Rattle.c_type_laws.specs.Expressions.{kind_of}
@@ -95,13 +95,13 @@ module _ (k : Activity) (laid_at : (e : RvalueTree) (ks : List ℕ) → is_typed
   elements_laid : (s : Scalar) (es : List RvalueTree) (ks : List ℕ) → are_elements k.setting.program k.setting.tree s es ≡ true → M (kept_values es ks) → LaidAll k es
   elements_laid s [] ks h m = tt
   elements_laid s (e ∷ more) ks h m =
-      let b = two_true (is_of (K e) (loaded s)) (are_elements k.setting.program k.setting.tree s more) h in
-      (laid_at e ks (typed_of (K e) (loaded s) b.0) (values_front all more (keeps false e ks) m), elements_laid s more (keeps false e ks) b.1 m)
+      let b = two_true (is_of (K e) (loaded_type s)) (are_elements k.setting.program k.setting.tree s more) h in
+      (laid_at e ks (typed_of (K e) (loaded_type s) b.0) (values_front all more (keeps false e ks) m), elements_laid s more (keeps false e ks) b.1 m)
 
   -- what a well-typed declarator writes is laid out
   initial_laid : (of : ObjectType) (i : InitialTree) (ks : List ℕ) → initialises k.setting.program k.setting.tree of i ≡ true → M (kept_initial i ks) → LaidInitial k i
   initial_laid of Zero ks h m = tt
-  initial_laid (of-object.Scalar s) (scalar-initial e) ks h m = laid_at e ks (typed_of (K e) (loaded s) h) m
+  initial_laid (of-object.Scalar s) (scalar-initial e) ks h m = laid_at e ks (typed_of (K e) (loaded_type s) h) m
   initial_laid (of-object.Array s n) (scalar-initial e) ks h m = cc
   initial_laid (of-object.Scalar s) (Elements es) ks h m = cc
   initial_laid (of-object.Array s n) (Elements es) ks h m = elements_laid s es ks (two_true (nat_le (length es) n) (are_elements k.setting.program k.setting.tree s es) h).1 m
@@ -189,7 +189,7 @@ module _ (k : Activity) (laid_at : (e : RvalueTree) (ks : List ℕ) → is_typed
           laid_at e (kept_by s ks) (scalar_typed (K e) t.0) m,
           body_plain s q.0,
           fits true true s scope vs ks low t.1 q.1 le n (front all false e (kept_by s ks) m) fs,
-          way_there (start s (Some spot.at)) (start_fits number Fits s scope (Some spot.at) fs (fit_back number Fits ps own f).0),
+          way_there (start_place s (Some spot.at)) (start_fits number Fits s scope (Some spot.at) fs (fit_back number Fits ps own f).0),
         )
     fits b c (For begin spot e step s) scope vs ks low h p le n m f =
         let t = four_true (is_start k.setting.program k.setting.tree begin) (is_condition k.setting.program k.setting.tree e) (is_step k.setting.program k.setting.tree step) (S true true s) h in

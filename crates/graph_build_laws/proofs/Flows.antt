@@ -3,7 +3,7 @@ use Rattle.std.proofs.Common.{◌≡◌, ◌⊎◌, inl, inr, ℕ, zero, suc, �
 use Rattle.std.specs.Prelude.{option_map}
 use Rattle.c_tree.specs.Programs.{TypedFunctionTree, ProgramTree}
 use Rattle.c_places.specs.Flow.{reaches_end}
-use Rattle.c_places.specs.Places.{Place, stop, brought_by_body, parameters_of, entry_of, close_of, places_of_all, places_of_function, places_of_program, number_at}
+use Rattle.c_places.specs.Places.{Place, stop, brought_by_body, parameters_of, entry_of, close_of, places_of_all, places_of_function, places_of_program, place_number_at}
 use Rattle.c_flow.specs.declared.edge.Edge.{Edge}
 use Rattle.c_flow.specs.Flow.{edge, start_of_all, ways_of_body, flow_of_all, flow_of_function}
 use Rattle.graph_core.specs.Graphs.{Instruction, Marker, End, Block, Graph}
@@ -75,7 +75,7 @@ fit_from number own (x ∷ xs) j h =
     one i = omega arith
 
 module _ (p : ProgramTree) (k : ℕ) (f : TypedFunctionTree) (is : slice_get p.functions k ≡ Some f) (is_main : Bool) (ascend : AllAscend (places_of_program p)) (follows : (p q : ℕ) → Type 0)
-    (flow : (e : Edge) → Among e (flow_of_function f) → follows (number_at (places_of_program p) e.from) (number_at (places_of_program p) e.to)) (counted : length (graph_of p f is_main).blocks ≡ block_count p f is_main) where
+    (flow : (e : Edge) → Among e (flow_of_function f) → follows (place_number_at (places_of_program p) e.from) (place_number_at (places_of_program p) e.to)) (counted : length (graph_of p f is_main).blocks ≡ block_count p f is_main) where
   abbrev pub c : Coding
   c = function_coding p f is_main
 
@@ -136,9 +136,9 @@ module _ (p : ProgramTree) (k : ℕ) (f : TypedFunctionTree) (is : slice_get p.f
       let x = block_at part.placed j (place_of c q.spot.at) head in
       let m = made_among HasNone part.inner part.placed x.block unmarked.1 (got_among part.placed j x.block x.is) in
       let b = by_head x.block (place_of c q.spot.at) x.head m in
-      let there : number_at (places_of_program p) q.spot.at ≡ length within.before + j + 1 = numbered_within (places_of_program p) own ascend within j q got in
-      let entry : number_at (places_of_program p) f.spot.at ≡ length within.before + 0 + 1 = numbered_within (places_of_program p) own ascend within 0 (entry_of number f) refl in
-      let index : j ≡ number_at (places_of_program p) q.spot.at - number_at (places_of_program p) f.spot.at = omega (arith, there, entry) in
+      let there : place_number_at (places_of_program p) q.spot.at ≡ length within.before + j + 1 = numbered_within (places_of_program p) own ascend within j q got in
+      let entry : place_number_at (places_of_program p) f.spot.at ≡ length within.before + 0 + 1 = numbered_within (places_of_program p) own ascend within 0 (entry_of number f) refl in
+      let index : j ≡ place_number_at (places_of_program p) q.spot.at - place_number_at (places_of_program p) f.spot.at = omega (arith, there, entry) in
       let stands : slice_get g.blocks (block_of c q.spot.at) ≡ Some x.block = subst (λ i. slice_get g.blocks i ≡ Some x.block) index (got_front part.placed (reverse part.inner) j x.block x.is) in
       subst (λ a. PlaceAt a) same (record { block = x.block; rest = b.0; at_label = stands; head_is = b.1 })
 

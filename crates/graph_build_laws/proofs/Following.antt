@@ -4,9 +4,9 @@ use Rattle.std.specs.Prelude.{◌&&◌, ◌||◌, nat_lt}
 use Rattle.places.specs.declared.flow.FlowStep.{FlowStep}
 use Rattle.places.specs.Flow.{can_go}
 use Rattle.c_tree.specs.Programs.{TypedFunctionTree, ProgramTree}
-use Rattle.c_places.specs.Places.{Place, places_of_program, number_at}
+use Rattle.c_places.specs.Places.{Place, places_of_program, place_number_at}
 use Rattle.c_flow.specs.declared.edge.Edge.{Edge}
-use Rattle.c_flow.specs.Flow.{flow_of_function, flow_of_functions, flow_of_program, numbered}
+use Rattle.c_flow.specs.Flow.{flow_of_function, flow_of_functions, flow_of_program, flow_step_of}
 use Rattle.c_type_laws.specs.Orders.{ascends, ascends_behind}
 use Rattle.c_type_laws.specs.Laws.{IsWellFormed}
 use Rattle.graph_core.specs.Graphs.{Graph, UnitForm}
@@ -60,7 +60,7 @@ in_program [] k f at e a = absurd (none_is at)
 in_program (g ∷ all) zero f at e a = edge_front (flow_of_function g) (flow_of_functions all) e (subst (λ (h : TypedFunctionTree). Among e (flow_of_function h)) (sym (some_same at)) a)
 in_program (g ∷ all) (suc k) f at e a = edge_back (flow_of_function g) (flow_of_functions all) e (in_program all k f at e a)
 
-numbered_among : (places : List Place) (all : List Edge) (e : Edge) → Among e all → Among (numbered places e) (map (numbered places) all)
+numbered_among : (places : List Place) (all : List Edge) (e : Edge) → Among e all → Among (flow_step_of places e) (map (flow_step_of places) all)
 numbered_among places [] e a = elim a [ ]
 numbered_among places (x ∷ all) e front = front
 numbered_among places (x ∷ all) e (behind a) = behind (numbered_among places all e a)
@@ -72,8 +72,8 @@ follow_flow p u h is steps k g at =
     let places = places_of_program p in
     let ascend = all_ascend places (laws_of p h).ascend in
     let follows : ℕ → ℕ → Type 0 = λ q r. can_go u.steps q r ≡ true in
-    let flow : (e : Edge) → Among e (flow_of_function f) → follows (number_at places e.from) (number_at places e.to) =
-    λ e a. may_go u.steps (numbered places e) (steps (numbered places e) (numbered_among places (flow_of_program p) e (in_program p.functions k f x.is e a))) in
+    let flow : (e : Edge) → Among e (flow_of_function f) → follows (place_number_at places e.from) (place_number_at places e.to) =
+    λ e a. may_go u.steps (flow_step_of places e) (steps (flow_step_of places e) (numbered_among places (flow_of_program p) e (in_program p.functions k f x.is e a))) in
     subst (λ (d : Graph). FollowsFlow u d) x.same (record {
       begins = begins p k f x.is x.is_main ascend follows flow (blocks_counted p f x.is_main);
       first = first p k f x.is x.is_main ascend (blocks_counted p f x.is_main);

@@ -24,13 +24,13 @@ use Rattle.graph_build_layout.specs.declared.laid.Use.TheVariants.{Anywhere, In,
 use Rattle.graph_build_names.specs.Names.{Names, pick, object_of}
 use Rattle.graph_build_layout.specs.Laid.{Laid, Pair, PlaceLaid, behind_move}
 use Rattle.graph_build_steps.specs.Rules.{truncation_to, operation_for, move_by}
-use Rattle.graph_build_steps.specs.Drafts.{Made, Goal, To, Unused, Either, Fork, use_of, before, ending, leaf, target, follow, tested, scale, scaling, unscaling, move_if, note, noted, compare_by, compare_pointers_by, closed, arm, forked, valued, used, stored, keep_old, use_old, behind_old, left_free, called_by, renew, operated, code_scaled_pair, compared, compared_value, compared_pointers, compared_pointers_value, label_of, held_location, branch_by}
+use Rattle.graph_build_steps.specs.Drafts.{Made, Goal, To, Unused, Either, Fork, use_of, instruction_before, ending, leaf, target, follow, tested, scale, scaling, unscaling, move_if, note, noted, compare_by, compare_pointers_by, with_inner_block, arm, forked, valued, used, stored, keep_old, use_old, behind_old, left_free, called_by, renew, operated, code_scaled_pair, compared, compared_value, compared_pointers, compared_pointers_value, label_of, held_location, branch_by}
 use Rattle.graph_build_steps.specs.Drafts as drafts
 use Rattle.graph_build_steps.specs.declared.site.Two as declared-two
 use Rattle.graph_build_steps.specs.declared.site.Two.TheVariants as two
 use Rattle.graph_build_steps.specs.declared.change.Change as declared-change
 use Rattle.graph_build_steps.specs.declared.change.Change.TheVariants as change
-use Rattle.graph_build_steps.specs.Steps.{signed, finished, distance, changed, changed_element, takes_more, renewed_scalar, loaded_first, renewed_memory, left_scalar, left_memory, object_address, or_zero}
+use Rattle.graph_build_steps.specs.Steps.{signed, finished, element_distance, changed, changed_element, takes_more, renewed_scalar, loaded_first, renewed_memory, left_scalar, left_memory, object_address, or_zero}
 use Rattle.graph_build_laws.specs.Passing.{Grows, IsPassing}
 
 abbrev pub inner_of : Goal → List Block
@@ -44,7 +44,7 @@ grows_on xs ys zs a b = (a.0 ++ b.0, b.1 ∙ ap (λ (l : List Block). l ++ b.0) 
 pub grows_none : (xs : List Block) → Grows xs xs
 grows_none xs = ([], sym (append-nil xs))
 
-pub closed_grows : (place : ℕ) (m : Made) → Grows m.inner (closed place m)
+pub closed_grows : (place : ℕ) (m : Made) → Grows m.inner (with_inner_block place m)
 closed_grows place m = (record { place = Some place; instructions = m.ops; end = m.end } ∷ [], refl)
 
 module _ (place top : ℕ) (Has : Made → Type 0) (Leads : (label : ℕ) → List Block → Type 0) (Stand : List Block → Type 0) (passing : IsPassing place top Has Leads Stand) where
@@ -76,7 +76,7 @@ module _ (place top : ℕ) (Has : Made → Type 0) (Leads : (label : ℕ) → Li
   pub goals_on : (f g k : Goal) → GoalLeads f g → GoalLeads g k → GoalLeads f k
   goals_on f g k a b = (grows_on (inner_of k) (inner_of g) (inner_of f) b.0 a.0, λ h. a.1 (b.1 h))
 
-  pub before_leads : (i : Instruction) (m : Made) → is_marker i ≡ false → Before (before i m) m
+  pub before_leads : (i : Instruction) (m : Made) → is_marker i ≡ false → Before (instruction_before i m) m
   before_leads i m h = (grows_none m.inner, passing.step i m h)
 
   pub stays : (m : Made) → Before m m
@@ -124,29 +124,29 @@ module _ (place top : ℕ) (Has : Made → Type 0) (Leads : (label : ℕ) → Li
   pub scale_leads : (size : ℕ) (a : Operand) (t : ℕ) (m : Made) → Before (scale size a t m) m
   scale_leads size a t m = go (is_scaled size a)
     where
-      go : (b : Bool) → Before (if b then before (scaling (shift_of size) size t a) m else m) m
+      go : (b : Bool) → Before (if b then instruction_before (scaling (shift_of size) size t a) m else m) m
       go true = before_leads (scaling (shift_of size) size t a) m (scaling_is (shift_of size) size t a)
       go false = stays m
 
   renew_leads : (ty : IntegerType) (x t : ℕ) (i : ℕ → Instruction) (m : Made) → ((y : ℕ) → is_marker (i y) ≡ false) → Before (renew ty x t i m) m
   renew_leads ty x t i m h = go (is_narrow ty)
     where
-      go : (b : Bool) → Before (if b then before (i t) (before (Truncate x (truncation_to ty) (unit.Name t)) m) else before (i x) m) m
-      go true = leads_on _ (before (Truncate x (truncation_to ty) (unit.Name t)) m) m (before_leads (i t) _ (h t)) (before_leads (Truncate x (truncation_to ty) (unit.Name t)) m refl)
+      go : (b : Bool) → Before (if b then instruction_before (i t) (instruction_before (Truncate x (truncation_to ty) (unit.Name t)) m) else instruction_before (i x) m) m
+      go true = leads_on _ (instruction_before (Truncate x (truncation_to ty) (unit.Name t)) m) m (before_leads (i t) _ (h t)) (before_leads (Truncate x (truncation_to ty) (unit.Name t)) m refl)
       go false = before_leads (i x) m (h x)
 
   pub changed_leads : (c : declared-change.Change) (x t free : ℕ) (old by : Operand) (m : Made) → Before (changed c x t free old by m) m
   changed_leads (change.Integer o ty v) x t free old by m = renew_leads ty x t (λ y. Operate y (operation_for o v) old by) m (λ y. refl)
   changed_leads (change.Pointer d bytes) x t free old by m =
-      let next = before (Operate x (move_by d) old (scaled bytes by free)) m in leads_on _ next m (scale_leads bytes by free next) (before_leads (Operate x (move_by d) old (scaled bytes by free)) m refl)
+      let next = instruction_before (Operate x (move_by d) old (scaled bytes by free)) m in leads_on _ next m (scale_leads bytes by free next) (before_leads (Operate x (move_by d) old (scaled bytes by free)) m refl)
 
   pub stored_carries : (e : declared-element.Element) (l : Location) (a : Operand) (g : Goal) → Carried (stored e l a g) g
   stored_carries e l a (To want m) = before_leads (Store e l a) m refl
   stored_carries e l a (Unused m) = before_leads (Store e l a) m refl
   stored_carries e l a (Either one other inner) = lead_on _ (tested a one other inner) (Either one other inner) (before_leads (Store e l a) (tested a one other inner) refl) (tested_carries a one other inner)
 
-  two_leads : (i j : Instruction) (m : Made) → is_marker i ≡ false → is_marker j ≡ false → Before (before i (before j m)) m
-  two_leads i j m h k = leads_on _ (before j m) m (before_leads i (before j m) h) (before_leads j m k)
+  two_leads : (i j : Instruction) (m : Made) → is_marker i ≡ false → is_marker j ≡ false → Before (instruction_before i (instruction_before j m)) m
+  two_leads i j m h k = leads_on _ (instruction_before j m) m (before_leads i (instruction_before j m) h) (before_leads j m k)
 
   compare_leads : (o : declared-comparison.Comparison) (s : Bool) (x t : ℕ) (a b : Operand) (m : Made) → Before (compare_by o s x t a b m) m
   compare_leads comparison.Less s x t a b m = before_leads _ m refl
@@ -170,7 +170,7 @@ module _ (place top : ℕ) (Has : Made → Type 0) (Leads : (label : ℕ) → Li
   keep_leads Tested x t m = before_leads _ m refl
   keep_leads (In y) x t m = go (y == x)
     where
-      go : (b : Bool) → Before (if b then before (unit.Move t (unit.Name x)) m else before (unit.Move y (unit.Name x)) m) m
+      go : (b : Bool) → Before (if b then instruction_before (unit.Move t (unit.Name x)) m else instruction_before (unit.Move y (unit.Name x)) m) m
       go true = before_leads _ m refl
       go false = before_leads _ m refl
 
@@ -180,7 +180,7 @@ module _ (place top : ℕ) (Has : Made → Type 0) (Leads : (label : ℕ) → Li
   use_carries (Either one other inner) x t = tested_carries (unit.Name t) one other inner
   use_carries (To (Some y) k) x t = go (y == x)
     where
-      go : (b : Bool) → Before (if b then before (unit.Move x (unit.Name t)) k else k) k
+      go : (b : Bool) → Before (if b then instruction_before (unit.Move x (unit.Name t)) k else k) k
       go true = before_leads _ k refl
       go false = stays k
 
@@ -192,19 +192,19 @@ module _ (place top : ℕ) (Has : Made → Type 0) (Leads : (label : ℕ) → Li
       lead_on _ (tested (unit.Name own) one other inner) (Either one other inner) (before_leads (i (Some own)) (tested (unit.Name own) one other inner) (h (Some own))) (tested_carries (unit.Name own) one other inner)
 
   -- two arms write 1 and 0 and go on to what follows
-  arms_pass : (m : Made) (own : ℕ) → let arm0 : Made = record { ops = unit.Move own (unit.Constant 0) ∷ []; end = Jump (label_of top m); inner = closed place m } in
-      let arm1 : Made = record { ops = unit.Move own (unit.Constant 1) ∷ []; end = Jump (label_of top m); inner = closed place arm0 } in
-      Grows m.inner (closed place arm1) × (Has m → Leads (label_of top arm1) (closed place arm1) × Leads (label_of top arm0) (closed place arm1))
+  arms_pass : (m : Made) (own : ℕ) → let arm0 : Made = record { ops = unit.Move own (unit.Constant 0) ∷ []; end = Jump (label_of top m); inner = with_inner_block place m } in
+      let arm1 : Made = record { ops = unit.Move own (unit.Constant 1) ∷ []; end = Jump (label_of top m); inner = with_inner_block place arm0 } in
+      Grows m.inner (with_inner_block place arm1) × (Has m → Leads (label_of top arm1) (with_inner_block place arm1) × Leads (label_of top arm0) (with_inner_block place arm1))
   arms_pass m own =
-      let arm0 : Made = record { ops = unit.Move own (unit.Constant 0) ∷ []; end = Jump (label_of top m); inner = closed place m } in
-      let arm1 : Made = record { ops = unit.Move own (unit.Constant 1) ∷ []; end = Jump (label_of top m); inner = closed place arm0 } in (
-        grows_on m.inner (closed place m) (closed place arm1) (closed_grows place m) (grows_on (closed place m) (closed place arm0) (closed place arm1) (closed_grows place arm0) (closed_grows place arm1)),
+      let arm0 : Made = record { ops = unit.Move own (unit.Constant 0) ∷ []; end = Jump (label_of top m); inner = with_inner_block place m } in
+      let arm1 : Made = record { ops = unit.Move own (unit.Constant 1) ∷ []; end = Jump (label_of top m); inner = with_inner_block place arm0 } in (
+        grows_on m.inner (with_inner_block place m) (with_inner_block place arm1) (closed_grows place m) (grows_on (with_inner_block place m) (with_inner_block place arm0) (with_inner_block place arm1) (closed_grows place arm0) (closed_grows place arm1)),
         λ h. (
             let join = passing.close m h in
-            let has0 : Has arm0 = passing.step (unit.Move own (unit.Constant 0)) (ending (Jump (label_of top m)) (closed place m)) refl (passing.jump (label_of top m) (closed place m) join) in
-            let join1 = passing.keep arm0 (label_of top m) (closed place m) (grows_none (closed place m)) has0 join in
-            let has1 : Has arm1 = passing.step (unit.Move own (unit.Constant 1)) (ending (Jump (label_of top m)) (closed place arm0)) refl (passing.jump (label_of top m) (closed place arm0) join1) in
-            (passing.close arm1 has1, passing.keep arm1 (label_of top arm0) (closed place arm0) (grows_none (closed place arm0)) has1 (passing.close arm0 has0))),
+            let has0 : Has arm0 = passing.step (unit.Move own (unit.Constant 0)) (ending (Jump (label_of top m)) (with_inner_block place m)) refl (passing.jump (label_of top m) (with_inner_block place m) join) in
+            let join1 = passing.keep arm0 (label_of top m) (with_inner_block place m) (grows_none (with_inner_block place m)) has0 join in
+            let has1 : Has arm1 = passing.step (unit.Move own (unit.Constant 1)) (ending (Jump (label_of top m)) (with_inner_block place arm0)) refl (passing.jump (label_of top m) (with_inner_block place arm0) join1) in
+            (passing.close arm1 has1, passing.keep arm1 (label_of top arm0) (with_inner_block place arm0) (grows_none (with_inner_block place arm0)) has1 (passing.close arm0 has0))),
       )
 
   -- where a test leads
@@ -254,10 +254,10 @@ module _ (place top : ℕ) (Has : Made → Type 0) (Leads : (label : ℕ) → Li
     pointers_carries (To want m) o begun q = pointers_value_carries (To want m) o begun q
     pointers_carries (Unused m) o begun q = pointers_value_carries (Unused m) o begun q
 
-    distance_carries : (bytes : ℕ) (g : Goal) (begun : ℕ) (q : Pair) → Carried (distance n bytes g begun q) g
+    distance_carries : (bytes : ℕ) (g : Goal) (begun : ℕ) (q : Pair) → Carried (element_distance n bytes g begun q) g
     distance_carries bytes g begun q = go (bytes == 1)
       where
-        go : (b : Bool) → Carried (if b then operated n g begun q.next (λ x. Operate x operation.Sub q.left q.right) else before (Operate (pick n begun q.next) operation.Sub q.left q.right) (operated n g begun (q.next + 1) (λ x. unscaling (shift_of bytes) bytes x (pick n begun q.next)))) g
+        go : (b : Bool) → Carried (if b then operated n g begun q.next (λ x. Operate x operation.Sub q.left q.right) else instruction_before (Operate (pick n begun q.next) operation.Sub q.left q.right) (operated n g begun (q.next + 1) (λ x. unscaling (shift_of bytes) bytes x (pick n begun q.next)))) g
         go true = operated_carries g begun q.next (λ x. Operate x operation.Sub q.left q.right) (λ x. refl)
         go false =
             let next = operated n g begun (q.next + 1) (λ x. unscaling (shift_of bytes) bytes x (pick n begun q.next)) in
@@ -296,7 +296,7 @@ module _ (place top : ℕ) (Has : Made → Type 0) (Leads : (label : ℕ) → Li
     pub left_memory_carries : (c : declared-change.Change) (q : PlaceLaid) (g : Goal) → Carried (left_memory c q g) g
     left_memory_carries c q g =
         let old = target g q.next in let free = left_free (use_of g) q.next in let own = behind_move (takes_more c (unit.Constant 1)) free in
-        let last = before (Store (changed_element c) q.location (unit.Name own)) (follow g old) in
+        let last = instruction_before (Store (changed_element c) q.location (unit.Name own)) (follow g old) in
         let mid = changed c own free free (unit.Name old) (unit.Constant 1) last in
         lead_on _ mid g (before_leads (unit.Load old (changed_element c) q.location) mid refl) (lead_on mid last g (changed_leads c own free free (unit.Name old) (unit.Constant 1) last)
         (lead_on last (follow g old) g (before_leads (Store (changed_element c) q.location (unit.Name own)) (follow g old) refl) (follow_carries g old)))

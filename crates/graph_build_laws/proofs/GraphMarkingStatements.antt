@@ -10,17 +10,17 @@ use Rattle.c_tree.specs.TypedStatements.{InitialTree, Zero, Scalar as scalar-ini
 use Rattle.c_type_rules.specs.Integers.{scalar_size}
 use Rattle.c_flow.specs.declared.edge.Edge.{Edge}
 use Rattle.c_flow.specs.declared.edge.Ways.{Ways}
-use Rattle.c_flow.specs.Flow.{edge, start, start_of_all, start_of_declarators, flow_of_declarators, flow_of_start, round_of, flow_of_step, flow_out, flow_to_labels, flow_past, within_loop, within_switch, before as with_rest, flow_of, flow_of_all}
+use Rattle.c_flow.specs.Flow.{edge, start_place, start_of_all, start_of_declarators, flow_of_declarators, flow_of_start, round_of, flow_of_step, flow_out, flow_to_labels, flow_past, within_loop, within_switch, ways_before as with_rest, flow_of, flow_of_all}
 use Rattle.graph_core.specs.declared.block.Comparison.TheVariants as branch
 use Rattle.graph_core.specs.Graphs as unit
 use Rattle.graph_core.specs.Graphs.{Operand, Instruction, Marker, Automatic, Store, CopyWords}
 use Rattle.graph_core.specs.Paths.{Among, front, is_marker}
-use Rattle.graph_build_names.specs.Conversions.{word_of}
+use Rattle.graph_build_names.specs.Conversions.{unsigned_bits}
 use Rattle.graph_build_layout.specs.declared.laid.Use.TheVariants.{Anywhere, Tested}
 use Rattle.graph_build_names.specs.Names.{scalar_of, object_of, pick}
 use Rattle.graph_build_layout.specs.Layout.{laid}
 use Rattle.graph_build_steps.specs.Rules.{element_of}
-use Rattle.graph_build_steps.specs.Drafts.{Made, Goal, To, Unused, Either, before, ending, note, closed, label_of}
+use Rattle.graph_build_steps.specs.Drafts.{Made, Goal, To, Unused, Either, instruction_before, ending, note, with_inner_block, label_of}
 use Rattle.graph_build_steps.specs.Steps.{or_zero}
 use Rattle.graph_build_code.specs.Code.{code}
 use Rattle.graph_build_statements.specs.Coding.{Coding, Part, place_of, block_of, begun, going, label_for, with_end, placed_at, coded}
@@ -84,7 +84,7 @@ module _ (c : Coding) (Has : (p : ℕ) → Made → Type 0) (Leads : (p label : 
   pub steps_on : (at : ℕ) (m k l : Made) → Brings' at m k → Brings' at k l → Brings' at m l
   steps_on at m k l a b = leads_on (P at) c.top (Has (P at)) (Leads (P at)) Stand (passing (P at)) m k l a b
 
-  pub one_step : (at : ℕ) (i : Instruction) (m : Made) → is_marker i ≡ false → Brings' at (before i m) m
+  pub one_step : (at : ℕ) (i : Instruction) (m : Made) → is_marker i ≡ false → Brings' at (instruction_before i m) m
   one_step at i m h = before_leads (P at) c.top (Has (P at)) (Leads (P at)) Stand (passing (P at)) i m h
 
   pub no_step : (at : ℕ) (m : Made) → Brings' at m m
@@ -155,16 +155,16 @@ module _ (c : Coding) (Has : (p : ℕ) → Made → Type 0) (Leads : (p label : 
   cleared_leads : (at object bytes covered : ℕ) (m : Made) → Brings' at (cleared object bytes covered m) m
   cleared_leads at object bytes covered m = go (nat_le (words_of bytes) covered)
     where
-      go : (b : Bool) → Brings' at (if b then m else before (unit.Zero object (words_of bytes)) m) m
+      go : (b : Bool) → Brings' at (if b then m else instruction_before (unit.Zero object (words_of bytes)) m) m
       go true = no_step at m
       go false = one_step at (unit.Zero object (words_of bytes)) m refl
 
   abbrev code_from : (at : ℕ) → RvalueTree → (t : ℕ) → Made → Made
   code_from at e t m = code c.names (place_of c at) c.top e t (To None m)
 
-  store_leads : (at : ℕ) (i : Instruction) (e : RvalueTree) (t : ℕ) (m : Made) → is_marker i ≡ false → Brings' at (code_from at e t (before i m)) m
+  store_leads : (at : ℕ) (i : Instruction) (e : RvalueTree) (t : ℕ) (m : Made) → is_marker i ≡ false → Brings' at (code_from at e t (instruction_before i m)) m
   store_leads at i e t m h =
-      steps_on at _ (before i m) m (code_brings at e t (To None (before i m)))
+      steps_on at _ (instruction_before i m) m (code_brings at e t (To None (instruction_before i m)))
       (one_step at i m h)
 
   elements_lead : (at : ℕ) (s : Scalar) (object index : ℕ) (all : List RvalueTree) (t : ℕ) (m : Made) → Brings' at (store_elements c at s object index all t m) m
@@ -185,7 +185,7 @@ module _ (c : Coding) (Has : (p : ℕ) → Made → Type 0) (Leads : (p label : 
       let rest = store_elements c at s object 0 all (begun c t) m in
       steps_on at _ rest m (cleared_leads at object bytes 0 rest) (elements_lead at s object 0 all (begun c t) m)
   array_leads at object s bytes (Literal k) t m =
-      let rest = before (CopyWords object k (copied_words c k bytes)) m in
+      let rest = instruction_before (CopyWords object k (copied_words c k bytes)) m in
       steps_on at _ rest m (cleared_leads at object bytes (copied_words c k bytes) rest)
       (one_step at (CopyWords object k (copied_words c k bytes)) m refl)
   array_leads at object s bytes Zero t m = cleared_leads at object bytes 0 m
@@ -198,7 +198,7 @@ module _ (c : Coding) (Has : (p : ℕ) → Made → Type 0) (Leads : (p label : 
   note_leads : (at x : ℕ) (m : Made) → Brings' at (note x m) m
   note_leads at x m = one_step at (unit.Note x (unit.Is (unit.Of (unit.Name x)))) m refl
 
-  moved_note : (at x : ℕ) (m : Made) → Brings' at (before (unit.Move x (unit.Constant 0)) (note x m)) m
+  moved_note : (at x : ℕ) (m : Made) → Brings' at (instruction_before (unit.Move x (unit.Constant 0)) (note x m)) m
   moved_note at x m = steps_on at _ (note x m) m (one_step at (unit.Move x (unit.Constant 0)) (note x m) refl) (note_leads at x m)
 
   scalar_leads : (at x : ℕ) (i : InitialTree) (t : ℕ) (m : Made) → Brings' at (declare_scalar c at x i t m) m
@@ -262,10 +262,10 @@ module _ (c : Coding) (Has : (p : ℕ) → Made → Type 0) (Leads : (p label : 
       let ends = with_end c at to inner in
       let m = tests c at a rest next other ends in
       let x = tests_have at a rest next other ends l.1 k in (
-        grows_on inner ends (closed (P at) m) (end_grows at to inner) (grows_on ends m.inner (closed (P at) m) x.0 (closed_grows (P at) m)),
+        grows_on inner ends (with_inner_block (P at) m) (end_grows at to inner) (grows_on ends m.inner (with_inner_block (P at) m) x.0 (closed_grows (P at) m)),
         λ st. (
             let has = x.1 (end_stands at to inner st) in
-            (passing (P at)).branch branch.Equal a (unit.Constant (word_of z)) (label_for c to inner) (label_of c.top m) (closed (P at) m)
+            (passing (P at)).branch branch.Equal a (unit.Constant (unsigned_bits z)) (label_for c to inner) (label_of c.top m) (with_inner_block (P at) m)
             ((passing (P at)).keep m (label_for c to inner) ends x.0 has (end_leads at to inner st l.0)) ((passing (P at)).close m has)),
       )
 
@@ -292,35 +292,35 @@ module _ (c : Coding) (Has : (p : ℕ) → Made → Type 0) (Leads : (p label : 
     statement_adds (Empty spot) t w part h = going_adds spot.at w.next part h
     statement_adds (Run spot e) t w part h = run_adds spot.at e t w.next part h
     statement_adds (If spot e s) t w part h =
-        let e1 = edge spot.at (start s w.next) in let e2 = edge spot.at w.next in
+        let e1 = edge spot.at (start_place s w.next) in let e2 = edge spot.at w.next in
         let k = parts (e1 ++ e2) (flow_of w s) h in
         let l = parts e1 e2 k.0 in
         let later = add c s (reached c e Tested t) w part in
-        adds_on (add c (If spot e s) t w part) later part (branching_adds spot.at e t (start s w.next) w.next later l.0 l.1) (statement_adds s (reached c e Tested t) w part k.1)
+        adds_on (add c (If spot e s) t w part) later part (branching_adds spot.at e t (start_place s w.next) w.next later l.0 l.1) (statement_adds s (reached c e Tested t) w part k.1)
     statement_adds (IfElse spot e s r) t w part h =
-        let e1 = edge spot.at (start s w.next) in let e2 = edge spot.at (start r w.next) in
+        let e1 = edge spot.at (start_place s w.next) in let e2 = edge spot.at (start_place r w.next) in
         let k = parts (e1 ++ e2 ++ flow_of w s) (flow_of w r) h in
         let l = parts (e1 ++ e2) (flow_of w s) k.0 in
         let m = parts e1 e2 l.0 in
         let behind_s = statement_reached c s (reached c e Tested t) in
         let last = add c r behind_s w part in
         let later = add c s (reached c e Tested t) w last in
-        adds_on (add c (IfElse spot e s r) t w part) later part (branching_adds spot.at e t (start s w.next) (start r w.next) later m.0 m.1) (adds_on later last part (statement_adds s (reached c e Tested t) w last l.1) (statement_adds r behind_s w part k.1))
+        adds_on (add c (IfElse spot e s r) t w part) later part (branching_adds spot.at e t (start_place s w.next) (start_place r w.next) later m.0 m.1) (adds_on later last part (statement_adds s (reached c e Tested t) w last l.1) (statement_adds r behind_s w part k.1))
     statement_adds (While spot e s) t w part h =
-        let e1 = edge spot.at (start s (Some spot.at)) in let e2 = edge spot.at w.next in
+        let e1 = edge spot.at (start_place s (Some spot.at)) in let e2 = edge spot.at w.next in
         let k = parts (e1 ++ e2) (flow_of (within_loop spot.at w) s) h in
         let l = parts e1 e2 k.0 in
         let later = add c s (reached c e Tested t) (within_loop spot.at w) part in
-        adds_on (add c (While spot e s) t w part) later part (branching_adds spot.at e t (start s (Some spot.at)) w.next later l.0 l.1) (statement_adds s (reached c e Tested t) (within_loop spot.at w) part k.1)
+        adds_on (add c (While spot e s) t w part) later part (branching_adds spot.at e t (start_place s (Some spot.at)) w.next later l.0 l.1) (statement_adds s (reached c e Tested t) (within_loop spot.at w) part k.1)
     statement_adds (DoWhile s spot e) t w part h =
-        let e1 = edge spot.at (start s (Some spot.at)) in let e2 = edge spot.at w.next in
+        let e1 = edge spot.at (start_place s (Some spot.at)) in let e2 = edge spot.at w.next in
         let k = parts (e1 ++ e2) (flow_of (within_loop spot.at w) s) h in
         let l = parts e1 e2 k.0 in
-        let later = add_branching c spot.at e (statement_reached c s t) (start s (Some spot.at)) w.next part in
-        adds_on (add c (DoWhile s spot e) t w part) later part (statement_adds s t (within_loop spot.at w) later k.1) (branching_adds spot.at e (statement_reached c s t) (start s (Some spot.at)) w.next part l.0 l.1)
+        let later = add_branching c spot.at e (statement_reached c s t) (start_place s (Some spot.at)) w.next part in
+        adds_on (add c (DoWhile s spot e) t w part) later part (statement_adds s t (within_loop spot.at w) later k.1) (branching_adds spot.at e (statement_reached c s t) (start_place s (Some spot.at)) w.next part l.0 l.1)
     statement_adds (For begin spot e step s) t w part h =
         let round = round_of step spot.at in
-        let inside = start s (Some round) in
+        let inside = start_place s (Some round) in
         let f = flow_of (within_loop round w) s in
         let fb = flow_of_start begin spot.at in let fi = edge spot.at inside in let fo = flow_out e spot.at w.next in let fs = flow_of_step step spot.at in
         let k = parts (fb ++ fi ++ fo ++ fs) f h in

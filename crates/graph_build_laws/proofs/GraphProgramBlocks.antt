@@ -3,7 +3,7 @@ use Rattle.std.proofs.Common.{◌≡◌, ℕ, zero, suc, ◌+◌, ◌-◌, Optio
 use Rattle.std.specs.Prelude.{◌==◌}
 use Rattle.c_tree.specs.Programs.{TypedFunctionTree, ProgramTree}
 use Rattle.c_places.specs.Flow.{reaches_end}
-use Rattle.c_places.specs.Places.{Place, brought_by_body, parameters_of, places_of_function, places_of_program, number_at}
+use Rattle.c_places.specs.Places.{Place, brought_by_body, parameters_of, places_of_function, places_of_program, place_number_at}
 use Rattle.c_meaning_steps.specs.declared.event.Frame.{Frame}
 use Rattle.c_flow.specs.Flow.{start_of_all, ways_of_body}
 use Rattle.graph_core.specs.Graphs as unit
@@ -124,8 +124,8 @@ module _ (p : ProgramTree) (u : UnitForm) (f : ℕ) (tree : TypedFunctionTree) (
       let marked : slice_get (heads placed) i ≡ Some place = head_at placed i b e ∙ ap (λ l. Some (head_marker l)) shape in
       let r = place_with c f (places_of_function f tree) i place (ap (λ l. slice_get l i) (sym (function_heads c f tree main)) ∙ marked) in
       let number = place_number p f tree is ascend i r.0 r.1 in
-      let at : number_at (places_of_program p) r.0.spot.at ≡ place = r.2 in
-      let same : i ≡ place - number_at (places_of_program p) tree.spot.at = omega (arith, number, at, entry_number p f tree is ascend) in
+      let at : place_number_at (places_of_program p) r.0.spot.at ≡ place = r.2 in
+      let same : i ≡ place - place_number_at (places_of_program p) tree.spot.at = omega (arith, number, at, entry_number p f tree is ascend) in
       subst (λ j. slice_get (placed ++ reverse inner) j ≡ Some b) same (got_before placed (reverse inner) i b e)
 
   body_home : AreHome k (body_part c tree main).placed
@@ -136,7 +136,7 @@ module _ (p : ProgramTree) (u : UnitForm) (f : ℕ) (tree : TypedFunctionTree) (
   block_there i q e =
       let marked = ap (λ l. slice_get l i) (function_heads c f tree main) ∙ mark_at c f (places_of_function f tree) i q e in
       let b = block_with placed i (place_of c q.spot.at) marked in
-      let same : i ≡ number_at (places_of_program p) q.spot.at - number_at (places_of_program p) tree.spot.at = omega (arith, place_number p f tree is ascend i q e, entry_number p f tree is ascend) in
+      let same : i ≡ place_number_at (places_of_program p) q.spot.at - place_number_at (places_of_program p) tree.spot.at = omega (arith, place_number p f tree is ascend i q e, entry_number p f tree is ascend) in
       (b.0, subst (λ j. slice_get (placed ++ reverse inner) j ≡ Some b.0) same (got_before placed (reverse inner) i b.0 b.1))
 
   abbrev closing_part : Part
@@ -148,7 +148,7 @@ module _ (p : ProgramTree) (u : UnitForm) (f : ℕ) (tree : TypedFunctionTree) (
     names = names_of p tree (is_again p tree);
     program = p;
     places = places_of_program p;
-    entry = number_at (places_of_program p) tree.spot.at;
+    entry = place_number_at (places_of_program p) tree.spot.at;
     scalars = n;
     top = block_count p tree main;
   }

@@ -14,7 +14,7 @@ use Rattle.word_base.specs.declared.operation.Operation.TheVariants as operation
 use Rattle.graph_core.specs.Graphs as unit
 use Rattle.graph_core.specs.Graphs.{Operand, Instruction, Operate, Truncate, Same, Block, Jump}
 use Rattle.graph_core.specs.Validity.{IsInstruction, IsCall}
-use Rattle.graph_build_names.specs.Conversions.{word_of, keeps_bits, is_narrow, is_kept_constant}
+use Rattle.graph_build_names.specs.Conversions.{unsigned_bits, keeps_bits, is_narrow, is_kept_constant}
 use Rattle.graph_build_names.specs.Operands.{held}
 use Rattle.graph_build_names.specs.Scales.{is_scaled}
 use Rattle.graph_build_layout.specs.declared.laid.Use.{Use}
@@ -24,7 +24,7 @@ use Rattle.graph_build_names.specs.Writes.{writes, writes_any, is_moved, is_loca
 use Rattle.graph_build_layout.specs.Laid.{Laid, Pair, PlaceLaid, pair, behind_move, behind_own, as_value, worked, use_for, operation_laid, standing, converted_laid, both_laid, void_arms_laid, arms_laid, begun_at, assigned_laid, begun_behind, updated_laid, left_scalar_laid, left_memory_laid, step_laid, called_laid, loaded_laid}
 use Rattle.graph_build_layout.specs.Layout.{laid, place_laid, address_laid, passed_laid}
 use Rattle.graph_build_steps.specs.Rules.{element_of, truncation_to, callee_for, steps_by}
-use Rattle.graph_build_steps.specs.Drafts.{Made, Goal, To, Unused, Either, use_of, before, ending, leaf, label_of, closed, forked, valued, used, operated, move_if, hold_location, held_location, stored, noted, called_by}
+use Rattle.graph_build_steps.specs.Drafts.{Made, Goal, To, Unused, Either, use_of, instruction_before, ending, leaf, label_of, with_inner_block, forked, valued, used, operated, move_if, hold_location, held_location, stored, noted, called_by}
 use Rattle.graph_build_steps.specs.Drafts as drafts
 use Rattle.graph_build_steps.specs.declared.site.Two as declared-two
 use Rattle.graph_build_steps.specs.declared.site.Two.TheVariants as two
@@ -169,7 +169,7 @@ module _ (x : Setting) (place top : ℕ) (Own : ℕ → Type 0) (own : Own place
       let at = behind_own (use_of g) t in
       let way = forked place top g t in
       let m = code (n x) place top b (pick (n x) at (laid (n x) a Tested at).top) (Either way.one way.other way.inner) in
-      ha at (Either (label_of top m) way.other (closed place m)) tops.0 (closed_is x Own place top own m (hb (pick (n x) at (laid (n x) a Tested at).top) (Either way.one way.other way.inner) tops.1 (forked_is x Own place top own g t tops.2 k)))
+      ha at (Either (label_of top m) way.other (with_inner_block place m)) tops.0 (closed_is x Own place top own m (hb (pick (n x) at (laid (n x) a Tested at).top) (Either way.one way.other way.inner) tops.1 (forked_is x Own place top own g t tops.2 k)))
 
   or_is : (a b : RvalueTree) → HasCode a → HasCode b → HasCode (Or a b)
   or_is a b ha hb t g le k =
@@ -177,7 +177,7 @@ module _ (x : Setting) (place top : ℕ) (Own : ℕ → Type 0) (own : Own place
       let at = behind_own (use_of g) t in
       let way = forked place top g t in
       let m = code (n x) place top b (pick (n x) at (laid (n x) a Tested at).top) (Either way.one way.other way.inner) in
-      ha at (Either way.one (label_of top m) (closed place m)) tops.0 (closed_is x Own place top own m (hb (pick (n x) at (laid (n x) a Tested at).top) (Either way.one way.other way.inner) tops.1 (forked_is x Own place top own g t tops.2 k)))
+      ha at (Either way.one (label_of top m) (with_inner_block place m)) tops.0 (closed_is x Own place top own m (hb (pick (n x) at (laid (n x) a Tested at).top) (Either way.one way.other way.inner) tops.1 (forked_is x Own place top own g t tops.2 k)))
 
   -- `?:`
   choice_is : (c a b : RvalueTree) → HasCode c → HasCode a → HasCode b → (t : ℕ) (g : Goal) (void : Bool) →
@@ -185,20 +185,20 @@ module _ (x : Setting) (place top : ℕ) (Own : ℕ → Type 0) (own : Own place
       F (let at = behind_move (not void) t in
       let at_a = pick (n x) at (laid (n x) c Tested at).top in let at_b = pick (n x) at (laid (n x) a (arm_use void t) at_a).top in
       let m = leaf g (arm_value void t) in
-      let y = code (n x) place top b at_b (arm_goal void t (ending (Jump (label_of top m)) (closed place m))) in
-      let z = code (n x) place top a at_a (arm_goal void t (ending (Jump (label_of top m)) (closed place y))) in
-      code (n x) place top c at (Either (label_of top z) (label_of top y) (closed place z)))
+      let y = code (n x) place top b at_b (arm_goal void t (ending (Jump (label_of top m)) (with_inner_block place m))) in
+      let z = code (n x) place top a at_a (arm_goal void t (ending (Jump (label_of top m)) (with_inner_block place y))) in
+      code (n x) place top c at (Either (label_of top z) (label_of top y) (with_inner_block place z)))
   choice_is c a b hc ha hb t g true le k =
       let at_a = pick (n x) t (laid (n x) c Tested t).top in let at_b = pick (n x) t (laid (n x) a Nothing at_a).top in
       let tops : max (laid (n x) c Tested t).top (max (laid (n x) a Nothing at_a).top (laid (n x) b Nothing at_b).top) ≤ most x = le in
       let m = leaf g drafts.zero in
-      let join = ending (Jump (label_of top m)) (closed place m) in
+      let join = ending (Jump (label_of top m)) (with_inner_block place m) in
       let y = code (n x) place top b at_b (Unused join) in
-      let join_a = ending (Jump (label_of top m)) (closed place y) in
+      let join_a = ending (Jump (label_of top m)) (with_inner_block place y) in
       let z = code (n x) place top a at_a (Unused join_a) in
-      let is_y = hb at_b (Unused join) (omega (arith, tops)) (ending_is x Own (Jump (label_of top m)) (closed place m) tt (closed_is x Own place top own m (leaf_is x Own g drafts.zero tt k))) in
-      let is_z = ha at_a (Unused join_a) (omega (arith, tops)) (ending_is x Own (Jump (label_of top m)) (closed place y) tt (closed_is x Own place top own y is_y)) in
-      hc t (Either (label_of top z) (label_of top y) (closed place z)) (omega (arith, tops)) (closed_is x Own place top own z is_z)
+      let is_y = hb at_b (Unused join) (omega (arith, tops)) (ending_is x Own (Jump (label_of top m)) (with_inner_block place m) tt (closed_is x Own place top own m (leaf_is x Own g drafts.zero tt k))) in
+      let is_z = ha at_a (Unused join_a) (omega (arith, tops)) (ending_is x Own (Jump (label_of top m)) (with_inner_block place y) tt (closed_is x Own place top own y is_y)) in
+      hc t (Either (label_of top z) (label_of top y) (with_inner_block place z)) (omega (arith, tops)) (closed_is x Own place top own z is_z)
   choice_is c a b hc ha hb t g false le k =
       let at = t + 1 in
       let at_a = pick (n x) at (laid (n x) c Tested at).top in let at_b = pick (n x) at (laid (n x) a (In t) at_a).top in
@@ -207,13 +207,13 @@ module _ (x : Setting) (place top : ℕ) (Own : ℕ → Type 0) (own : Own place
       let least = least_top c Tested at in
       let here : t < most x = omega (arith, tops, least) in
       let m = leaf g (unit.Name t) in
-      let join = ending (Jump (label_of top m)) (closed place m) in
+      let join = ending (Jump (label_of top m)) (with_inner_block place m) in
       let y = code (n x) place top b at_b (To (Some t) join) in
-      let join_a = ending (Jump (label_of top m)) (closed place y) in
+      let join_a = ending (Jump (label_of top m)) (with_inner_block place y) in
       let z = code (n x) place top a at_a (To (Some t) join_a) in
-      let is_y = hb at_b (To (Some t) join) (omega (arith, tops)) (here, ending_is x Own (Jump (label_of top m)) (closed place m) tt (closed_is x Own place top own m (leaf_is x Own g (unit.Name t) here k))) in
-      let is_z = ha at_a (To (Some t) join_a) (omega (arith, tops)) (here, ending_is x Own (Jump (label_of top m)) (closed place y) tt (closed_is x Own place top own y is_y)) in
-      hc at (Either (label_of top z) (label_of top y) (closed place z)) (omega (arith, tops)) (closed_is x Own place top own z is_z)
+      let is_y = hb at_b (To (Some t) join) (omega (arith, tops)) (here, ending_is x Own (Jump (label_of top m)) (with_inner_block place m) tt (closed_is x Own place top own m (leaf_is x Own g (unit.Name t) here k))) in
+      let is_z = ha at_a (To (Some t) join_a) (omega (arith, tops)) (here, ending_is x Own (Jump (label_of top m)) (with_inner_block place y) tt (closed_is x Own place top own y is_y)) in
+      hc at (Either (label_of top z) (label_of top y) (with_inner_block place z)) (omega (arith, tops)) (closed_is x Own place top own z is_z)
 
   comma_is : (a b : RvalueTree) → HasCode a → HasCode b → HasCode (Comma a b)
   comma_is a b ha hb t g le k =
@@ -357,7 +357,7 @@ module _ (x : Setting) (place top : ℕ) (Own : ℕ → Type 0) (own : Own place
   mutual
     -- The code of an expression that names what is there names what is there.
     pub code_is : (e : RvalueTree) → E x e → HasCode e
-    code_is (Constant z ty) s t g le k = leaf_is x Own g (unit.Constant (word_of z)) tt k
+    code_is (Constant z ty) s t g le k = leaf_is x Own g (unit.Constant (unsigned_bits z)) tt k
     code_is Null s t g le k = leaf_is x Own g drafts.zero tt k
     code_is (Load sc l) s t g le k = load_is sc l s (place_is l s) t g (scalar_named (n x) l) refl le k
     code_is (Decay l) s t g le k = (place_is l s.0).address t g s.1 le k

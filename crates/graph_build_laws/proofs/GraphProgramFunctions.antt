@@ -12,7 +12,7 @@ use Rattle.c_tree.specs.declared.typed_expression.Callee as source-callee
 use Rattle.c_tree.specs.declared.typed_expression.Callee.TheVariants as callee
 use Rattle.c_tree.specs.TypedExpressions.{Named}
 use Rattle.c_tree.specs.Programs.{AutomaticTree, LiteralTree, TypedFunctionTree, ProgramTree}
-use Rattle.c_places.specs.Places.{numbers_from, parameters_of, places_of_program, number_at}
+use Rattle.c_places.specs.Places.{numbers_from, parameters_of, places_of_program, place_number_at}
 use Rattle.c_type_laws.specs.Kinds.{is_variable, is_callee, taken_by, element_type, types_of, parameters_in}
 use Rattle.c_type_laws.specs.Laws.{is_in_memory}
 use Rattle.graph_core.specs.Graphs as unit
@@ -181,7 +181,7 @@ module _ (p : ProgramTree) (u : UnitForm) (facts : ProgramFacts p) (is : IsUnitO
 
     -- its blocks name what is there
     part_is : IsPart setting whole
-    part_is = function_is setting (places_of_program p) (number_at (places_of_program p) f.spot.at) code.scalars code.top f is_main statements_named (no_more (statements_reached code f.body code.scalars))
+    part_is = function_is setting (places_of_program p) (place_number_at (places_of_program p) f.spot.at) code.scalars code.top f is_main statements_named (no_more (statements_reached code f.body code.scalars))
 
     -- an inner block keeps a place that has its marker
     own_place : (q : ℕ) → InPart setting whole.placed q → IsOwnPlace graph (Some q)

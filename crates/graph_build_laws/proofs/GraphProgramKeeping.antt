@@ -10,7 +10,7 @@ use Rattle.c_tree.specs.TypedExpressions.{Named}
 use Rattle.c_tree.specs.Programs.{AutomaticTree, LiteralTree, TypedFunctionTree, ProgramTree}
 use Rattle.c_type_laws.specs.Kinds.{is_variable}
 use Rattle.c_type_laws.specs.Objects.{is_kept_array}
-use Rattle.c_meaning_values.specs.Types.{count_of}
+use Rattle.c_meaning_values.specs.Types.{value_count}
 use Rattle.c_meaning_values.specs.Memory.{Memory as SourceMemory}
 use Rattle.c_meaning_steps.specs.declared.event.Frame.{Frame}
 use Rattle.graph_core.specs.Graphs.{UnitForm}
@@ -34,7 +34,7 @@ use Rattle.base_laws.proofs.Lists.{got_there}
 use Rattle.base_laws.proofs.Numbers.{at_most, is_less}
 
 -- what is not in memory is one scalar
-single_of : (inside : Bool) (of : ObjectType) → is_kept_array inside of ≡ true → inside ≡ false → count_of of ≡ 1
+single_of : (inside : Bool) (of : ObjectType) → is_kept_array inside of ≡ true → inside ≡ false → value_count of ≡ 1
 single_of inside (of-object.Scalar s) h e = refl
 single_of inside (of-object.Array s n) h e = let yes = (two_true (nat_le 1 n) inside h).1 in cc
 

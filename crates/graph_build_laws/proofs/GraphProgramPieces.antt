@@ -18,7 +18,7 @@ use Rattle.graph_core.specs.Graphs as unit
 use Rattle.graph_core.specs.Graphs.{Operand, Location, Instruction, Note, Operate, Truncate, Same, Address, Store, Block, End, Jump, Branch}
 use Rattle.graph_core.specs.Validity.{IsInstruction, IsLocation, AreOperandsOfEnd}
 use Rattle.graph_build_names.specs.Conversions.{is_narrow}
-use Rattle.graph_build_names.specs.Operands.{is_two, is_two_pointers, operand_at, located}
+use Rattle.graph_build_names.specs.Operands.{is_two, is_two_pointers, operand_at, located_at}
 use Rattle.graph_build_names.specs.Scales.{is_scaled, shift_of, scaled}
 use Rattle.graph_build_layout.specs.declared.laid.Use.{Use}
 use Rattle.graph_build_layout.specs.declared.laid.Use.TheVariants.{Anywhere, In, Nothing, Tested}
@@ -26,13 +26,13 @@ use Rattle.graph_build_names.specs.Names.{pick, object_of}
 use Rattle.graph_build_layout.specs.Laid.{Laid, Pair, PlaceLaid, behind_move, as_value, worked, operation_laid, steps_laid, compared_laid, moved_laid, old_laid, left_scalar_laid, left_memory_laid, called_laid, object_laid}
 use Rattle.graph_build_layout.specs.Layout.{named_address}
 use Rattle.graph_build_steps.specs.Rules.{truncation_to, operation_for, move_by}
-use Rattle.graph_build_steps.specs.Drafts.{Made, Goal, To, Unused, Either, Fork, use_of, before, ending, leaf, target, follow, tested, scale, scaling, unscaling, move_if, note, noted, compare_by, compare_pointers_by, less, not_less, branch_by, label_of, closed, arm, forked, valued, used, stored, hold_location, held_location, keep_old, use_old, behind_old, left_free, called_by, renew, operated, code_scaled_pair, compared, compared_value, compared_pointers, compared_pointers_value}
+use Rattle.graph_build_steps.specs.Drafts.{Made, Goal, To, Unused, Either, Fork, use_of, instruction_before, ending, leaf, target, follow, tested, scale, scaling, unscaling, move_if, note, noted, compare_by, compare_pointers_by, less, not_less, branch_by, label_of, with_inner_block, arm, forked, valued, used, stored, hold_location, held_location, keep_old, use_old, behind_old, left_free, called_by, renew, operated, code_scaled_pair, compared, compared_value, compared_pointers, compared_pointers_value}
 use Rattle.graph_build_steps.specs.Drafts as drafts
 use Rattle.graph_build_steps.specs.declared.site.Two as declared-two
 use Rattle.graph_build_steps.specs.declared.site.Two.TheVariants as two
 use Rattle.graph_build_steps.specs.declared.change.Change as declared-change
 use Rattle.graph_build_steps.specs.declared.change.Change.TheVariants as change
-use Rattle.graph_build_steps.specs.Steps.{signed, finished, distance, changed, changed_element, takes_more, renewed_scalar, loaded_first, renewed_memory, left_scalar, left_memory, object_address, or_zero}
+use Rattle.graph_build_steps.specs.Steps.{signed, finished, element_distance, changed, changed_element, takes_more, renewed_scalar, loaded_first, renewed_memory, left_scalar, left_memory, object_address, or_zero}
 use Rattle.graph_build_laws.proofs.Temporaries.{picked, moved_behind}
 use Rattle.std.proofs.lemmas.Option.{slice_get_within}
 use Rattle.graph_build_laws.proofs.Naming.{InMemory}
@@ -97,7 +97,7 @@ module _ (x : Setting) (Own : ℕ → Type 0) where
   goal_fits (Unused m) h = tt
   goal_fits (Either one other inner) h = tt
 
-  pub before_is : (i : Instruction) (m : Made) → I i → IsMade m → IsMade (before i m)
+  pub before_is : (i : Instruction) (m : Made) → I i → IsMade m → IsMade (instruction_before i m)
   before_is i m h k = record { ops = (h, k.ops); end = k.end; inner = k.inner }
 
   pub ending_is : (e : End) (inner : List Block) → EndIs e → AreInner inner → IsMade (ending e inner)
@@ -153,7 +153,7 @@ module _ (x : Setting) (Own : ℕ → Type 0) where
   pub hold_is : (b : Bool) (t : ℕ) (l : Location) (m : Made) → (b ≡ true → t < most x) → Loc l → IsMade m → IsMade (hold_location b t l m)
   hold_is b t l m h s k = move_is b t (operand_at l) m h (location_operand l s) k
 
-  located_is : (l : Location) (t : ℕ) → t < most x → Loc l → Loc (located l (unit.Name t))
+  located_is : (l : Location) (t : ℕ) → t < most x → Loc l → Loc (located_at l (unit.Name t))
   located_is (unit.At a) t h s = h
   located_is (unit.Automatic o k) t h s = s
   located_is (unit.Static o) t h s = s
@@ -183,7 +183,7 @@ module _ (x : Setting) (Own : ℕ → Type 0) where
   scale_is : (size : ℕ) (a : Operand) (t : ℕ) (m : Made) → (is_scaled size a ≡ true → t < most x) → S a → IsMade m → IsMade (scale size a t m)
   scale_is size a t m h s k = go (is_scaled size a) h
     where
-      go : (b : Bool) → (b ≡ true → t < most x) → IsMade (if b then before (scaling (shift_of size) size t a) m else m)
+      go : (b : Bool) → (b ≡ true → t < most x) → IsMade (if b then instruction_before (scaling (shift_of size) size t a) m else m)
       go true h = before_is (scaling (shift_of size) size t a) m (scaling_is (shift_of size) size t a (h refl) s) k
       go false h = k
 
@@ -194,14 +194,14 @@ module _ (x : Setting) (Own : ℕ → Type 0) where
   renew_is : (ty : IntegerType) (y t : ℕ) (i : ℕ → Instruction) (m : Made) → ((z : ℕ) → z < most x → I (i z)) → y < most x → (is_narrow ty ≡ true → t < most x) → IsMade m → IsMade (renew ty y t i m)
   renew_is ty y t i m h le few k = go (is_narrow ty) few
     where
-      go : (b : Bool) → (b ≡ true → t < most x) → IsMade (if b then before (i t) (before (Truncate y (truncation_to ty) (unit.Name t)) m) else before (i y) m)
-      go true few = before_is (i t) (before (Truncate y (truncation_to ty) (unit.Name t)) m) (h t (few refl)) (before_is (Truncate y (truncation_to ty) (unit.Name t)) m (le, few refl) k)
+      go : (b : Bool) → (b ≡ true → t < most x) → IsMade (if b then instruction_before (i t) (instruction_before (Truncate y (truncation_to ty) (unit.Name t)) m) else instruction_before (i y) m)
+      go true few = before_is (i t) (instruction_before (Truncate y (truncation_to ty) (unit.Name t)) m) (h t (few refl)) (before_is (Truncate y (truncation_to ty) (unit.Name t)) m (le, few refl) k)
       go false few = before_is (i y) m (h y le) k
 
   pub changed_is : (c : declared-change.Change) (y t free : ℕ) (old by : Operand) (m : Made) → y < most x → (takes_more c by ≡ true → t < most x) → (takes_more c by ≡ true → free < most x) → S old → S by → IsMade m → IsMade (changed c y t free old by m)
   changed_is (change.Integer o ty v) y t free old by m h few more s r k = renew_is ty y t (λ z. Operate z (operation_for o v) old by) m (λ z le. (le, s, r)) h few k
   changed_is (change.Pointer d bytes) y t free old by m h few more s r k =
-      let next = before (Operate y (move_by d) old (scaled bytes by free)) m in
+      let next = instruction_before (Operate y (move_by d) old (scaled bytes by free)) m in
       scale_is bytes by free next more r (before_is (Operate y (move_by d) old (scaled bytes by free)) m (h, s, scaled_stands bytes by free more r) k)
 
   pub stored_is : (e : declared-element.Element) (l : Location) (a : Operand) (g : Goal) → Loc l → S a → IsGoal g → IsMade (stored e l a g)
@@ -209,11 +209,11 @@ module _ (x : Setting) (Own : ℕ → Type 0) where
   stored_is e l a (Unused m) h s k = before_is (Store e l a) m (h, s) k
   stored_is e l a (Either one other inner) h s k = before_is (Store e l a) (tested a one other inner) (h, s) (tested_is a one other inner s k)
 
-  one_is : (i : Instruction) (m : Made) → I i → IsMade m → IsMade (before i m)
+  one_is : (i : Instruction) (m : Made) → I i → IsMade m → IsMade (instruction_before i m)
   one_is i m h k = before_is i m h k
 
-  two_are : (i j : Instruction) (m : Made) → I i → I j → IsMade m → IsMade (before i (before j m))
-  two_are i j m h g k = before_is i (before j m) h (before_is j m g k)
+  two_are : (i j : Instruction) (m : Made) → I i → I j → IsMade m → IsMade (instruction_before i (instruction_before j m))
+  two_are i j m h g k = before_is i (instruction_before j m) h (before_is j m g k)
 
   compare_is : (o : declared-comparison.Comparison) (s : Bool) (y t : ℕ) (a b : Operand) (m : Made) → y < most x → (is_two o ≡ true → t < most x) → S a → S b → IsMade m → IsMade (compare_by o s y t a b m)
   compare_is comparison.Less s y t a b m h few p q k = one_is _ m (h, p, q) k
@@ -246,7 +246,7 @@ module _ (x : Setting) (Own : ℕ → Type 0) where
   keep_is (In z) y t m f h le k = go (z == y) le
     where
       go : (b : Bool) → (left_or b z t).top ≤ most x →
-          IsMade (if b then before (unit.Move t (unit.Name y)) m else before (unit.Move z (unit.Name y)) m)
+          IsMade (if b then instruction_before (unit.Move t (unit.Name y)) m else instruction_before (unit.Move z (unit.Name y)) m)
       go true le = before_is (unit.Move t (unit.Name y)) m (omega (arith, le), h) k
       go false le = before_is (unit.Move z (unit.Name y)) m (f, h) k
 
@@ -259,7 +259,7 @@ module _ (x : Setting) (Own : ℕ → Type 0) where
       own : (a b : ℕ) → (a == b) ≡ true → a ≡ b
       own a b e = are_equal a b e
 
-      go : (b : Bool) → (z == y) ≡ b → (left_or b z t).top ≤ most x → IsMade (if b then before (unit.Move y (unit.Name t)) m else m)
+      go : (b : Bool) → (z == y) ≡ b → (left_or b z t).top ≤ most x → IsMade (if b then instruction_before (unit.Move y (unit.Name t)) m else m)
       go true e le = before_is (unit.Move y (unit.Name t)) m (subst (λ w. w < most x) (own z y e) k.0, omega (arith, le)) k.1
       go false e le = k.1
 
@@ -341,11 +341,11 @@ module _ (x : Setting) (Own : ℕ → Type 0) where
   pointers_is (To (Some y) m) o begun q r le k = pointers_value (To (Some y) m) o begun q r le k
   pointers_is (Unused m) o begun q r le k = pointers_value (Unused m) o begun q r le k
 
-  distance_is : (bytes : ℕ) (g : Goal) (begun : ℕ) (q : Pair) → StandsPair begun q → (steps_laid (n x) (use_of g) (not (bytes == 1)) begun q).top ≤ most x → IsGoal g → IsMade (distance (n x) bytes g begun q)
+  distance_is : (bytes : ℕ) (g : Goal) (begun : ℕ) (q : Pair) → StandsPair begun q → (steps_laid (n x) (use_of g) (not (bytes == 1)) begun q).top ≤ most x → IsGoal g → IsMade (element_distance (n x) bytes g begun q)
   distance_is bytes g begun q r le k = go (bytes == 1) le
     where
       go : (b : Bool) → (steps_laid (n x) (use_of g) (not b) begun q).top ≤ most x →
-          IsMade (if b then operated (n x) g begun q.next (λ y. Operate y operation.Sub q.left q.right) else before (Operate (pick (n x) begun q.next) operation.Sub q.left q.right) (operated (n x) g begun (q.next + 1) (λ y. unscaling (shift_of bytes) bytes y (pick (n x) begun q.next))))
+          IsMade (if b then operated (n x) g begun q.next (λ y. Operate y operation.Sub q.left q.right) else instruction_before (Operate (pick (n x) begun q.next) operation.Sub q.left q.right) (operated (n x) g begun (q.next + 1) (λ y. unscaling (shift_of bytes) bytes y (pick (n x) begun q.next))))
       go true le = operated_is g begun q.next (max q.top q.next) (λ y. Operate y operation.Sub q.left q.right) (λ y less. (less, r.left, r.right)) le k
       go false le =
           let free = q.next + 1 in
@@ -438,10 +438,10 @@ module _ (x : Setting) (Own : ℕ → Type 0) where
 
   -- the same of what is in memory
   left_by : (c : declared-change.Change) (q : PlaceLaid) (g : Goal) (old free : ℕ) → old < most x → behind_move (takes_more c (unit.Constant 1)) free < most x → free < most x → Loc q.location → IsMade (follow g old) →
-      IsMade (before (unit.Load old (changed_element c) q.location) (changed c (behind_move (takes_more c (unit.Constant 1)) free) free free (unit.Name old) (unit.Constant 1) (before (Store (changed_element c) q.location (unit.Name (behind_move (takes_more c (unit.Constant 1)) free))) (follow g old))))
+      IsMade (instruction_before (unit.Load old (changed_element c) q.location) (changed c (behind_move (takes_more c (unit.Constant 1)) free) free free (unit.Name old) (unit.Constant 1) (instruction_before (Store (changed_element c) q.location (unit.Name (behind_move (takes_more c (unit.Constant 1)) free))) (follow g old))))
   left_by c q g old free lt own less loc k =
       let y = behind_move (takes_more c (unit.Constant 1)) free in
-      let last = before (Store (changed_element c) q.location (unit.Name y)) (follow g old) in
+      let last = instruction_before (Store (changed_element c) q.location (unit.Name y)) (follow g old) in
       before_is (unit.Load old (changed_element c) q.location) (changed c y free free (unit.Name old) (unit.Constant 1) last) (lt, loc)
       (changed_is c y free free (unit.Name old) (unit.Constant 1) last own (λ e. less) (λ e. less) lt tt (before_is (Store (changed_element c) q.location (unit.Name y)) (follow g old) (loc, own) k))
 
@@ -497,13 +497,13 @@ module _ (x : Setting) (Own : ℕ → Type 0) where
 
   -- where blocks are closed, in a place of the graph's own
   module _ (place top : ℕ) (own : Own place) where
-    pub closed_is : (m : Made) → IsMade m → AreInner (closed place m)
+    pub closed_is : (m : Made) → IsMade m → AreInner (with_inner_block place m)
     closed_is m k = one_more m.inner (record { place = Some place; instructions = m.ops; end = m.end }) k.inner (record { place = place; has = refl; own = own; instructions = k.ops; end = k.end })
 
-    arms_are : (m : Made) (y : ℕ) → y < most x → IsMade m → AreInner (arm place y 1 (label_of top m) (arm place y 0 (label_of top m) (closed place m)))
+    arms_are : (m : Made) (y : ℕ) → y < most x → IsMade m → AreInner (arm place y 1 (label_of top m) (arm place y 0 (label_of top m) (with_inner_block place m)))
     arms_are m y h k =
-        let arm0 : Made = record { ops = unit.Move y (unit.Constant 0) ∷ []; end = Jump (label_of top m); inner = closed place m } in
-        let arm1 : Made = record { ops = unit.Move y (unit.Constant 1) ∷ []; end = Jump (label_of top m); inner = closed place arm0 } in
+        let arm0 : Made = record { ops = unit.Move y (unit.Constant 0) ∷ []; end = Jump (label_of top m); inner = with_inner_block place m } in
+        let arm1 : Made = record { ops = unit.Move y (unit.Constant 1) ∷ []; end = Jump (label_of top m); inner = with_inner_block place arm0 } in
         let zero : IsMade arm0 = record { ops = ((h, tt), tt); end = tt; inner = closed_is m k } in
         closed_is arm1 (record { ops = ((h, tt), tt); end = tt; inner = closed_is arm0 zero })
 
@@ -512,4 +512,4 @@ module _ (x : Setting) (Own : ℕ → Type 0) where
     forked_is (Either one other inner) y h k = k
     forked_is (Unused m) y h k = arms_are m y (h (λ e. cc)) k
     forked_is (To None m) y h k = arms_are m y (h (λ e. cc)) k.1
-    forked_is (To (Some z) m) y h k = arms_are (before (unit.Move z (unit.Name y)) m) y (h (λ e. cc)) (before_is (unit.Move z (unit.Name y)) m (k.0, h (λ e. cc)) k.1)
+    forked_is (To (Some z) m) y h k = arms_are (instruction_before (unit.Move z (unit.Name y)) m) y (h (λ e. cc)) (before_is (unit.Move z (unit.Name y)) m (k.0, h (λ e. cc)) k.1)

@@ -6,16 +6,16 @@ use Rattle.c_tree.specs.TypedStatements.{TypedStartTree, Nothing, Value, Declare
 use Rattle.c_tree.specs.Programs.{TypedFunctionTree}
 use Rattle.c_places.specs.Places.{Place, parameters_of}
 use Rattle.c_flow.specs.declared.edge.Ways.{Ways}
-use Rattle.c_flow.specs.Flow.{start, start_of_all, round_of, within_loop, within_switch, before as with_rest, ways_of_body}
+use Rattle.c_flow.specs.Flow.{start_place, start_of_all, round_of, within_loop, within_switch, ways_before as with_rest, ways_of_body}
 use Rattle.graph_core.specs.declared.block.Comparison.TheVariants as branch
 use Rattle.graph_core.specs.Graphs as unit
 use Rattle.graph_core.specs.Graphs.{Operand, Branch}
-use Rattle.graph_build_names.specs.Conversions.{word_of}
+use Rattle.graph_build_names.specs.Conversions.{unsigned_bits}
 use Rattle.graph_build_layout.specs.declared.laid.Use.TheVariants.{Anywhere, Tested}
 use Rattle.graph_build_layout.specs.declared.laid.Use.TheVariants as use-of
 use Rattle.graph_build_names.specs.Names.{scalar_of}
 use Rattle.graph_build_layout.specs.Layout.{laid}
-use Rattle.graph_build_steps.specs.Drafts.{Made, To, Unused, Either, ending, closed, label_of}
+use Rattle.graph_build_steps.specs.Drafts.{Made, To, Unused, Either, ending, with_inner_block, label_of}
 use Rattle.graph_build_statements.specs.Coding.{Coding, Part, place_of, begun, going, label_for, with_end, placed_at, coded}
 use Rattle.graph_build_statements.specs.Reached.{reached, start_reached, condition_reached, step_reached, result_reached, statement_reached, statements_reached}
 use Rattle.graph_build_statements.specs.Forms.{default_start, tests, add_run, add_going, add_branching, add_start, add_step, add_head, add_result, add_switch, add, add_all}
@@ -107,7 +107,7 @@ module _ (x : Setting) (places : List Place) (entry scalars top : ℕ) where
       let to = start_of_all rest next in
       let own = Here x places entry scalars top at part in
       let m = tests d at a rest next other (with_end d at to inner) in
-      ending_is x own (Branch branch.Equal a (unit.Constant (word_of z)) (label_for d to inner) (label_of top m)) (closed (place_of d at) m) (s, tt)
+      ending_is x own (Branch branch.Equal a (unit.Constant (unsigned_bits z)) (label_for d to inner) (label_of top m)) (with_inner_block (place_of d at) m) (s, tt)
       (closed_is x own (place_of d at) top (inl refl) m (tests_are at part a s rest next other (with_end d at to inner) (ends_are x places entry scalars top at part to inner here)))
   tests_are at part a s (default rest) next other inner here = tests_are at part a s rest next other inner here
 
@@ -132,22 +132,22 @@ module _ (x : Setting) (places : List Place) (entry scalars top : ℕ) where
     statement_is (If spot e s) h t w part le k = (
         let t1 = reached d e Tested t in
         let later = add d s t1 w part in
-        branching_is spot.at e h.0 t (start s w.next) w.next later (omega (arith, le, statement_more d s t1)) (statement_is s h.1 t1 w part le k))
+        branching_is spot.at e h.0 t (start_place s w.next) w.next later (omega (arith, le, statement_more d s t1)) (statement_is s h.1 t1 w part le k))
     statement_is (IfElse spot e s r) h t w part le k = (
         let t1 = reached d e Tested t in
         let t2 = statement_reached d s t1 in
         let other = add d r t2 w part in
         let later = add d s t1 w other in
         let up = statement_more d r t2 in
-        branching_is spot.at e h.0 t (start s w.next) (start r w.next) later (omega (arith, le, up, statement_more d s t1)) (statement_is s h.1 t1 w other (omega (arith, le, up)) (statement_is r h.2 t2 w part le k)))
+        branching_is spot.at e h.0 t (start_place s w.next) (start_place r w.next) later (omega (arith, le, up, statement_more d s t1)) (statement_is s h.1 t1 w other (omega (arith, le, up)) (statement_is r h.2 t2 w part le k)))
     statement_is (While spot e s) h t w part le k = (
         let t1 = reached d e Tested t in
         let later = add d s t1 (within_loop spot.at w) part in
-        branching_is spot.at e h.0 t (start s (Some spot.at)) w.next later (omega (arith, le, statement_more d s t1)) (statement_is s h.1 t1 (within_loop spot.at w) part le k))
+        branching_is spot.at e h.0 t (start_place s (Some spot.at)) w.next later (omega (arith, le, statement_more d s t1)) (statement_is s h.1 t1 (within_loop spot.at w) part le k))
     statement_is (DoWhile s spot e) h t w part le k = (
         let t1 = statement_reached d s t in
-        let later = add_branching d spot.at e t1 (start s (Some spot.at)) w.next part in
-        statement_is s h.1 t (within_loop spot.at w) later (omega (arith, le, reached_more d e Tested t1)) (branching_is spot.at e h.0 t1 (start s (Some spot.at)) w.next part le k))
+        let later = add_branching d spot.at e t1 (start_place s (Some spot.at)) w.next part in
+        statement_is s h.1 t (within_loop spot.at w) later (omega (arith, le, reached_more d e Tested t1)) (branching_is spot.at e h.0 t1 (start_place s (Some spot.at)) w.next part le k))
     statement_is (For begin spot e step s) h t w part le k = (
         let round = round_of step spot.at in
         let t1 = start_reached d begin t in
@@ -158,7 +158,7 @@ module _ (x : Setting) (places : List Place) (entry scalars top : ℕ) where
         let up3 = step_more step t3 in
         let up2 = statement_more d s t2 in
         let up1 = condition_more d e t1 in
-        head_is begin e h.0 h.1 t spot.at (start s (Some round)) w.next later (omega (arith, le, up3, up2, up1)) (omega (arith, le, up3, up2))
+        head_is begin e h.0 h.1 t spot.at (start_place s (Some round)) w.next later (omega (arith, le, up3, up2, up1)) (omega (arith, le, up3, up2))
         (round_is step h.2 t3 spot.at body le (statement_is s h.3 t2 (within_loop round w) part (omega (arith, le, up3)) k)))
     statement_is (Switch spot e all) h t w part le k = (
         let t1 = reached d e Anywhere t in

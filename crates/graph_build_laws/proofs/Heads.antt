@@ -7,7 +7,7 @@ use Rattle.c_tree.specs.TypedStatements.{DeclaredTree, TypedStartTree, Nothing, 
 use Rattle.debug_records.specs.declared.source.Spot.{Spot}
 use Rattle.c_places.specs.Places.{Place, stop, brought, brought_by_start, places_of_declarators, places_of_start, places_of_head, places_of_step, places_of, places_of_all}
 use Rattle.c_flow.specs.declared.edge.Ways.{Ways}
-use Rattle.c_flow.specs.Flow.{start, round_of, within_loop, within_switch, before as with_rest}
+use Rattle.c_flow.specs.Flow.{start_place, round_of, within_loop, within_switch, ways_before as with_rest}
 use Rattle.graph_core.specs.Graphs as unit
 use Rattle.graph_core.specs.Graphs.{Instruction, Marker}
 use Rattle.graph_build_layout.specs.declared.laid.Use.TheVariants.{Anywhere, Tested}
@@ -83,7 +83,7 @@ module _ (c : Coding) (number : ℕ) where
     statement_comes (While spot e s) scope t w part =
         led spot (add c s (reached c e Tested t) (within_loop spot.at w) part) part (places_of number scope s) (statement_comes s scope (reached c e Tested t) (within_loop spot.at w) part)
     statement_comes (DoWhile s spot e) scope t w part =
-        let later = add_branching c spot.at e (statement_reached c s t) (start s (Some spot.at)) w.next part in
+        let later = add_branching c spot.at e (statement_reached c s t) (start_place s (Some spot.at)) w.next part in
         then (add c s t (within_loop spot.at w) later) later part (places_of number scope s) (stop number scope spot ∷ []) (statement_comes s scope t (within_loop spot.at w) later) refl
     statement_comes (For begin spot e step s) scope t w part =
         let behind_head = condition_reached c e (start_reached c begin t) in
@@ -91,7 +91,7 @@ module _ (c : Coding) (number : ℕ) where
         let inner_scope = scope ++ brought_by_start begin in
         let body = add c s behind_head ways part in
         let later = add_step c step (statement_reached c s behind_head) spot.at body in
-        let inside = start s (Some (round_of step spot.at)) in
+        let inside = start_place s (Some (round_of step spot.at)) in
         let now = add_head c begin t spot.at e inside w.next later in
         let ph = places_of_head number scope begin spot e in let ps = places_of_step number inner_scope step in
         then now body part (ph ++ ps) (places_of number inner_scope s) (then now later body ph ps (head_comes begin spot e scope t inside w.next later) (round_comes step inner_scope (statement_reached c s behind_head) spot.at body)) (statement_comes s inner_scope behind_head ways part)

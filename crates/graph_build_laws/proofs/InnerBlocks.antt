@@ -14,7 +14,7 @@ use Rattle.c_type_rules.specs.ValueTypes.{type_of, given_by, is_void, is_pointer
 use Rattle.word_base.specs.declared.operation.Operation.TheVariants as operation
 use Rattle.graph_core.specs.Graphs as unit
 use Rattle.graph_core.specs.Graphs.{Operand, Instruction, Operate, Truncate, Same, Block, Jump}
-use Rattle.graph_build_names.specs.Conversions.{word_of, keeps_bits, is_kept_constant}
+use Rattle.graph_build_names.specs.Conversions.{unsigned_bits, keeps_bits, is_kept_constant}
 use Rattle.graph_build_names.specs.Operands.{held, operand_at}
 use Rattle.graph_build_layout.specs.declared.laid.Use.TheVariants.{Anywhere, Nothing, Tested}
 use Rattle.graph_build_names.specs.Inner.{inner, inner_within, inner_of, for_truth}
@@ -23,7 +23,7 @@ use Rattle.graph_build_names.specs.Writes.{writes, writes_any, is_moved, is_loca
 use Rattle.graph_build_layout.specs.Laid.{Pair, PlaceLaid, pair, behind_move, behind_own, use_for}
 use Rattle.graph_build_layout.specs.Layout.{laid, place_laid, passed_laid}
 use Rattle.graph_build_steps.specs.Rules.{element_of, truncation_to, callee_for, steps_by}
-use Rattle.graph_build_steps.specs.Drafts.{Made, Goal, To, Unused, Either, use_of, ending, leaf, label_of, closed, forked, valued, used, operated, move_if, hold_location, held_location, stored, noted, called_by}
+use Rattle.graph_build_steps.specs.Drafts.{Made, Goal, To, Unused, Either, use_of, ending, leaf, label_of, with_inner_block, forked, valued, used, operated, move_if, hold_location, held_location, stored, noted, called_by}
 use Rattle.graph_build_steps.specs.Drafts as drafts
 use Rattle.graph_build_steps.specs.declared.site.Two as declared-two
 use Rattle.graph_build_steps.specs.declared.site.Two.TheVariants as two
@@ -90,11 +90,11 @@ module _ (n : Names) (place top : ℕ) where
   not_inner e h t (Unused m) = one_inner e h t (Unused m) (λ x. if is_pointer (type_of n.results e) then Same x (laid n e Anywhere t).value (drafts.zero) else Operate x operation.Sltu (laid n e Anywhere t).value (unit.Constant 1))
 
   both_inner : (a b : RvalueTree) → HasInner a → HasInner b → (g : Goal) (t at later one_a other_a : ℕ) →
-      length (code n place top a at (Either one_a other_a (closed place (code n place top b later (Either (forked place top g t).one (forked place top g t).other (forked place top g t).inner))))).inner ≡ goal_inner g + (inner true a + (inner true b + for_truth (is_tested g)))
+      length (code n place top a at (Either one_a other_a (with_inner_block place (code n place top b later (Either (forked place top g t).one (forked place top g t).other (forked place top g t).inner))))).inner ≡ goal_inner g + (inner true a + (inner true b + for_truth (is_tested g)))
   both_inner a b ha hb g t at later one_a other_a =
       let way = forked place top g t in
       let m = code n place top b later (Either way.one way.other way.inner) in
-      omega (arith, ha at (Either one_a other_a (closed place m)), closed_length place m, hb later (Either way.one way.other way.inner), forked_inner place top g t)
+      omega (arith, ha at (Either one_a other_a (with_inner_block place m)), closed_length place m, hb later (Either way.one way.other way.inner), forked_inner place top g t)
 
   arm_inner : (void : Bool) (e : RvalueTree) → HasInner e → (t at : ℕ) (m : Made) → length (code n place top e at (arm_goal void t m)).inner ≡ length m.inner + inner false e
   arm_inner true e h t at m = h at (Unused m)
@@ -105,11 +105,11 @@ module _ (n : Names) (place top : ℕ) where
       let void = is_void (type_of n.results a) in let at = behind_move (not void) t in
       let at_a = pick n at (laid n c Tested at).top in let at_b = pick n at (laid n a (arm_use void t) at_a).top in
       let m = leaf g (arm_value void t) in
-      let join = ending (Jump (label_of top m)) (closed place m) in
+      let join = ending (Jump (label_of top m)) (with_inner_block place m) in
       let y = code n place top b at_b (arm_goal void t join) in
-      let join_a = ending (Jump (label_of top m)) (closed place y) in
+      let join_a = ending (Jump (label_of top m)) (with_inner_block place y) in
       let x = code n place top a at_a (arm_goal void t join_a) in
-      omega (arith, hc at (Either (label_of top x) (label_of top y) (closed place x)), closed_length place x, arm_inner void a ha t at_a join_a, closed_length place y, arm_inner void b hb t at_b join, closed_length place m, leaf_inner g (arm_value void t))
+      omega (arith, hc at (Either (label_of top x) (label_of top y) (with_inner_block place x)), closed_length place x, arm_inner void a ha t at_a join_a, closed_length place y, arm_inner void b hb t at_b join, closed_length place m, leaf_inner g (arm_value void t))
 
   assigned_inner : (g : Goal) (q : PlaceLaid) (moved : Bool) (s : Scalar) (e : RvalueTree) → HasInner e → (t : ℕ) (a : Operand) → length (code n place top e t (assigned_memory g q moved (element_of s) a)).inner ≡ goal_inner g + inner false e
   assigned_inner (To (Some x) m) q moved s e h t a = h t (To (Some x) (stored (element_of s) (held_location moved q.next q.location) a (To (Some x) m)))
@@ -157,7 +157,7 @@ module _ (n : Names) (place top : ℕ) where
 
   mutual
     pub code_inner : (e : RvalueTree) → HasInner e
-    code_inner (Constant z ty) t g = omega (arith, leaf_inner g (unit.Constant (word_of z)))
+    code_inner (Constant z ty) t g = omega (arith, leaf_inner g (unit.Constant (unsigned_bits z)))
     code_inner Null t g = omega (arith, leaf_inner g (drafts.zero))
     code_inner (Load s l) t g = load_inner s l (place_inner l) (named_none l) t g (scalar_named n l) refl
     code_inner (Decay l) t g = (place_inner l).address t g

@@ -21,13 +21,13 @@ use Rattle.graph_build_names.specs.Inner.{for_truth}
 use Rattle.graph_build_names.specs.Names.{Names, pick, object_of}
 use Rattle.graph_build_layout.specs.Laid.{Laid, Pair, PlaceLaid, behind_move}
 use Rattle.graph_build_steps.specs.Rules.{truncation_to, operation_for, move_by}
-use Rattle.graph_build_steps.specs.Drafts.{Made, Goal, To, Unused, Either, use_of, before, leaf, target, follow, scale, scaling, unscaling, move_if, note, noted, compare_by, compare_pointers_by, closed, arm, forked, valued, used, stored, keep_old, use_old, behind_old, left_free, called_by, renew, operated, code_scaled_pair, compared, compared_value, compared_pointers, compared_pointers_value, label_of, held_location}
+use Rattle.graph_build_steps.specs.Drafts.{Made, Goal, To, Unused, Either, use_of, instruction_before, leaf, target, follow, scale, scaling, unscaling, move_if, note, noted, compare_by, compare_pointers_by, with_inner_block, arm, forked, valued, used, stored, keep_old, use_old, behind_old, left_free, called_by, renew, operated, code_scaled_pair, compared, compared_value, compared_pointers, compared_pointers_value, label_of, held_location}
 use Rattle.graph_build_steps.specs.Drafts as drafts
 use Rattle.graph_build_steps.specs.declared.site.Two as declared-two
 use Rattle.graph_build_steps.specs.declared.site.Two.TheVariants as two
 use Rattle.graph_build_steps.specs.declared.change.Change as declared-change
 use Rattle.graph_build_steps.specs.declared.change.Change.TheVariants as change
-use Rattle.graph_build_steps.specs.Steps.{finished, distance, changed, changed_element, takes_more, renewed_scalar, loaded_first, renewed_memory, left_scalar, left_memory, object_address, or_zero}
+use Rattle.graph_build_steps.specs.Steps.{finished, element_distance, changed, changed_element, takes_more, renewed_scalar, loaded_first, renewed_memory, left_scalar, left_memory, object_address, or_zero}
 
 -- how many inner blocks stand when code is made for a goal
 abbrev pub goal_inner : Goal → ℕ
@@ -41,7 +41,7 @@ is_tested (To want m) = false
 is_tested (Unused m) = false
 is_tested (Either one other inner) = true
 
-pub closed_length : (place : ℕ) (m : Made) → length (closed place m) ≡ length m.inner + 1
+pub closed_length : (place : ℕ) (m : Made) → length (with_inner_block place m) ≡ length m.inner + 1
 closed_length place m = length-append m.inner (record { place = Some place; instructions = m.ops; end = m.end } ∷ [])
 
 pub leaf_inner : (g : Goal) (a : Operand) → length (leaf g a).inner ≡ goal_inner g
@@ -72,17 +72,17 @@ move_inner false t a m = refl
 scale_inner : (size : ℕ) (a : Operand) (t : ℕ) (m : Made) → length (scale size a t m).inner ≡ length m.inner
 scale_inner size a t m = go (is_scaled size a)
   where
-    go : (b : Bool) → length (if b then before (scaling (shift_of size) size t a) m else m).inner ≡ length m.inner
+    go : (b : Bool) → length (if b then instruction_before (scaling (shift_of size) size t a) m else m).inner ≡ length m.inner
     go true = refl
     go false = refl
 
 pub changed_inner : (c : declared-change.Change) (x t free : ℕ) (old by : Operand) (m : Made) → length (changed c x t free old by m).inner ≡ length m.inner
 changed_inner (change.Integer o ty v) x t free old by m = go (is_narrow ty)
   where
-    go : (b : Bool) → length (if b then before (Operate t (operation_for o v) old by) (before (Truncate x (truncation_to ty) (unit.Name t)) m) else before (Operate x (operation_for o v) old by) m).inner ≡ length m.inner
+    go : (b : Bool) → length (if b then instruction_before (Operate t (operation_for o v) old by) (instruction_before (Truncate x (truncation_to ty) (unit.Name t)) m) else instruction_before (Operate x (operation_for o v) old by) m).inner ≡ length m.inner
     go true = refl
     go false = refl
-changed_inner (change.Pointer d bytes) x t free old by m = scale_inner bytes by free (before (Operate x (move_by d) old (scaled bytes by free)) m)
+changed_inner (change.Pointer d bytes) x t free old by m = scale_inner bytes by free (instruction_before (Operate x (move_by d) old (scaled bytes by free)) m)
 
 pub stored_inner : (e : declared-element.Element) (l : Location) (a : Operand) (g : Goal) → length (stored e l a g).inner ≡ goal_inner g
 stored_inner e l a (To want m) = refl
@@ -111,7 +111,7 @@ keep_inner Anywhere x t m = refl
 keep_inner Tested x t m = refl
 keep_inner (In y) x t m = go (y == x)
   where
-    go : (b : Bool) → length (if b then before (unit.Move t (unit.Name x)) m else before (unit.Move y (unit.Name x)) m).inner ≡ length m.inner
+    go : (b : Bool) → length (if b then instruction_before (unit.Move t (unit.Name x)) m else instruction_before (unit.Move y (unit.Name x)) m).inner ≡ length m.inner
     go true = refl
     go false = refl
 
@@ -121,7 +121,7 @@ use_inner (To None k) x t = refl
 use_inner (Either one other inner) x t = refl
 use_inner (To (Some y) k) x t = go (y == x)
   where
-    go : (b : Bool) → length (if b then before (unit.Move x (unit.Name t)) k else k).inner ≡ length k.inner
+    go : (b : Bool) → length (if b then instruction_before (unit.Move x (unit.Name t)) k else k).inner ≡ length k.inner
     go true = refl
     go false = refl
 
@@ -135,13 +135,13 @@ called_inner false (Either one other inner) own i = refl
 pub forked_inner : (place top : ℕ) (g : Goal) (own : ℕ) → length (forked place top g own).inner + 1 ≡ goal_inner g + for_truth (is_tested g)
 forked_inner place top (Either one other inner) own = refl
 forked_inner place top (Unused m) own =
-    let arm0 : Made = record { ops = unit.Move own (unit.Constant 0) ∷ []; end = Jump (label_of top m); inner = closed place m } in
-    let arm1 : Made = record { ops = unit.Move own (unit.Constant 1) ∷ []; end = Jump (label_of top m); inner = closed place arm0 } in
+    let arm0 : Made = record { ops = unit.Move own (unit.Constant 0) ∷ []; end = Jump (label_of top m); inner = with_inner_block place m } in
+    let arm1 : Made = record { ops = unit.Move own (unit.Constant 1) ∷ []; end = Jump (label_of top m); inner = with_inner_block place arm0 } in
     omega (arith, closed_length place m, closed_length place arm0, closed_length place arm1)
 forked_inner place top (To want k) own =
     let m = leaf (To want k) (unit.Name own) in
-    let arm0 : Made = record { ops = unit.Move own (unit.Constant 0) ∷ []; end = Jump (label_of top m); inner = closed place m } in
-    let arm1 : Made = record { ops = unit.Move own (unit.Constant 1) ∷ []; end = Jump (label_of top m); inner = closed place arm0 } in
+    let arm0 : Made = record { ops = unit.Move own (unit.Constant 0) ∷ []; end = Jump (label_of top m); inner = with_inner_block place m } in
+    let arm1 : Made = record { ops = unit.Move own (unit.Constant 1) ∷ []; end = Jump (label_of top m); inner = with_inner_block place arm0 } in
     omega (arith, closed_length place m, closed_length place arm0, closed_length place arm1, leaf_inner (To want k) (unit.Name own))
 
 module _ (n : Names) where
@@ -170,10 +170,10 @@ module _ (n : Names) where
   compared_pointers_inner (To want m) o begun q = pointers_value_inner (To want m) o begun q
   compared_pointers_inner (Unused m) o begun q = pointers_value_inner (Unused m) o begun q
 
-  distance_inner : (bytes : ℕ) (g : Goal) (begun : ℕ) (q : Pair) → length (distance n bytes g begun q).inner ≡ goal_inner g
+  distance_inner : (bytes : ℕ) (g : Goal) (begun : ℕ) (q : Pair) → length (element_distance n bytes g begun q).inner ≡ goal_inner g
   distance_inner bytes g begun q = go (bytes == 1)
     where
-      go : (b : Bool) → length (if b then operated n g begun q.next (λ x. Operate x operation.Sub q.left q.right) else before (Operate (pick n begun q.next) operation.Sub q.left q.right) (operated n g begun (q.next + 1) (λ x. unscaling (shift_of bytes) bytes x (pick n begun q.next)))).inner ≡ goal_inner g
+      go : (b : Bool) → length (if b then operated n g begun q.next (λ x. Operate x operation.Sub q.left q.right) else instruction_before (Operate (pick n begun q.next) operation.Sub q.left q.right) (operated n g begun (q.next + 1) (λ x. unscaling (shift_of bytes) bytes x (pick n begun q.next)))).inner ≡ goal_inner g
       go true = operated_inner g begun q.next (λ x. Operate x operation.Sub q.left q.right)
       go false = operated_inner g begun (q.next + 1) (λ x. unscaling (shift_of bytes) bytes x (pick n begun q.next))
 
@@ -206,7 +206,7 @@ module _ (n : Names) where
   pub left_memory_inner : (c : declared-change.Change) (q : PlaceLaid) (g : Goal) → length (left_memory c q g).inner ≡ goal_inner g
   left_memory_inner c q g =
       let old = target g q.next in let free = left_free (use_of g) q.next in let own = behind_move (takes_more c (unit.Constant 1)) free in
-      let last = before (Store (changed_element c) q.location (unit.Name own)) (follow g old) in
+      let last = instruction_before (Store (changed_element c) q.location (unit.Name own)) (follow g old) in
       changed_inner c own free free (unit.Name old) (unit.Constant 1) last ∙ follow_inner g old
 
   pub object_inner : (o : declared-object.Object) (t : ℕ) (g : Goal) → length (object_address n o t g).inner ≡ goal_inner g

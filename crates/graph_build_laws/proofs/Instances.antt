@@ -2,7 +2,7 @@
 use Rattle.std.proofs.Common.{◌≡◌, ℕ, false, Some, List, [], ◌∷◌, ◌++◌, length, slice_get, refl, sym, ◌∙◌, subst}
 use Rattle.graph_core.specs.Graphs.{Instruction, End, Return, Jump, Branch, Block}
 use Rattle.graph_core.specs.Paths.{Among, front, behind, is_marker}
-use Rattle.graph_build_steps.specs.Drafts.{Made, closed, label_of}
+use Rattle.graph_build_steps.specs.Drafts.{Made, with_inner_block, label_of}
 use Rattle.graph_build_laws.specs.Passing.{Grows, IsPassing}
 use Rattle.graph_build_laws.specs.Points.{AtLabel, GoesBack, StandIn}
 use Rattle.base_laws.proofs.Options.{some_same}
@@ -46,10 +46,10 @@ module _ (blocks : List Block) (top : ℕ) (G : (p : ℕ) → List Instruction �
   pub grown_stand : (xs ys : List Block) → Grows xs ys → StandIn blocks top ys → StandIn blocks top xs
   grown_stand xs ys g st k b e = st k b (subst (λ (zs : List Block). slice_get zs k ≡ Some b) (sym g.1) (got_before xs g.0 k b e))
 
-  closed_stand : (place : ℕ) (m : Made) → StandIn blocks top (closed place m) → StandIn blocks top m.inner
+  closed_stand : (place : ℕ) (m : Made) → StandIn blocks top (with_inner_block place m) → StandIn blocks top m.inner
   closed_stand place m st k b e = st k b (got_before m.inner (record { place = Some place; instructions = m.ops; end = m.end } ∷ []) k b e)
 
-  closed_label : (p place : ℕ) (m : Made) → StandIn blocks top (closed place m) → G p m.ops m.end → AtLabel blocks (G p) (label_of top m)
+  closed_label : (p place : ℕ) (m : Made) → StandIn blocks top (with_inner_block place m) → G p m.ops m.end → AtLabel blocks (G p) (label_of top m)
   closed_label p place m st h b e =
       let it : Block = record { place = Some place; instructions = m.ops; end = m.end } in
       let there : slice_get blocks (label_of top m) ≡ Some it = st (length m.inner) it (got_next m.inner it) in

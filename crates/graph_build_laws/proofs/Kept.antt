@@ -12,9 +12,9 @@ use Rattle.c_tree.specs.declared.typed_expression.Arithmetic as declared-arithme
 use Rattle.c_tree.specs.declared.typed_expression.Arithmetic.TheVariants as arithmetic-is
 use Rattle.c_tree.specs.TypedExpressions.{RvalueTree, LvalueTree, ArgumentTrees, Constant, Null, Load, Decay, AddressOf, Convert, Discard, Signed, Not, Arithmetic, Compare, ComparePointers, Move, MoveFrom, Difference, And, Or, Conditional, Comma, Assign, Update, UpdatePointer, Step, StepPointer, Call, Named, Target, Element, ElementFrom, none, first}
 use Rattle.c_tree.specs.Programs.{AutomaticTree}
-use Rattle.c_places.specs.Memory.{named, named_if, keeps, kept_in, kept_all}
+use Rattle.c_places.specs.Memory.{with_named_variable, named_if, keeps, kept_in, kept_in_arguments}
 use Rattle.c_type_rules.specs.Integers.{promoted}
-use Rattle.c_type_rules.specs.Types.{loaded, same_integer}
+use Rattle.c_type_rules.specs.Types.{loaded_type, same_integer}
 use Rattle.c_type_rules.specs.ValueTypes.{object_type, decayed, results_of, given_by}
 use Rattle.c_type_laws.specs.Kind.{Kind, Wrong, NullPointer, Of}
 use Rattle.c_type_laws.specs.Kinds.{is_promoted, is_of, is_typed, is_scalar, is_pointer as is_pointer_kind, is_integer, is_counted, joined, is_operand, holds_scalar, holds_integer, holds_pointer, is_array, automatic_is, is_variable, is_callee, taken_by}
@@ -43,7 +43,7 @@ module _ (all : List AutomaticTree) where
   in_back [] ys h = h
   in_back (x ∷ xs) ys h = in_back xs ys (two_true (is_in_memory (slice_get all x)) (are_in_memory all (xs ++ ys)) h).1
 
-  front_named : (l : LvalueTree) (ks : List ℕ) → InIt (named l ks) → InIt ks
+  front_named : (l : LvalueTree) (ks : List ℕ) → InIt (with_named_variable l ks) → InIt ks
   front_named (Named (object.Automatic v) of) ks h = in_front ks (v ∷ []) h
   front_named (Named (object.Static v) of) ks h = h
   front_named (Named (object.Literal v) of) ks h = h
@@ -62,7 +62,7 @@ module _ (all : List AutomaticTree) where
     front q Null ks h = h
     front q (Load s l) ks h = front_in q l ks h
     front q (Decay l) ks h = front_in q l ks h
-    front q (AddressOf l) ks h = front_named l ks (front_in q l (named l ks) h)
+    front q (AddressOf l) ks h = front_named l ks (front_in q l (with_named_variable l ks) h)
     front q (Convert t e) ks h = front q e ks h
     front q (Discard e) ks h = front q e ks h
     front q (Signed o t e) ks h = front q e ks h
@@ -90,7 +90,7 @@ module _ (all : List AutomaticTree) where
     front_in q (Element of p i) ks h = front q p ks (front q i (keeps q p ks) h)
     front_in q (ElementFrom of i p) ks h = front q i ks (front q p (keeps q i ks) h)
 
-    front_all : (q : Bool) (args : ArgumentTrees) (ks : List ℕ) → InIt (kept_all q args ks) → InIt ks
+    front_all : (q : Bool) (args : ArgumentTrees) (ks : List ℕ) → InIt (kept_in_arguments q args ks) → InIt ks
     front_all q none ks h = h
     front_all q (first e rest) ks h = front q e ks (front_all q rest (keeps q e ks) h)
 
@@ -146,7 +146,7 @@ module _ (x : Setting) (there : (v : ℕ) → is_variable x.tree v ≡ true → 
   array_inside (Element of p i) h c = tt
   array_inside (ElementFrom of i p) h c = tt
 
-  address_inside : (l : LvalueTree) (ks : List ℕ) → P l ≡ true → M (named l ks) → InMemory x l
+  address_inside : (l : LvalueTree) (ks : List ℕ) → P l ≡ true → M (with_named_variable l ks) → InMemory x l
   address_inside (Named (object.Static i) of) ks c m = tt
   address_inside (Named (object.Literal i) of) ks c m = tt
   address_inside (Named (object.Automatic v) of) ks c m =
@@ -162,11 +162,11 @@ module _ (x : Setting) (there : (v : ℕ) → is_variable x.tree v ≡ true → 
     laid q (Constant z t) ks h m = tt
     laid q Null ks h m = tt
     laid q (Load s l) ks h m =
-        let a = fits_of (holds_scalar (object_type l) s && P l) (loaded s) h in laid_place q l ks (two_true (holds_scalar (object_type l) s) (P l) a).1 m
+        let a = fits_of (holds_scalar (object_type l) s && P l) (loaded_type s) h in laid_place q l ks (two_true (holds_scalar (object_type l) s) (P l) a).1 m
     laid q (Decay l) ks h m =
         let a = fits_of (is_array (object_type l) && P l) (decayed (object_type l)) h in
         let b = two_true (is_array (object_type l)) (P l) a in (laid_place q l ks b.1 m, array_inside l b.0 b.1)
-    laid q (AddressOf l) ks h m = let a = fits_of (P l) (Pointer (object_type l)) h in (laid_place q l (named l ks) a m, address_inside l ks a (before_in q l (named l ks) m))
+    laid q (AddressOf l) ks h m = let a = fits_of (P l) (Pointer (object_type l)) h in (laid_place q l (with_named_variable l ks) a m, address_inside l ks a (before_in q l (with_named_variable l ks) m))
     laid q (Convert t e) ks h m = let k = any_integer (K e) (fits_of (is_integer (K e)) (Integer t) h) in laid q e ks (ap is_typed k.1) m
     laid q (Discard e) ks h m = laid q e ks (fits_of (is_typed (K e)) Void h) m
     laid q (Signed o t e) ks h m = let b = two_true (is_promoted t) (is_of (K e) (Integer t)) (fits_of (is_promoted t && is_of (K e) (Integer t)) (Integer t) h) in laid q e ks (typed_of (K e) (Integer t) b.1) m
@@ -202,9 +202,9 @@ module _ (x : Setting) (there : (v : ℕ) → is_variable x.tree v ≡ true → 
         (laid q c ks (scalar_typed (K c) f.0) (before true a (keeps q c ks) m2), laid true a (keeps q c ks) k.0 m2, laid true b (keeps true a (keeps q c ks)) k.1 m)
     laid q (Comma a b) ks h m = let f = if_typed (is_typed (K a)) (K b) h in (laid q a ks f.0 (before q b (keeps q a ks) m), laid q b (keeps q a ks) f.1 m)
     laid q (Assign s l e) ks h m =
-        let c = three_true (holds_scalar (object_type l) s) (P l) (is_of (K e) (loaded s)) (fits_of (holds_scalar (object_type l) s && P l && is_of (K e) (loaded s)) (loaded s) h) in
+        let c = three_true (holds_scalar (object_type l) s) (P l) (is_of (K e) (loaded_type s)) (fits_of (holds_scalar (object_type l) s && P l && is_of (K e) (loaded_type s)) (loaded_type s) h) in
         let ws = named_if q l ks in
-        (laid_place q l ws c.1 (before q e (kept_in q l ws) m), laid q e (kept_in q l ws) (typed_of (K e) (loaded s) c.2) m)
+        (laid_place q l ws c.1 (before q e (kept_in q l ws) m), laid q e (kept_in q l ws) (typed_of (K e) (loaded_type s) c.2) m)
     laid q (Update o t u l e) ks h m =
         let c = four_true (holds_integer (object_type l) t) (is_promoted u) (P l) (is_operand o u (K e)) (fits_of (holds_integer (object_type l) t && is_promoted u && P l && is_operand o u (K e)) (Integer t) h) in
         let ws = named_if q l ks in
@@ -231,7 +231,7 @@ module _ (x : Setting) (there : (v : ℕ) → is_variable x.tree v ≡ true → 
         let c = two_true (is_counted (K i)) (is_of (K p) (Pointer of)) h in
         (laid q i ks (counted_typed (K i) c.0) (before q p (keeps q i ks) m), laid q p (keeps q i ks) (typed_of (K p) (Pointer of) c.1) m)
 
-    all_laid : (q : Bool) (types : List ValueType) (args : ArgumentTrees) (ks : List ℕ) → are_passed x.program x.tree types args ≡ true → M (kept_all q args ks) → AreLaid x args
+    all_laid : (q : Bool) (types : List ValueType) (args : ArgumentTrees) (ks : List ℕ) → are_passed x.program x.tree types args ≡ true → M (kept_in_arguments q args ks) → AreLaid x args
     all_laid q [] none ks h m = tt
     all_laid q [] (first e rest) ks h m = cc
     all_laid q (t ∷ types) none ks h m = tt

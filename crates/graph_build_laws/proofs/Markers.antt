@@ -9,7 +9,7 @@ use Rattle.c_tree.specs.TypedStatements.{DeclaredTree, TypedStartTree, Nothing, 
 use Rattle.debug_records.specs.declared.source.Spot.{Spot}
 use Rattle.c_tree.specs.Programs.{TypedFunctionTree, ProgramTree}
 use Rattle.c_places.specs.Flow.{reaches_end}
-use Rattle.c_places.specs.Places.{Place, stop, brought, brought_by_start, brought_by_body, parameters_of, close_of, places_of_declarators, places_of_start, places_of_head, places_of_step, places_of, places_of_all, places_of_function, places_of_functions, places_of_program, number_at}
+use Rattle.c_places.specs.Places.{Place, stop, brought, brought_by_start, brought_by_body, parameters_of, close_of, places_of_declarators, places_of_start, places_of_head, places_of_step, places_of, places_of_all, places_of_function, places_of_functions, places_of_program, place_number_at}
 use Rattle.c_type_laws.specs.Nodes.{declared_nodes, start_nodes, option_nodes, step_nodes, statement_nodes, statements_nodes}
 use Rattle.c_type_laws.specs.Laws.{weight_of}
 use Rattle.graph_core.specs.Graphs as unit
@@ -72,7 +72,7 @@ heads_are inner (b ∷ more) h = one_marker inner b (markers_of_blocks more) h.0
 
 -- the numbers of places
 abbrev pub numbers : List Place → List Place → List ℕ
-numbers all own = map (λ (q : Place). number_at all q.spot.at) own
+numbers all own = map (λ (q : Place). place_number_at all q.spot.at) own
 
 -- The markers of a function's graph are the numbers of its places.
 pub graph_markers : (p : ProgramTree) (k : ℕ) (f : TypedFunctionTree) → slice_get p.functions k ≡ Some f → (is_main : Bool) → AllAscend (places_of_program p) → markers_of_blocks (graph_of p f is_main).blocks ≡ numbers (places_of_program p) (places_of_function k f)
@@ -91,7 +91,7 @@ graphs_markers p m (f ∷ all) h ascend =
     let none : m + 0 ≡ m = omega arith in
     let here = graph_markers p m f (subst (λ k. slice_get p.functions k ≡ Some f) none (h 0 f refl)) (m == p.main) ascend in
     let later = graphs_markers p (m + 1) all (λ k g e. subst (λ j. slice_get p.functions j ≡ Some g) (one m k) (h (suc k) g e)) ascend in
-    ap (λ (l : List ℕ). l ++ markers_of (graphs_from p (m + 1) all)) here ∙ ap (λ (l : List ℕ). numbers places (places_of_function m f) ++ l) later ∙ sym (map-append (λ (q : Place). number_at places q.spot.at) (places_of_function m f) (places_of_functions (m + 1) all))
+    ap (λ (l : List ℕ). l ++ markers_of (graphs_from p (m + 1) all)) here ∙ ap (λ (l : List ℕ). numbers places (places_of_function m f) ++ l) later ∙ sym (map-append (λ (q : Place). place_number_at places q.spot.at) (places_of_function m f) (places_of_functions (m + 1) all))
   where
     one : (m k : ℕ) → m + suc k ≡ m + 1 + k
     one m k = omega arith
@@ -116,7 +116,7 @@ different : (from : ℕ) (all : List ℕ) → rise from all → AreAllDifferent 
 different from [] h = tt
 different from (n ∷ more) h = (all_above (from + 1) n more h.1 (omega (arith, h.0)), different (from + 1) more h.1)
 
-numbers_rise : (all own : List Place) (from : ℕ) → ((k : ℕ) (q : Place) → slice_get own k ≡ Some q → number_at all q.spot.at ≡ from + k) → rise from (numbers all own)
+numbers_rise : (all own : List Place) (from : ℕ) → ((k : ℕ) (q : Place) → slice_get own k ≡ Some q → place_number_at all q.spot.at ≡ from + k) → rise from (numbers all own)
 numbers_rise all [] from h = tt
 numbers_rise all (q ∷ own) from h =
     let none : from + 0 ≡ from = omega arith in (h 0 q refl ∙ none, numbers_rise all own (from + 1) (λ k r e. h (suc k) r e ∙ one from k))
@@ -196,4 +196,4 @@ functions_places number (f ∷ all) h =
 
 -- A program has no more places than its functions weigh.
 pub few_places : (p : ProgramTree) → ((k : ℕ) (f : TypedFunctionTree) → slice_get p.functions k ≡ Some f → 2 + f.parameters + statements_nodes f.body ≤ f.weight) → length (numbers (places_of_program p) (places_of_program p)) ≤ weight_of p.functions
-few_places p h = omega (arith, length-map (places_of_program p) (λ (q : Place). number_at (places_of_program p) q.spot.at), functions_places 0 p.functions h)
+few_places p h = omega (arith, length-map (places_of_program p) (λ (q : Place). place_number_at (places_of_program p) q.spot.at), functions_places 0 p.functions h)

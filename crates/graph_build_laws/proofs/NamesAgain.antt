@@ -14,7 +14,7 @@ use Rattle.c_type_laws.specs.Nodes.{nodes, place_nodes, argument_nodes}
 use Rattle.graph_core.specs.Graphs as unit
 use Rattle.graph_core.specs.Graphs.{Operand}
 use Rattle.graph_build_names.specs.Scales.{is_scaled}
-use Rattle.graph_build_names.specs.Conversions.{keeps_bits, is_narrow, is_kept_constant, word_of}
+use Rattle.graph_build_names.specs.Conversions.{keeps_bits, is_narrow, is_kept_constant, unsigned_bits}
 use Rattle.graph_build_names.specs.Operands.{is_two, is_two_pointers}
 use Rattle.graph_build_layout.specs.declared.laid.Use.{Use}
 use Rattle.graph_build_layout.specs.declared.laid.Use.TheVariants.{Anywhere, In, Nothing, Tested}
@@ -346,7 +346,7 @@ module _ (n : Names) (again : n.again ≡ true) (scalars : ℕ) (few : NamesFew 
 
   mutual
     light : (e : RvalueTree) → Light e
-    light (Constant z ty) = light_constant (Constant z ty) (unit.Constant (word_of z)) refl (λ u k. leaf_small u (unit.Constant (word_of z)) k) (λ k. omega arith)
+    light (Constant z ty) = light_constant (Constant z ty) (unit.Constant (unsigned_bits z)) refl (λ u k. leaf_small u (unit.Constant (unsigned_bits z)) k) (λ k. omega arith)
     light Null = light_constant Null (unit.Constant 0) refl (λ u k. leaf_small u (unit.Constant 0) k) (λ k. omega arith)
     light (Load s l) = (let h = light_place l in record { least = h.least; small = λ u k p. load_small l h u k p (scalar_named n l); steady = λ k w fw p. load_steady l h k w fw p (scalar_named n l) })
     light (Decay l) = (let h = light_place l in record { least = h.least; small = h.address; steady = h.steady })

@@ -15,9 +15,9 @@ use Rattle.c_tree.specs.declared.typed_expression.Arithmetic.TheVariants as arit
 use Rattle.c_tree.specs.declared.typed_expression.Callee as source-callee
 use Rattle.c_tree.specs.TypedExpressions.{RvalueTree, LvalueTree, ArgumentTrees, Constant, Null, Load, Decay, AddressOf, Convert, Discard, Signed, Not, Arithmetic, Compare, ComparePointers, Move, MoveFrom, Difference, And, Or, Conditional, Comma, Assign, Update, UpdatePointer, Step, StepPointer, Call, Named, Target, Element, ElementFrom, none, first}
 use Rattle.c_tree.specs.Programs.{AutomaticTree, LiteralTree, StaticTree, TypedFunctionTree, ProgramTree}
-use Rattle.c_places.specs.Memory.{named, named_if, keeps, kept_in, kept_all}
+use Rattle.c_places.specs.Memory.{with_named_variable, named_if, keeps, kept_in, kept_in_arguments}
 use Rattle.c_type_rules.specs.Integers.{promoted}
-use Rattle.c_type_rules.specs.Types.{loaded, same_integer}
+use Rattle.c_type_rules.specs.Types.{loaded_type, same_integer}
 use Rattle.c_type_rules.specs.ValueTypes.{object_type, decayed, results_of, given_by}
 use Rattle.c_type_laws.specs.Kind.{Kind, Wrong, NullPointer, Of}
 use Rattle.c_type_laws.specs.Kinds.{is_promoted, is_of, is_typed, is_scalar, is_pointer as is_pointer_kind, is_integer, is_counted, joined, is_operand, holds_scalar, holds_integer, holds_pointer, is_array, static_is, literal_is, automatic_is, is_variable, is_object, is_callee, taken_by}
@@ -131,7 +131,7 @@ front_in all q (Target of a) ks h = front all q a ks h
 front_in all q (Element of a i) ks h = front all q a ks (front all q i (keeps q a ks) h)
 front_in all q (ElementFrom of i a) ks h = front all q i ks (front all q a (keeps q i ks) h)
 
-front_all : (all : List AutomaticTree) (q : Bool) (args : ArgumentTrees) (ks : List ℕ) → InIt all (kept_all q args ks) → InIt all ks
+front_all : (all : List AutomaticTree) (q : Bool) (args : ArgumentTrees) (ks : List ℕ) → InIt all (kept_in_arguments q args ks) → InIt all ks
 front_all all q none ks h = h
 front_all all q (first e rest) ks h = front all q e ks (front_all all q rest (keeps q e ks) h)
 
@@ -183,7 +183,7 @@ module _ (p : ProgramTree) (f : TypedFunctionTree) (graphs : List Graph) (n : Na
   array_inside (Element of a i) h c = tt
   array_inside (ElementFrom of i a) h c = tt
 
-  address_inside : (l : LvalueTree) (ks : List ℕ) → P l ≡ true → M (named l ks) → HasAddress p graphs n l
+  address_inside : (l : LvalueTree) (ks : List ℕ) → P l ≡ true → M (with_named_variable l ks) → HasAddress p graphs n l
   address_inside (Named (object.Static i) of) ks c m = object_there (object.Static i) of c
   address_inside (Named (object.Literal i) of) ks c m = object_there (object.Literal i) of c
   address_inside (Named (object.Automatic v) of) ks c m =
@@ -205,11 +205,11 @@ module _ (p : ProgramTree) (f : TypedFunctionTree) (graphs : List Graph) (n : Na
     expression_names q (Constant z t) ks h m = tt
     expression_names q Null ks h m = tt
     expression_names q (Load s l) ks h m =
-        let a = fits_of (holds_scalar (object_type l) s && P l) (loaded s) h in place_named q l ks (two_true (holds_scalar (object_type l) s) (P l) a).1 m
+        let a = fits_of (holds_scalar (object_type l) s && P l) (loaded_type s) h in place_named q l ks (two_true (holds_scalar (object_type l) s) (P l) a).1 m
     expression_names q (Decay l) ks h m =
         let a = fits_of (is_array (object_type l) && P l) (decayed (object_type l)) h in
         let b = two_true (is_array (object_type l)) (P l) a in (place_named q l ks b.1 m, array_inside l b.0 b.1)
-    expression_names q (AddressOf l) ks h m = let a = fits_of (P l) (Pointer (object_type l)) h in (place_named q l (named l ks) a m, address_inside l ks a (before_in q l (named l ks) m))
+    expression_names q (AddressOf l) ks h m = let a = fits_of (P l) (Pointer (object_type l)) h in (place_named q l (with_named_variable l ks) a m, address_inside l ks a (before_in q l (with_named_variable l ks) m))
     expression_names q (Convert t e) ks h m = let k = any_integer (K e) (fits_of (is_integer (K e)) (Integer t) h) in expression_names q e ks (ap is_typed k.1) m
     expression_names q (Discard e) ks h m = expression_names q e ks (fits_of (is_typed (K e)) Void h) m
     expression_names q (Signed o t e) ks h m = let b = two_true (is_promoted t) (is_of (K e) (Integer t)) (fits_of (is_promoted t && is_of (K e) (Integer t)) (Integer t) h) in expression_names q e ks (typed_of (K e) (Integer t) b.1) m
@@ -245,9 +245,9 @@ module _ (p : ProgramTree) (f : TypedFunctionTree) (graphs : List Graph) (n : Na
         (expression_names q c ks (scalar_typed (K c) f.0) (before true a (keeps q c ks) m2), expression_names true a (keeps q c ks) k.0 m2, expression_names true b (keeps true a (keeps q c ks)) k.1 m)
     expression_names q (Comma a b) ks h m = let f = if_typed (is_typed (K a)) (K b) h in (expression_names q a ks f.0 (before q b (keeps q a ks) m), expression_names q b (keeps q a ks) f.1 m)
     expression_names q (Assign s l e) ks h m =
-        let c = three_true (holds_scalar (object_type l) s) (P l) (is_of (K e) (loaded s)) (fits_of (holds_scalar (object_type l) s && P l && is_of (K e) (loaded s)) (loaded s) h) in
+        let c = three_true (holds_scalar (object_type l) s) (P l) (is_of (K e) (loaded_type s)) (fits_of (holds_scalar (object_type l) s && P l && is_of (K e) (loaded_type s)) (loaded_type s) h) in
         let ws = named_if q l ks in
-        (place_named q l ws c.1 (before q e (kept_in q l ws) m), expression_names q e (kept_in q l ws) (typed_of (K e) (loaded s) c.2) m)
+        (place_named q l ws c.1 (before q e (kept_in q l ws) m), expression_names q e (kept_in q l ws) (typed_of (K e) (loaded_type s) c.2) m)
     expression_names q (Update o t u l e) ks h m =
         let c = four_true (holds_integer (object_type l) t) (is_promoted u) (P l) (is_operand o u (K e)) (fits_of (holds_integer (object_type l) t && is_promoted u && P l && is_operand o u (K e)) (Integer t) h) in
         let ws = named_if q l ks in
@@ -275,7 +275,7 @@ module _ (p : ProgramTree) (f : TypedFunctionTree) (graphs : List Graph) (n : Na
         let c = two_true (is_counted (K i)) (is_of (K p) (Pointer of)) h in
         (expression_names q i ks (counted_typed (K i) c.0) (before q p (keeps q i ks) m), expression_names q p (keeps q i ks) (typed_of (K p) (Pointer of) c.1) m)
 
-    all_named : (q : Bool) (types : List ValueType) (args : ArgumentTrees) (ks : List ℕ) → are_passed p f types args ≡ true → M (kept_all q args ks) → ArgumentsName p graphs n args
+    all_named : (q : Bool) (types : List ValueType) (args : ArgumentTrees) (ks : List ℕ) → are_passed p f types args ≡ true → M (kept_in_arguments q args ks) → ArgumentsName p graphs n args
     all_named q [] none ks h m = tt
     all_named q [] (first e rest) ks h m = cc
     all_named q (t ∷ types) none ks h m = tt

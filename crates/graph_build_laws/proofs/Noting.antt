@@ -22,7 +22,7 @@ use Rattle.graph_build_names.specs.Writes.{writes, writes_within, writes_any, na
 use Rattle.graph_build_layout.specs.Laid.{Laid, Pair, pair, behind_move, behind_own, use_for}
 use Rattle.graph_build_layout.specs.Layout.{laid, place_laid, passed_laid}
 use Rattle.graph_build_steps.specs.Rules.{element_of, truncation_to, steps_by}
-use Rattle.graph_build_steps.specs.Drafts.{Made, Goal, To, Unused, Either, use_of, before, ending, leaf, label_of, closed, forked, valued, used, operated, move_if, hold_location, noted, note, use_old, behind_old}
+use Rattle.graph_build_steps.specs.Drafts.{Made, Goal, To, Unused, Either, use_of, instruction_before, ending, leaf, label_of, with_inner_block, forked, valued, used, operated, move_if, hold_location, noted, note, use_old, behind_old}
 use Rattle.graph_build_steps.specs.Drafts as drafts
 use Rattle.graph_build_steps.specs.declared.site.Two as declared-two
 use Rattle.graph_build_steps.specs.declared.site.Two.TheVariants as two
@@ -58,10 +58,10 @@ module _ (blocks : List Block) (top : ℕ) (G : List Instruction → End → Typ
   abbrev pub AnyStand : List Block → Type 0
   AnyStand inner = Unit {0}
 
-  closed_before : (place : ℕ) (m : Made) → StandIn blocks top (closed place m) → StandIn blocks top m.inner
+  closed_before : (place : ℕ) (m : Made) → StandIn blocks top (with_inner_block place m) → StandIn blocks top m.inner
   closed_before place m st k b e = st k b (got_before m.inner (record { place = Some place; instructions = m.ops; end = m.end } ∷ []) k b e)
 
-  closed_at : (place : ℕ) (m : Made) → StandIn blocks top (closed place m) → G m.ops m.end → AtLabel blocks G (label_of top m)
+  closed_at : (place : ℕ) (m : Made) → StandIn blocks top (with_inner_block place m) → G m.ops m.end → AtLabel blocks G (label_of top m)
   closed_at place m st h b e =
       let it : Block = record { place = Some place; instructions = m.ops; end = m.end } in
       let there : slice_get blocks (label_of top m) ≡ Some it = st (length m.inner) it (got_next m.inner it) in
@@ -289,18 +289,18 @@ module _ (blocks : List Block) (top x : ℕ) (n : Names) (place : ℕ) where
     code_notes (And a b) t g sure w = (
         let at = behind_own (use_of g) t in let way = forked place top g t in
         let m = code n place top b (pick n at (laid n a Tested at).top) (Either way.one way.other way.inner) in
-        code_notes a at (Either (label_of top m) way.other (closed place m)) sure.0 (or_first (writes n x a) (writes n x b) w (sure.1 x)))
+        code_notes a at (Either (label_of top m) way.other (with_inner_block place m)) sure.0 (or_first (writes n x a) (writes n x b) w (sure.1 x)))
     code_notes (Or a b) t g sure w = (
         let at = behind_own (use_of g) t in let way = forked place top g t in
         let m = code n place top b (pick n at (laid n a Tested at).top) (Either way.one way.other way.inner) in
-        code_notes a at (Either way.one (label_of top m) (closed place m)) sure.0 (or_first (writes n x a) (writes n x b) w (sure.1 x)))
+        code_notes a at (Either way.one (label_of top m) (with_inner_block place m)) sure.0 (or_first (writes n x a) (writes n x b) w (sure.1 x)))
     code_notes (Conditional c a b) t g sure w = (
         let void = is_void (type_of n.results a) in let at = behind_move (not void) t in
         let at_a = pick n at (laid n c Tested at).top in let at_b = pick n at (laid n a (arm_use void t) at_a).top in
         let m = leaf g (arm_value void t) in
-        let y = code n place top b at_b (arm_goal void t (ending (Jump (label_of top m)) (closed place m))) in
-        let z = code n place top a at_a (arm_goal void t (ending (Jump (label_of top m)) (closed place y))) in
-        code_notes c at (Either (label_of top z) (label_of top y) (closed place z)) sure.0 (or_first (writes n x c) (writes n x a) (or_first (writes n x c || writes n x a) (writes n x b) w (sure.2 x)) (sure.1 x)))
+        let y = code n place top b at_b (arm_goal void t (ending (Jump (label_of top m)) (with_inner_block place m))) in
+        let z = code n place top a at_a (arm_goal void t (ending (Jump (label_of top m)) (with_inner_block place y))) in
+        code_notes c at (Either (label_of top z) (label_of top y) (with_inner_block place z)) sure.0 (or_first (writes n x c) (writes n x a) (or_first (writes n x c || writes n x a) (writes n x b) w (sure.2 x)) (sure.1 x)))
     code_notes (Comma a b) t g sure w = comma_notes a b (code_notes a) (code_notes b) t g sure w
     code_notes (Assign s l e) t g sure w = assign_notes s l e (place_notes l) (code_notes e) t g sure.0 sure.1 (scalar_named n l) refl (three_ways (names_it n x l) (writes_within n x l) (writes n x e) w)
     code_notes (Update o ty v l e) t g sure w = update_notes (change.Integer o ty v) l e (place_notes l) (code_notes e) t g sure.0 sure.1 (scalar_named n l) refl (three_ways (names_it n x l) (writes_within n x l) (writes n x e) w)

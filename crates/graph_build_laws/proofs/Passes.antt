@@ -15,7 +15,7 @@ use Rattle.word_base.specs.declared.operation.Operation.TheVariants as operation
 use Rattle.graph_core.specs.Graphs as unit
 use Rattle.graph_core.specs.Graphs.{Operand, Instruction, Operate, Truncate, Same, Block, End, Jump}
 use Rattle.graph_core.specs.Paths.{is_marker}
-use Rattle.graph_build_names.specs.Conversions.{word_of, keeps_bits, is_kept_constant}
+use Rattle.graph_build_names.specs.Conversions.{unsigned_bits, keeps_bits, is_kept_constant}
 use Rattle.graph_build_names.specs.Operands.{held, operand_at}
 use Rattle.graph_build_layout.specs.declared.laid.Use.TheVariants.{Anywhere, Nothing, Tested}
 use Rattle.graph_build_names.specs.Names.{Names, scalar_named, pick}
@@ -23,7 +23,7 @@ use Rattle.graph_build_names.specs.Writes.{writes, writes_any, is_moved, is_loca
 use Rattle.graph_build_layout.specs.Laid.{Pair, PlaceLaid, pair, behind_move, behind_own, use_for}
 use Rattle.graph_build_layout.specs.Layout.{laid, place_laid, passed_laid}
 use Rattle.graph_build_steps.specs.Rules.{element_of, truncation_to, callee_for, steps_by}
-use Rattle.graph_build_steps.specs.Drafts.{Made, Goal, To, Unused, Either, use_of, ending, leaf, label_of, closed, forked, valued, used, operated, move_if, hold_location, held_location, stored, noted, called_by}
+use Rattle.graph_build_steps.specs.Drafts.{Made, Goal, To, Unused, Either, use_of, ending, leaf, label_of, with_inner_block, forked, valued, used, operated, move_if, hold_location, held_location, stored, noted, called_by}
 use Rattle.graph_build_steps.specs.Drafts as drafts
 use Rattle.graph_build_steps.specs.declared.site.Two as declared-two
 use Rattle.graph_build_steps.specs.declared.site.Two.TheVariants as two
@@ -106,11 +106,11 @@ module _ (place top : ℕ) (Has : Made → Type 0) (Leads : (label : ℕ) → Li
       let at = behind_own (use_of g) t in let way = forked place top g t in
       let later = pick n at (laid n a Tested at).top in
       let m = code n place top b later (Either way.one way.other way.inner) in
-      let xa = ha at (Either (label_of top m) way.other (closed place m)) in
+      let xa = ha at (Either (label_of top m) way.other (with_inner_block place m)) in
       let xb = hb later (Either way.one way.other way.inner) in
       let f = forked_passes place top Has Leads Stand passing g t in
       let whole = code n place top (And a b) t g in (
-        grows_on (inner_of g) way.inner whole.inner f.0 (grows_on way.inner m.inner whole.inner xb.0 (grows_on m.inner (closed place m) whole.inner (closed_grows place m) xa.0)),
+        grows_on (inner_of g) way.inner whole.inner f.0 (grows_on way.inner m.inner whole.inner xb.0 (grows_on m.inner (with_inner_block place m) whole.inner (closed_grows place m) xa.0)),
         λ h. (let k = f.1 h in let r = xb.1 (k.0, k.1) in xa.1 (passing.close m r, passing.keep m way.other way.inner xb.0 r k.1)),
       )
 
@@ -119,11 +119,11 @@ module _ (place top : ℕ) (Has : Made → Type 0) (Leads : (label : ℕ) → Li
       let at = behind_own (use_of g) t in let way = forked place top g t in
       let later = pick n at (laid n a Tested at).top in
       let m = code n place top b later (Either way.one way.other way.inner) in
-      let xa = ha at (Either way.one (label_of top m) (closed place m)) in
+      let xa = ha at (Either way.one (label_of top m) (with_inner_block place m)) in
       let xb = hb later (Either way.one way.other way.inner) in
       let f = forked_passes place top Has Leads Stand passing g t in
       let whole = code n place top (Or a b) t g in (
-        grows_on (inner_of g) way.inner whole.inner f.0 (grows_on way.inner m.inner whole.inner xb.0 (grows_on m.inner (closed place m) whole.inner (closed_grows place m) xa.0)),
+        grows_on (inner_of g) way.inner whole.inner f.0 (grows_on way.inner m.inner whole.inner xb.0 (grows_on m.inner (with_inner_block place m) whole.inner (closed_grows place m) xa.0)),
         λ h. (let k = f.1 h in let r = xb.1 (k.0, k.1) in xa.1 (passing.keep m way.one way.inner xb.0 r k.0, passing.close m r)),
       )
 
@@ -136,24 +136,24 @@ module _ (place top : ℕ) (Has : Made → Type 0) (Leads : (label : ℕ) → Li
       let void = is_void (type_of n.results a) in let at = behind_move (not void) t in
       let at_a = pick n at (laid n c Tested at).top in let at_b = pick n at (laid n a (arm_use void t) at_a).top in
       let m = leaf g (arm_value void t) in
-      let join = ending (Jump (label_of top m)) (closed place m) in
+      let join = ending (Jump (label_of top m)) (with_inner_block place m) in
       let y = code n place top b at_b (arm_goal void t join) in
-      let join_a = ending (Jump (label_of top m)) (closed place y) in
+      let join_a = ending (Jump (label_of top m)) (with_inner_block place y) in
       let x = code n place top a at_a (arm_goal void t join_a) in
-      let xc = hc at (Either (label_of top x) (label_of top y) (closed place x)) in
+      let xc = hc at (Either (label_of top x) (label_of top y) (with_inner_block place x)) in
       let xa = arm_leads void a ha t at_a join_a in
       let xb = arm_leads void b hb t at_b join in
       let l = leaf_carries place top Has Leads Stand passing g (arm_value void t) in
       let whole = code n place top (Conditional c a b) t g in
-      let to_y = grows_on (inner_of g) m.inner y.inner l.0 (grows_on m.inner (closed place m) y.inner (closed_grows place m) xb.0) in
-      let to_x = grows_on (inner_of g) y.inner x.inner to_y (grows_on y.inner (closed place y) x.inner (closed_grows place y) xa.0) in (
-        grows_on (inner_of g) x.inner whole.inner to_x (grows_on x.inner (closed place x) whole.inner (closed_grows place x) xc.0),
+      let to_y = grows_on (inner_of g) m.inner y.inner l.0 (grows_on m.inner (with_inner_block place m) y.inner (closed_grows place m) xb.0) in
+      let to_x = grows_on (inner_of g) y.inner x.inner to_y (grows_on y.inner (with_inner_block place y) x.inner (closed_grows place y) xa.0) in (
+        grows_on (inner_of g) x.inner whole.inner to_x (grows_on x.inner (with_inner_block place x) whole.inner (closed_grows place x) xc.0),
         λ h. (
             let has_m = l.1 h in
             let to_m = passing.close m has_m in
-            let has_y = xb.1 (passing.jump (label_of top m) (closed place m) to_m) in
-            let has_x = xa.1 (passing.jump (label_of top m) (closed place y) (passing.keep y (label_of top m) (closed place m) xb.0 has_y to_m)) in
-            xc.1 (passing.close x has_x, passing.keep x (label_of top y) (closed place y) xa.0 has_x (passing.close y has_y))),
+            let has_y = xb.1 (passing.jump (label_of top m) (with_inner_block place m) to_m) in
+            let has_x = xa.1 (passing.jump (label_of top m) (with_inner_block place y) (passing.keep y (label_of top m) (with_inner_block place m) xb.0 has_y to_m)) in
+            xc.1 (passing.close x has_x, passing.keep x (label_of top y) (with_inner_block place y) xa.0 has_x (passing.close y has_y))),
       )
 
   comma_passes : (a b : RvalueTree) → Passes a → Passes b → Passes (Comma a b)
@@ -216,7 +216,7 @@ module _ (place top : ℕ) (Has : Made → Type 0) (Leads : (label : ℕ) → Li
 
   mutual
     pub code_passes : (e : RvalueTree) → Passes e
-    code_passes (Constant z ty) t g = leaf_carries place top Has Leads Stand passing g (unit.Constant (word_of z))
+    code_passes (Constant z ty) t g = leaf_carries place top Has Leads Stand passing g (unit.Constant (unsigned_bits z))
     code_passes Null t g = leaf_carries place top Has Leads Stand passing g (drafts.zero)
     code_passes (Load s l) t g = load_passes s l (place_passes l) t g (scalar_named n l)
     code_passes (Decay l) t g = (place_passes l).address t g

@@ -18,12 +18,12 @@ use Rattle.graph_build_layout.specs.declared.laid.Use.{Use}
 use Rattle.graph_build_layout.specs.declared.laid.Use.TheVariants.{Anywhere, In, Nothing, Tested}
 use Rattle.graph_build_names.specs.Names.{Names, pick, object_of}
 use Rattle.graph_build_layout.specs.Laid.{Laid, Pair, PlaceLaid, behind_move}
-use Rattle.graph_build_steps.specs.Drafts.{Made, Goal, To, Unused, Either, Fork, before, ending, leaf, target, follow, tested, scale, scaling, unscaling, move_if, note, noted, compare_by, compare_pointers_by, closed, arm, forked, valued, used, hold_location, stored, keep_old, use_old, assign_goal, called_by, renew, operated, code_scaled_pair, compared, compared_value, compared_pointers, compared_pointers_value, label_of, next_label}
+use Rattle.graph_build_steps.specs.Drafts.{Made, Goal, To, Unused, Either, Fork, instruction_before, ending, leaf, target, follow, tested, scale, scaling, unscaling, move_if, note, noted, compare_by, compare_pointers_by, with_inner_block, arm, forked, valued, used, hold_location, stored, keep_old, use_old, assign_goal, called_by, renew, operated, code_scaled_pair, compared, compared_value, compared_pointers, compared_pointers_value, label_of, next_label}
 use Rattle.graph_build_steps.specs.declared.site.Two as declared-two
 use Rattle.graph_build_steps.specs.declared.site.Two.TheVariants as two
 use Rattle.graph_build_steps.specs.declared.change.Change as declared-change
 use Rattle.graph_build_steps.specs.declared.change.Change.TheVariants as change
-use Rattle.graph_build_steps.specs.Steps.{finished, distance, changed, renewed_scalar, loaded_first, renewed_memory, left_scalar, left_memory, object_address, or_zero}
+use Rattle.graph_build_steps.specs.Steps.{finished, element_distance, changed, renewed_scalar, loaded_first, renewed_memory, left_scalar, left_memory, object_address, or_zero}
 use Rattle.graph_build_laws.specs.Sizes.{counted, made_counts, goal_counts}
 
 -- a name that wants a value may take one more instruction, a move
@@ -45,7 +45,7 @@ count_most (Marker p) = omega arith
 count_most (Note x v) = omega arith
 count_most _ = omega arith
 
-pub before_most : (i : Instruction) (m : Made) → made_counts (before i m) ≤ made_counts m + 1
+pub before_most : (i : Instruction) (m : Made) → made_counts (instruction_before i m) ≤ made_counts m + 1
 before_most i m = omega (arith, count_most i)
 
 pub note_most : (x : ℕ) (m : Made) → made_counts (note x m) ≤ made_counts m
@@ -56,7 +56,7 @@ total_append f [] y = omega arith
 total_append f (x ∷ xs) y = omega (arith, total_append f xs y)
 
 -- what is closed is still counted
-pub closed_counts : (place : ℕ) (m : Made) → counted (closed place m) ≡ made_counts m
+pub closed_counts : (place : ℕ) (m : Made) → counted (with_inner_block place m) ≡ made_counts m
 closed_counts place m =
     let it : Block = record { place = Some place; instructions = m.ops; end = m.end } in
     omega (arith, total_append (λ (b : Block). total counts b.instructions) m.inner it)
@@ -92,21 +92,21 @@ move_most false t a m = omega arith
 pub scale_most : (size : ℕ) (a : Operand) (t : ℕ) (m : Made) → made_counts (scale size a t m) ≤ made_counts m + 1
 scale_most size a t m = go (is_scaled size a)
   where
-    go : (b : Bool) → made_counts (if b then before (scaling (shift_of size) size t a) m else m) ≤ made_counts m + 1
+    go : (b : Bool) → made_counts (if b then instruction_before (scaling (shift_of size) size t a) m else m) ≤ made_counts m + 1
     go true = before_most (scaling (shift_of size) size t a) m
     go false = omega arith
 
 pub renew_most : (t : IntegerType) (x y : ℕ) (i : ℕ → Instruction) (m : Made) → made_counts (renew t x y i m) ≤ made_counts m + 2
 renew_most t x y i m = go (is_narrow t)
   where
-    go : (b : Bool) → made_counts (if b then before (i y) (before (Truncate x (Rattle.graph_build_steps.specs.Rules.truncation_to t) (unit.Name y)) m) else before (i x) m) ≤ made_counts m + 2
+    go : (b : Bool) → made_counts (if b then instruction_before (i y) (instruction_before (Truncate x (Rattle.graph_build_steps.specs.Rules.truncation_to t) (unit.Name y)) m) else instruction_before (i x) m) ≤ made_counts m + 2
     go true = omega (arith, count_most (i y))
     go false = omega (arith, count_most (i x))
 
 pub changed_most : (c : declared-change.Change) (x t free : ℕ) (old by : Operand) (m : Made) → made_counts (changed c x t free old by m) ≤ made_counts m + 2
 changed_most (change.Integer o ty v) x t free old by m = renew_most ty x t (λ y. Operate y (Rattle.graph_build_steps.specs.Rules.operation_for o v) old by) m
 changed_most (change.Pointer d bytes) x t free old by m =
-    omega (arith, scale_most bytes by free (before (Operate x (Rattle.graph_build_steps.specs.Rules.move_by d) old (Rattle.graph_build_names.specs.Scales.scaled bytes by free)) m))
+    omega (arith, scale_most bytes by free (instruction_before (Operate x (Rattle.graph_build_steps.specs.Rules.move_by d) old (Rattle.graph_build_names.specs.Scales.scaled bytes by free)) m))
 
 pub stored_most : (e : declared-element.Element) (l : Location) (a : Operand) (g : Goal) → made_counts (stored e l a g) ≤ goal_counts g + 1
 stored_most e l a (To want m) = omega arith
@@ -135,7 +135,7 @@ keep_most Anywhere x t m = omega arith
 keep_most Tested x t m = omega arith
 keep_most (In y) x t m = go (y == x)
   where
-    go : (b : Bool) → made_counts (if b then before (unit.Move t (unit.Name x)) m else before (unit.Move y (unit.Name x)) m) ≤ made_counts m + 1
+    go : (b : Bool) → made_counts (if b then instruction_before (unit.Move t (unit.Name x)) m else instruction_before (unit.Move y (unit.Name x)) m) ≤ made_counts m + 1
     go true = omega arith
     go false = omega arith
 
@@ -145,7 +145,7 @@ use_most (To None k) x t = omega arith
 use_most (Either one other inner) x t = omega arith
 use_most (To (Some y) k) x t = go (y == x)
   where
-    go : (b : Bool) → made_counts (if b then before (unit.Move x (unit.Name t)) k else k) ≤ made_counts k + 1
+    go : (b : Bool) → made_counts (if b then instruction_before (unit.Move x (unit.Name t)) k else k) ≤ made_counts k + 1
     go true = omega arith
     go false = omega arith
 
@@ -160,13 +160,13 @@ called_most false (Either one other inner) own i = omega (arith, count_most (i (
 pub forked_most : (place top : ℕ) (g : Goal) (own : ℕ) → counted (forked place top g own).inner ≤ goal_counts g + room g + 2
 forked_most place top (Either one other inner) own = omega arith
 forked_most place top (Unused m) own =
-    let arm1 : Made = record { ops = unit.Move own (unit.Constant 0) ∷ []; end = Jump (label_of top m); inner = closed place m } in
-    let arm2 : Made = record { ops = unit.Move own (unit.Constant 1) ∷ []; end = Jump (label_of top m); inner = closed place arm1 } in
+    let arm1 : Made = record { ops = unit.Move own (unit.Constant 0) ∷ []; end = Jump (label_of top m); inner = with_inner_block place m } in
+    let arm2 : Made = record { ops = unit.Move own (unit.Constant 1) ∷ []; end = Jump (label_of top m); inner = with_inner_block place arm1 } in
     omega (arith, closed_counts place m, closed_counts place arm1, closed_counts place arm2)
 forked_most place top (To want k) own =
     let m = leaf (To want k) (unit.Name own) in
-    let arm1 : Made = record { ops = unit.Move own (unit.Constant 0) ∷ []; end = Jump (label_of top m); inner = closed place m } in
-    let arm2 : Made = record { ops = unit.Move own (unit.Constant 1) ∷ []; end = Jump (label_of top m); inner = closed place arm1 } in
+    let arm1 : Made = record { ops = unit.Move own (unit.Constant 0) ∷ []; end = Jump (label_of top m); inner = with_inner_block place m } in
+    let arm2 : Made = record { ops = unit.Move own (unit.Constant 1) ∷ []; end = Jump (label_of top m); inner = with_inner_block place arm1 } in
     omega (arith, closed_counts place m, closed_counts place arm1, closed_counts place arm2, leaf_most (To want k) (unit.Name own))
 
 module _ (n : Names) where
@@ -199,7 +199,7 @@ module _ (n : Names) where
   pointers_most (To want m) o begun q = pointers_value_most (To want m) o begun q
   pointers_most (Unused m) o begun q = pointers_value_most (Unused m) o begun q
 
-  distance_most : (bytes : ℕ) (g : Goal) (begun : ℕ) (q : Pair) → made_counts (distance n bytes g begun q) ≤ goal_counts g + 2
+  distance_most : (bytes : ℕ) (g : Goal) (begun : ℕ) (q : Pair) → made_counts (element_distance n bytes g begun q) ≤ goal_counts g + 2
   distance_most bytes g begun q = go (bytes == 1)
     where
       one : ℕ → Instruction
@@ -208,7 +208,7 @@ module _ (n : Names) where
       other : ℕ → Instruction
       other x = unscaling (shift_of bytes) bytes x (pick n begun q.next)
 
-      go : (b : Bool) → made_counts (if b then operated n g begun q.next (λ x. Operate x Rattle.word_base.specs.declared.operation.Operation.TheVariants.Sub q.left q.right) else before (Operate (pick n begun q.next) Rattle.word_base.specs.declared.operation.Operation.TheVariants.Sub q.left q.right) (operated n g begun (q.next + 1) (λ x. unscaling (shift_of bytes) bytes x (pick n begun q.next)))) ≤ goal_counts g + 2
+      go : (b : Bool) → made_counts (if b then operated n g begun q.next (λ x. Operate x Rattle.word_base.specs.declared.operation.Operation.TheVariants.Sub q.left q.right) else instruction_before (Operate (pick n begun q.next) Rattle.word_base.specs.declared.operation.Operation.TheVariants.Sub q.left q.right) (operated n g begun (q.next + 1) (λ x. unscaling (shift_of bytes) bytes x (pick n begun q.next)))) ≤ goal_counts g + 2
       go true = omega (arith, operated_most g begun q.next (λ x. Operate x Rattle.word_base.specs.declared.operation.Operation.TheVariants.Sub q.left q.right))
       go false = omega (arith, operated_most g begun (q.next + 1) (λ x. unscaling (shift_of bytes) bytes x (pick n begun q.next)))
 
@@ -243,7 +243,7 @@ module _ (n : Names) where
   left_memory_most c q g =
       let old = target g q.next in let free = Rattle.graph_build_steps.specs.Drafts.left_free (Rattle.graph_build_steps.specs.Drafts.use_of g) q.next in
       let own = behind_move (Rattle.graph_build_steps.specs.Steps.takes_more c (unit.Constant 1)) free in
-      let last = before (Store (Rattle.graph_build_steps.specs.Steps.changed_element c) q.location (unit.Name own)) (follow g old) in
+      let last = instruction_before (Store (Rattle.graph_build_steps.specs.Steps.changed_element c) q.location (unit.Name own)) (follow g old) in
       omega (arith, changed_most c own free free (unit.Name old) (unit.Constant 1) last, follow_most g old)
 
   pub object_most : (o : declared-object.Object) (t : ℕ) (g : Goal) → made_counts (object_address n o t g) + 1 ≤ goal_counts g + room g + 2

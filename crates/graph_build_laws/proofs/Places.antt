@@ -4,7 +4,7 @@ use Rattle.std.specs.Prelude.{◌==◌}
 use Rattle.std.proofs.lemmas.Bool.Decides.{nat_tests}
 use Rattle.c_tree.specs.Programs.{TypedFunctionTree, ProgramTree}
 use Rattle.c_places.specs.Flow.{reaches_end}
-use Rattle.c_places.specs.Places.{Place, stop, brought_by_body, parameters_of, close_of, places_of_all, places_of_function, places_of_program, number_at}
+use Rattle.c_places.specs.Places.{Place, stop, brought_by_body, parameters_of, close_of, places_of_all, places_of_function, places_of_program, place_number_at}
 use Rattle.c_meaning_steps.specs.declared.event.Frame.{Frame}
 use Rattle.graph_core.specs.Graphs.{UnitForm}
 use Rattle.graph_core.specs.Memory.{Memory}
@@ -37,18 +37,18 @@ module _ (p : ProgramTree) (u : UnitForm) (f : ℕ) (tree : TypedFunctionTree) (
       stops = stops_behind f tree i q e;
       scope = scope_there (places_of_program p) ascend (length (within p f tree is ascend).before + suc i) q (place_there p f tree is ascend (suc i) q e);
     };
-    stops = later (number_at (places_of_program p) q.spot.at) (number_at (places_of_program p) tree.spot.at) here (entry_number p f tree is ascend);
+    stops = later (place_number_at (places_of_program p) q.spot.at) (place_number_at (places_of_program p) tree.spot.at) here (entry_number p f tree is ascend);
     covers = λ r found memory h.
         (let same : r ≡ q = some_same (sym found ∙ standing) in
         subst (λ z. AllLive memory (depth_in k.setting) z.scope) (sym same) h);
   }
     where
-      here : number_at (places_of_program p) q.spot.at ≡ length (within p f tree is ascend).before + suc i + 1
+      here : place_number_at (places_of_program p) q.spot.at ≡ length (within p f tree is ascend).before + suc i + 1
       here = place_number p f tree is ascend (suc i) q e
 
-      standing : slice_get (places_of_program p) (number_at (places_of_program p) q.spot.at - 1) ≡ Some q
+      standing : slice_get (places_of_program p) (place_number_at (places_of_program p) q.spot.at - 1) ≡ Some q
       standing =
-          let before : number_at (places_of_program p) q.spot.at - 1 ≡ length (within p f tree is ascend).before + suc i = omega (arith, here) in
+          let before : place_number_at (places_of_program p) q.spot.at - 1 ≡ length (within p f tree is ascend).before + suc i = omega (arith, here) in
           ap (slice_get (places_of_program p)) before ∙ place_there p f tree is ascend (suc i) q e
 
       later : (a b : ℕ) → a ≡ length (within p f tree is ascend).before + suc i + 1 → b ≡ length (within p f tree is ascend).before + 0 + 1 → a == b ≡ false

@@ -9,14 +9,14 @@ use Rattle.c_tree.specs.TypedStatements as statement
 use Rattle.c_tree.specs.TypedStatements.{InitialTree, Zero, Scalar as scalar-initial, Elements, Literal, DeclaredTree, TypedStartTree, Nothing, Value, Declares, StepTree, TypedStatementTree, Block, Declaration, Empty, Run, If, IfElse, While, DoWhile, For, Switch, Break, Continue, Return, TypedStatementTrees, case, default}
 use Rattle.c_type_rules.specs.Integers.{scalar_size}
 use Rattle.c_flow.specs.declared.edge.Ways.{Ways}
-use Rattle.c_flow.specs.Flow.{start, start_of_all, start_of_declarators, round_of, within_loop, within_switch, before as with_rest}
+use Rattle.c_flow.specs.Flow.{start_place, start_of_all, start_of_declarators, round_of, within_loop, within_switch, ways_before as with_rest}
 use Rattle.graph_core.specs.Graphs as unit
 use Rattle.graph_core.specs.Graphs.{Operand, Automatic, Store, CopyWords}
 use Rattle.graph_build_layout.specs.declared.laid.Use.TheVariants.{Anywhere, Tested}
 use Rattle.graph_build_names.specs.Names.{scalar_of, object_of, pick}
 use Rattle.graph_build_layout.specs.Layout.{laid}
 use Rattle.graph_build_steps.specs.Rules.{element_of}
-use Rattle.graph_build_steps.specs.Drafts.{Made, Goal, To, Unused, Either, before, ending, note}
+use Rattle.graph_build_steps.specs.Drafts.{Made, Goal, To, Unused, Either, instruction_before, ending, note}
 use Rattle.graph_build_steps.specs.Steps.{or_zero}
 use Rattle.graph_build_code.specs.Code.{code}
 use Rattle.graph_build_statements.specs.Coding.{Coding, Part, place_of, begun, going, label_for, with_end, placed_at, coded}
@@ -38,7 +38,7 @@ SameSize a b = (length a.placed ≡ length b.placed) × (length a.inner ≡ leng
 cleared_size : (object bytes covered : ℕ) (m : Made) → length (cleared object bytes covered m).inner ≡ length m.inner
 cleared_size object bytes covered m = go (nat_le (words_of bytes) covered)
   where
-    go : (b : Bool) → length (if b then m else before (unit.Zero object (words_of bytes)) m).inner ≡ length m.inner
+    go : (b : Bool) → length (if b then m else instruction_before (unit.Zero object (words_of bytes)) m).inner ≡ length m.inner
     go true = refl
     go false = refl
 
@@ -90,13 +90,13 @@ module _ (c : Coding) (k : ℕ) where
   elements_size at s object index (e ∷ more) t m l h =
       let r = laid c.names (bare e) Anywhere t in
       let i = Store (element_of s) (Automatic object (index * scalar_size s)) r.value in
-      code_size at (bare e) t (To None (before i (store_elements c at s object (index + 1) more (pick c.names t r.top) m))) (To None (before i (store_elements d at s object (index + 1) more (pick c.names t r.top) l)))
+      code_size at (bare e) t (To None (instruction_before i (store_elements c at s object (index + 1) more (pick c.names t r.top) m))) (To None (instruction_before i (store_elements d at s object (index + 1) more (pick c.names t r.top) l)))
       (elements_size at s object (index + 1) more (pick c.names t r.top) m l h) refl
 
   single_size : (at object : ℕ) (s : Scalar) (i : InitialTree) (t : ℕ) (m l : Made) → length m.inner ≡ length l.inner → length (declare_single c at object s i t m).inner ≡ length (declare_single d at object s i t l).inner
   single_size at object s Zero t m l h = h
   single_size at object s (scalar-initial e) t m l h =
-      let i = Store (element_of s) (Automatic object 0) (laid c.names e Anywhere (begun c t)).value in code_size at e (begun c t) (To None (before i m)) (To None (before i l)) h refl
+      let i = Store (element_of s) (Automatic object 0) (laid c.names e Anywhere (begun c t)).value in code_size at e (begun c t) (To None (instruction_before i m)) (To None (instruction_before i l)) h refl
   single_size at object s (Elements all) t m l h = omega (arith, h, cleared_size object (scalar_size s) 0 m, cleared_size object (scalar_size s) 0 l)
   single_size at object s (Literal n) t m l h = omega (arith, h, cleared_size object (scalar_size s) 0 m, cleared_size object (scalar_size s) 0 l)
 
@@ -104,7 +104,7 @@ module _ (c : Coding) (k : ℕ) where
   array_size at object s bytes (Elements all) t m l h =
       omega (arith, cleared_size object bytes 0 (store_elements c at s object 0 all (begun c t) m), cleared_size object bytes 0 (store_elements d at s object 0 all (begun c t) l), elements_size at s object 0 all (begun c t) m l h)
   array_size at object s bytes (Literal n) t m l h =
-      omega (arith, h, cleared_size object bytes (copied_words c n bytes) (before (CopyWords object n (copied_words c n bytes)) m), cleared_size object bytes (copied_words c n bytes) (before (CopyWords object n (copied_words c n bytes)) l))
+      omega (arith, h, cleared_size object bytes (copied_words c n bytes) (instruction_before (CopyWords object n (copied_words c n bytes)) m), cleared_size object bytes (copied_words c n bytes) (instruction_before (CopyWords object n (copied_words c n bytes)) l))
   array_size at object s bytes Zero t m l h = omega (arith, h, cleared_size object bytes 0 m, cleared_size object bytes 0 l)
   array_size at object s bytes (scalar-initial e) t m l h = omega (arith, h, cleared_size object bytes 0 m, cleared_size object bytes 0 l)
 
@@ -174,22 +174,22 @@ module _ (c : Coding) (k : ℕ) where
     statement_size (Empty spot) t w a b h = goes_size spot.at w.next a b h
     statement_size (Run spot e) t w a b h = run_size spot.at e t w.next a b h
     statement_size (If spot e s) t w a b h =
-        branching_size spot.at e t (start s w.next) w.next (add c s (reached c e Tested t) w a) (add d s (reached c e Tested t) w b) (statement_size s (reached c e Tested t) w a b h)
+        branching_size spot.at e t (start_place s w.next) w.next (add c s (reached c e Tested t) w a) (add d s (reached c e Tested t) w b) (statement_size s (reached c e Tested t) w a b h)
     statement_size (IfElse spot e s r) t w a b h =
         let behind_s = statement_reached c s (reached c e Tested t) in
-        branching_size spot.at e t (start s w.next) (start r w.next) (add c s (reached c e Tested t) w (add c r behind_s w a)) (add d s (reached c e Tested t) w (add d r behind_s w b))
+        branching_size spot.at e t (start_place s w.next) (start_place r w.next) (add c s (reached c e Tested t) w (add c r behind_s w a)) (add d s (reached c e Tested t) w (add d r behind_s w b))
         (statement_size s (reached c e Tested t) w (add c r behind_s w a) (add d r behind_s w b) (statement_size r behind_s w a b h))
     statement_size (While spot e s) t w a b h =
-        branching_size spot.at e t (start s (Some spot.at)) w.next (add c s (reached c e Tested t) (within_loop spot.at w) a) (add d s (reached c e Tested t) (within_loop spot.at w) b) (statement_size s (reached c e Tested t) (within_loop spot.at w) a b h)
+        branching_size spot.at e t (start_place s (Some spot.at)) w.next (add c s (reached c e Tested t) (within_loop spot.at w) a) (add d s (reached c e Tested t) (within_loop spot.at w) b) (statement_size s (reached c e Tested t) (within_loop spot.at w) a b h)
     statement_size (DoWhile s spot e) t w a b h =
-        statement_size s t (within_loop spot.at w) (add_branching c spot.at e (statement_reached c s t) (start s (Some spot.at)) w.next a) (add_branching d spot.at e (statement_reached c s t) (start s (Some spot.at)) w.next b)
-        (branching_size spot.at e (statement_reached c s t) (start s (Some spot.at)) w.next a b h)
+        statement_size s t (within_loop spot.at w) (add_branching c spot.at e (statement_reached c s t) (start_place s (Some spot.at)) w.next a) (add_branching d spot.at e (statement_reached c s t) (start_place s (Some spot.at)) w.next b)
+        (branching_size spot.at e (statement_reached c s t) (start_place s (Some spot.at)) w.next a b h)
     statement_size (For begin spot e step s) t w a b h =
         let behind_head = condition_reached c e (start_reached c begin t) in
         let ways = within_loop (round_of step spot.at) w in
         let x = add c s behind_head ways a in let y = add d s behind_head ways b in
         let t' = statement_reached c s behind_head in
-        head_size begin t spot.at e (start s (Some (round_of step spot.at))) w.next (add_step c step t' spot.at x) (add_step d step t' spot.at y) (round_size step t' spot.at x y (statement_size s behind_head ways a b h))
+        head_size begin t spot.at e (start_place s (Some (round_of step spot.at))) w.next (add_step c step t' spot.at x) (add_step d step t' spot.at y) (round_size step t' spot.at x y (statement_size s behind_head ways a b h))
     statement_size (Switch spot e all) t w a b h =
         switch_size spot.at e all t w.next (add_all c all (reached c e Anywhere t) (within_switch w) a) (add_all d all (reached c e Anywhere t) (within_switch w) b) (statements_size all (reached c e Anywhere t) (within_switch w) a b h)
     statement_size (Break spot) t w a b h = goes_size spot.at w.by_break a b h

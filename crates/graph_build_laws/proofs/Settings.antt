@@ -3,7 +3,7 @@ use Rattle.std.proofs.Common.{◌≡◌, ℕ, zero, suc, ◌+◌, Some, Bool, Li
 use Rattle.std.specs.Prelude.{◌==◌}
 use Rattle.std.proofs.lemmas.List.{length-map}
 use Rattle.c_tree.specs.Programs.{TypedFunctionTree, ProgramTree}
-use Rattle.c_places.specs.Places.{Place, parameters_of, entry_of, close_of, places_of_all, places_of_function, places_of_program, number_at}
+use Rattle.c_places.specs.Places.{Place, parameters_of, entry_of, close_of, places_of_all, places_of_function, places_of_program, place_number_at}
 use Rattle.c_meaning_steps.specs.declared.event.Frame.{Frame}
 use Rattle.graph_core.specs.Graphs.{UnitForm}
 use Rattle.graph_core.specs.Memory.{Memory}
@@ -51,10 +51,10 @@ module _ (p : ProgramTree) (f : ℕ) (tree : TypedFunctionTree) (is : slice_get 
   pub within : Among' (places_of_program p) own
   within = let none : 0 + f ≡ f = omega arith in subst (λ j. Among' (places_of_program p) (places_of_function j tree)) none (places_within 0 p.functions f tree is)
 
-  pub place_number : (j : ℕ) (q : Place) → slice_get own j ≡ Some q → number_at (places_of_program p) q.spot.at ≡ length within.before + j + 1
+  pub place_number : (j : ℕ) (q : Place) → slice_get own j ≡ Some q → place_number_at (places_of_program p) q.spot.at ≡ length within.before + j + 1
   place_number j q e = numbered_within (places_of_program p) own ascend within j q e
 
-  pub entry_number : number_at (places_of_program p) tree.spot.at ≡ length within.before + 0 + 1
+  pub entry_number : place_number_at (places_of_program p) tree.spot.at ≡ length within.before + 0 + 1
   entry_number = place_number 0 (entry_of f tree) refl
 
   pub place_there : (j : ℕ) (q : Place) → slice_get own j ≡ Some q → slice_get (places_of_program p) (length within.before + j) ≡ Some q

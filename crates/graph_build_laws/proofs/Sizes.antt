@@ -11,13 +11,13 @@ use Rattle.c_tree.specs.declared.object_type.ObjectType.{ObjectType}
 use Rattle.c_tree.specs.declared.object_type.ObjectType.TheVariants as of-object
 use Rattle.c_tree.specs.declared.object_type.ValueType.TheVariants.{Integer}
 use Rattle.c_tree.specs.Programs.{AutomaticTree, LiteralTree, StaticTree, TypedFunctionTree, ProgramTree}
-use Rattle.c_type_rules.specs.Integers.{size as integer_bytes, scalar_size as type_size, object_size, room}
+use Rattle.c_type_rules.specs.Integers.{integer_size as integer_bytes, scalar_size as type_size, object_size, room}
 use Rattle.c_type_rules.specs.Types.{same_value}
 use Rattle.c_type_bounds.specs.Bounds.{kept_room, own_room, text_room, variables_of}
 use Rattle.c_type_laws.specs.Objects.{is_kept_array}
 use Rattle.c_type_laws.specs.Laws.{is_main}
 use Rattle.c_meaning_values.specs.declared.value.Value.TheVariants as source
-use Rattle.c_meaning_values.specs.Types.{scalar_size, size_by_stars, element_of, count_of}
+use Rattle.c_meaning_values.specs.Types.{scalar_size, size_by_stars, element_scalar, value_count}
 use Rattle.c_meaning_values.specs.Memory.{Object as SourceObject, Memory as SourceMemory, bytes_of}
 use Rattle.graph_build_runs.specs.Typed.{IsOf}
 use Rattle.graph_build_runs.proofs.Later.{some_same}
@@ -45,7 +45,7 @@ type_sizes base (suc stars) = ap (λ b. if b then integer_bytes base else 4) (so
     some_stars n = grind (arith, nat_tests)
 
 -- the bytes of an object by its type
-pub bytes_by_type : (of : ObjectType) → count_of of * scalar_size (element_of of) ≡ object_size of
+pub bytes_by_type : (of : ObjectType) → value_count of * scalar_size (element_scalar of) ≡ object_size of
 bytes_by_type (of-object.Scalar s) = let e = type_sizes s.base s.stars in let one : 1 * scalar_size s ≡ scalar_size s = omega arith in one ∙ sym e
 bytes_by_type (of-object.Array s n) = ap (λ x. n * x) (sym (type_sizes s.base s.stars)) ∙ swapped n (type_size s)
   where
@@ -74,8 +74,8 @@ one_of_all g (x ∷ xs) zero a e = let same : g x ≡ g a = ap g (some_same e) i
 one_of_all g (x ∷ xs) (suc i) a e = omega (arith, sum_by-cons g x xs, one_of_all g xs i a e)
 
 -- the bytes of an object of a type
-bytes_are : (o : SourceObject) (of : ObjectType) → o.element ≡ element_of of → length o.values ≡ count_of of → bytes_of o ≡ object_size of
-bytes_are o of element count = ap (λ s. length o.values * scalar_size s) element ∙ ap (λ n. n * scalar_size (element_of of)) count ∙ bytes_by_type of
+bytes_are : (o : SourceObject) (of : ObjectType) → o.element ≡ element_scalar of → length o.values ≡ value_count of → bytes_of o ≡ object_size of
+bytes_are o of element count = ap (λ s. length o.values * scalar_size s) element ∙ ap (λ n. n * scalar_size (element_scalar of)) count ∙ bytes_by_type of
 
 -- what is not in memory is small
 outside_small : (inside : Bool) (of : ObjectType) → is_kept_array inside of ≡ true → inside ≡ false → object_size of ≤ 4

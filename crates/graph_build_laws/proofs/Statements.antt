@@ -9,7 +9,7 @@ use Rattle.c_tree.specs.TypedStatements as statement
 use Rattle.c_tree.specs.TypedStatements.{InitialTree, Zero, Scalar as scalar-initial, Elements, Literal, DeclaredTree, TypedStartTree, Nothing, Value, Declares, StepTree, TypedStatementTree, Block, Declaration, Empty, Run, If, IfElse, While, DoWhile, For, Switch, Break, Continue, Return, TypedStatementTrees, case, default}
 use Rattle.c_type_rules.specs.Integers.{scalar_size}
 use Rattle.c_flow.specs.declared.edge.Ways.{Ways}
-use Rattle.c_flow.specs.Flow.{start, start_of_all, start_of_declarators, round_of, within_loop, within_switch, before as with_rest}
+use Rattle.c_flow.specs.Flow.{start_place, start_of_all, start_of_declarators, round_of, within_loop, within_switch, ways_before as with_rest}
 use Rattle.graph_core.specs.Graphs as unit
 use Rattle.graph_core.specs.Graphs.{Operand, Automatic, Store, CopyWords}
 use Rattle.graph_build_layout.specs.declared.laid.Use.{Use}
@@ -17,7 +17,7 @@ use Rattle.graph_build_layout.specs.declared.laid.Use.TheVariants.{Anywhere, In,
 use Rattle.graph_build_names.specs.Names.{scalar_of, object_of, pick}
 use Rattle.graph_build_layout.specs.Layout.{laid}
 use Rattle.graph_build_steps.specs.Rules.{element_of}
-use Rattle.graph_build_steps.specs.Drafts.{Made, Goal, To, Unused, Either, before, ending, note}
+use Rattle.graph_build_steps.specs.Drafts.{Made, Goal, To, Unused, Either, instruction_before, ending, note}
 use Rattle.graph_build_steps.specs.Steps.{or_zero}
 use Rattle.graph_build_laws.specs.Sizes.{counted, made_counts, goal_counts}
 use Rattle.c_type_laws.specs.Weighing.{weighed, weighed_elements, weighed_initial, weighed_declared, weighed_start, weighed_option, weighed_step, weighed_statement, weighed_statements}
@@ -38,7 +38,7 @@ part_counts part = counted part.placed + counted part.inner
 pub cleared_most : (object bytes covered : ℕ) (m : Made) → made_counts (cleared object bytes covered m) ≤ made_counts m + 1
 cleared_most object bytes covered m = go (nat_le (words_of bytes) covered)
   where
-    go : (b : Bool) → made_counts (if b then m else before (unit.Zero object (words_of bytes)) m) ≤ made_counts m + 1
+    go : (b : Bool) → made_counts (if b then m else instruction_before (unit.Zero object (words_of bytes)) m) ≤ made_counts m + 1
     go true = omega arith
     go false = omega arith
 
@@ -147,7 +147,7 @@ module _ (c : Coding) where
         let b = behind c.names (bare e) Anywhere t in
         omega (
           arith,
-          (it at (bare e)).any t (To None (before (Store (element_of s) (Automatic object (index * scalar_size s)) r.value) rest)) p,
+          (it at (bare e)).any t (To None (instruction_before (Store (element_of s) (Automatic object (index * scalar_size s)) r.value) rest)) p,
           bare_weighs e,
           elements_most at s object (index + 1) more (pick c.names t r.top) m (pick_least c.names c.scalars t r.top p (omega (arith, p, b.0, b.1))),
         )
@@ -157,14 +157,14 @@ module _ (c : Coding) where
 
     single_most : (at object : ℕ) (s : Scalar) (i : InitialTree) (t : ℕ) (m : Made) → c.scalars ≤ t → made_counts (declare_single c at object s i t m) ≤ made_counts m + 2 * (weighed_initial i + 2)
     single_most at object s Zero t m p = omega arith
-    single_most at object s (scalar-initial e) t m p = omega (arith, passed_most at e t (before (Store (element_of s) (Automatic object 0) (laid c.names e Anywhere (begun c t)).value) m) p)
+    single_most at object s (scalar-initial e) t m p = omega (arith, passed_most at e t (instruction_before (Store (element_of s) (Automatic object 0) (laid c.names e Anywhere (begun c t)).value) m) p)
     single_most at object s (Elements all) t m p = omega (arith, cleared_most object (scalar_size s) 0 m)
     single_most at object s (Literal k) t m p = omega (arith, cleared_most object (scalar_size s) 0 m)
 
     array_most : (at object : ℕ) (s : Scalar) (bytes : ℕ) (i : InitialTree) (t : ℕ) (m : Made) → c.scalars ≤ t → made_counts (declare_array c at object s bytes i t m) ≤ made_counts m + 2 * (weighed_initial i + 2)
     array_most at object s bytes (Elements all) t m p =
         omega (arith, cleared_most object bytes 0 (store_elements c at s object 0 all (begun c t) m), elements_most at s object 0 all (begun c t) m (begins t p))
-    array_most at object s bytes (Literal k) t m p = omega (arith, cleared_most object bytes (copied_words c k bytes) (before (CopyWords object k (copied_words c k bytes)) m))
+    array_most at object s bytes (Literal k) t m p = omega (arith, cleared_most object bytes (copied_words c k bytes) (instruction_before (CopyWords object k (copied_words c k bytes)) m))
     array_most at object s bytes Zero t m p = omega (arith, cleared_most object bytes 0 m)
     array_most at object s bytes (scalar-initial e) t m p = omega (arith, cleared_most object bytes 0 m)
 
@@ -229,21 +229,21 @@ module _ (c : Coding) where
       statement_most (Empty spot) t w part p = omega (arith, going_most spot.at w.next part)
       statement_most (Run spot e) t w part p = omega (arith, run_most spot.at e t w.next part p)
       statement_most (If spot e s) t w part p =
-          omega (arith, branching_most spot.at e t (start s w.next) w.next (add c s (reached c e Tested t) w part) p, statement_most s (reached c e Tested t) w part (omega (arith, p, reached_more e Tested t)))
+          omega (arith, branching_most spot.at e t (start_place s w.next) w.next (add c s (reached c e Tested t) w part) p, statement_most s (reached c e Tested t) w part (omega (arith, p, reached_more e Tested t)))
       statement_most (IfElse spot e s r) t w part p =
           let behind_s = statement_reached c s (reached c e Tested t) in
           let later = add c r behind_s w part in
           omega (
             arith,
-            branching_most spot.at e t (start s w.next) (start r w.next) (add c s (reached c e Tested t) w later) p,
+            branching_most spot.at e t (start_place s w.next) (start_place r w.next) (add c s (reached c e Tested t) w later) p,
             statement_most s (reached c e Tested t) w later (omega (arith, p, reached_more e Tested t)),
             statement_most r behind_s w part (omega (arith, p, reached_more e Tested t, statement_more s (reached c e Tested t))),
           )
       statement_most (While spot e s) t w part p =
-          omega (arith, branching_most spot.at e t (start s (Some spot.at)) w.next (add c s (reached c e Tested t) (within_loop spot.at w) part) p, statement_most s (reached c e Tested t) (within_loop spot.at w) part (omega (arith, p, reached_more e Tested t)))
+          omega (arith, branching_most spot.at e t (start_place s (Some spot.at)) w.next (add c s (reached c e Tested t) (within_loop spot.at w) part) p, statement_most s (reached c e Tested t) (within_loop spot.at w) part (omega (arith, p, reached_more e Tested t)))
       statement_most (DoWhile s spot e) t w part p =
-          let later = add_branching c spot.at e (statement_reached c s t) (start s (Some spot.at)) w.next part in
-          omega (arith, statement_most s t (within_loop spot.at w) later p, branching_most spot.at e (statement_reached c s t) (start s (Some spot.at)) w.next part (omega (arith, p, statement_more s t)))
+          let later = add_branching c spot.at e (statement_reached c s t) (start_place s (Some spot.at)) w.next part in
+          omega (arith, statement_most s t (within_loop spot.at w) later p, branching_most spot.at e (statement_reached c s t) (start_place s (Some spot.at)) w.next part (omega (arith, p, statement_more s t)))
       statement_most (For begin spot e step s) t w part p =
           let behind_head = condition_reached c e (start_reached c begin t) in
           let body = add c s behind_head (within_loop (round_of step spot.at) w) part in
@@ -251,7 +251,7 @@ module _ (c : Coding) where
           let q : c.scalars ≤ behind_head = omega (arith, p, start_more begin t, condition_more e (start_reached c begin t)) in
           omega (
             arith,
-            head_most begin t spot.at e (start s (Some (round_of step spot.at))) w.next later p,
+            head_most begin t spot.at e (start_place s (Some (round_of step spot.at))) w.next later p,
             round_most step (statement_reached c s behind_head) spot.at body (omega (arith, q, statement_more s behind_head)),
             statement_most s behind_head (within_loop (round_of step spot.at) w) part q,
           )

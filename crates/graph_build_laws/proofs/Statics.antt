@@ -12,11 +12,11 @@ use Rattle.c_tree.specs.declared.object_type.Object.TheVariants as object
 use Rattle.c_tree.specs.declared.program.Relocation.{Relocation}
 use Rattle.c_tree.specs.Programs.{LiteralTree, StaticTree, ProgramTree}
 use Rattle.c_type_rules.specs.Integers.{object_size, scalar_size as type_size}
-use Rattle.c_type_rules.specs.Types.{loaded, pointed_to, same_value}
+use Rattle.c_type_rules.specs.Types.{loaded_type, pointed_to, same_value}
 use Rattle.c_type_laws.specs.Orders.{ascends}
 use Rattle.c_type_laws.specs.Objects as law
 use Rattle.c_type_laws.specs.Objects.{is_address, is_address_if, holds_address, hold_addresses, are_zero, spots_of, is_static, are_static}
-use Rattle.c_meaning_values.specs.Types.{element_of, count_of, scalar_size}
+use Rattle.c_meaning_values.specs.Types.{element_scalar, value_count, scalar_size}
 use Rattle.graph_build_runs.proofs.Later.{some_same}
 use Rattle.graph_build_runs.proofs.Types.{value_is}
 use Rattle.graph_build_runs.proofs.Shapes.{two_true, three_true, four_true}
@@ -36,13 +36,13 @@ zeros_are [] h = tt
 zeros_are (b ∷ more) h = let c = two_true (b == 0) (are_zero more) h in (are_equal b 0 c.0, zeros_are more c.1)
 
 -- both words for the type of elements
-element_same : (of : ObjectType) → law.element_of of ≡ element_of of
+element_same : (of : ObjectType) → law.element_of of ≡ element_scalar of
 element_same (of-object.Scalar s) = refl
 element_same (of-object.Array s n) = refl
 
 -- a pointer's type leads to the type that its value points to
-pointer_of : (s e : Scalar) → same_value (loaded s) (Pointer (of-object.Scalar e)) ≡ true → (pointed_to s ≡ e) × (s.stars ≢ 0)
-pointer_of s e h = by (s.stars == 0) refl (value_is (loaded s) (Pointer (of-object.Scalar e)) h)
+pointer_of : (s e : Scalar) → same_value (loaded_type s) (Pointer (of-object.Scalar e)) ≡ true → (pointed_to s ≡ e) × (s.stars ≢ 0)
+pointer_of s e h = by (s.stars == 0) refl (value_is (loaded_type s) (Pointer (of-object.Scalar e)) h)
   where
     by : (b : Bool) → (s.stars == 0) ≡ b → (if b then Integer s.base else Pointer (of-object.Scalar (pointed_to s))) ≡ Pointer (of-object.Scalar e) → (pointed_to s ≡ e) × (s.stars ≢ 0)
     by true is q = cc
@@ -62,14 +62,14 @@ module _ (p : ProgramTree) where
   static_address : (e : Scalar) (offset n : ℕ) (r : Option StaticTree) → slice_get p.statics n ≡ r → is_address_if e offset r ≡ true → IsAddress p e offset (object.Static n) × (e.stars ≢ 0)
   static_address e offset n None is h = cc
   static_address e offset n (Some w) is h =
-      let c = three_true (same_value (loaded e) (Pointer (of-object.Scalar (law.element_of w.of)))) (nat_le offset (object_size w.of)) (offset % type_size (law.element_of w.of) == 0) h in
+      let c = three_true (same_value (loaded_type e) (Pointer (of-object.Scalar (law.element_of w.of)))) (nat_le offset (object_size w.of)) (offset % type_size (law.element_of w.of) == 0) h in
       let q = pointer_of e (law.element_of w.of) c.0 in
-      let s = element_of w.of in
+      let s = element_scalar w.of in
       let same = element_same w.of in
       let size : type_size (law.element_of w.of) ≡ scalar_size s = ap type_size same ∙ type_sizes s.base s.stars in
       let rest : offset % scalar_size s ≡ 0 = subst (λ k. offset % k ≡ 0) size (are_equal (offset % type_size (law.element_of w.of)) 0 c.2) in
-      let within : offset ≤ count_of w.of * scalar_size s = subst (λ k. offset ≤ k) (sym (bytes_by_type w.of)) (at_most offset (object_size w.of) c.1) in
-      let i = whole (scalar_size s) (sizes s.base s.stars) offset (count_of w.of) rest within in
+      let within : offset ≤ value_count w.of * scalar_size s = subst (λ k. offset ≤ k) (sym (bytes_by_type w.of)) (at_most offset (object_size w.of) c.1) in
+      let i = whole (scalar_size s) (sizes s.base s.stars) offset (value_count w.of) rest within in
       ((w, is, sym same ∙ sym q.0, offset / scalar_size s, i.0, i.1), q.1)
 
   -- an address in a word of a static object

@@ -8,7 +8,7 @@ use Rattle.c_places.specs.Flow.{has_default}
 use Rattle.c_places.specs.Places.{Place, stop, brought, brought_by_start, places_of_declarators, places_of_start, places_of_head, places_of_step, places_of, places_of_all}
 use Rattle.c_flow.specs.declared.edge.Edge.{Edge}
 use Rattle.c_flow.specs.declared.edge.Ways.{Ways}
-use Rattle.c_flow.specs.Flow.{edge, start, start_of_all, start_of_declarators, start_of_for, flow_of_declarators, flow_of_start, round_of, flow_of_step, flow_out, flow_to_labels, flow_past, within_loop, within_switch, before as with_rest, flow_of, flow_of_all}
+use Rattle.c_flow.specs.Flow.{edge, start_place, start_of_all, start_of_declarators, start_of_for, flow_of_declarators, flow_of_start, round_of, flow_of_step, flow_out, flow_to_labels, flow_past, within_loop, within_switch, ways_before as with_rest, flow_of, flow_of_all}
 use Rattle.graph_core.specs.Paths.{Among, front, behind}
 
 -- What holds of the positions of places, and of those to which the ways of a statement lead, holds of those between which its flow leads.
@@ -92,7 +92,7 @@ module _ (number : ℕ) (Fits : ℕ → Type 0) where
       by false = edge_fits from next h k
 
   mutual
-    pub start_fits : (s : TypedStatementTree) (scope : List ℕ) (next : Option ℕ) → AllFit (places_of number scope s) → WayFits next → WayFits (start s next)
+    pub start_fits : (s : TypedStatementTree) (scope : List ℕ) (next : Option ℕ) → AllFit (places_of number scope s) → WayFits next → WayFits (start_place s next)
     start_fits (Block all) scope next h k = starts_fit all scope next h k
     start_fits (Declaration all) scope next h k = declared_start all scope next h k
     start_fits (Empty spot) scope next h k = h.0
@@ -142,22 +142,22 @@ module _ (number : ℕ) (Fits : ℕ → Type 0) where
     flow_fits (Empty spot) scope w h k = edge_fits spot.at w.next h.0 k.next
     flow_fits (Run spot e) scope w h k = edge_fits spot.at w.next h.0 k.next
     flow_fits (If spot e s) scope w h k =
-        let e1 = edge spot.at (start s w.next) in let e2 = edge spot.at w.next in
-        edges_both (e1 ++ e2) (flow_of w s) (edges_both e1 e2 (edge_fits spot.at (start s w.next) h.0 (start_fits s scope w.next h.1 k.next)) (edge_fits spot.at w.next h.0 k.next)) (flow_fits s scope w h.1 k)
+        let e1 = edge spot.at (start_place s w.next) in let e2 = edge spot.at w.next in
+        edges_both (e1 ++ e2) (flow_of w s) (edges_both e1 e2 (edge_fits spot.at (start_place s w.next) h.0 (start_fits s scope w.next h.1 k.next)) (edge_fits spot.at w.next h.0 k.next)) (flow_fits s scope w h.1 k)
     flow_fits (IfElse spot e s r) scope w h k =
         let hs = fit_front (places_of number scope s) (places_of number scope r) h.1 in let hr = fit_back (places_of number scope s) (places_of number scope r) h.1 in
-        let e1 = edge spot.at (start s w.next) in let e2 = edge spot.at (start r w.next) in
+        let e1 = edge spot.at (start_place s w.next) in let e2 = edge spot.at (start_place r w.next) in
         edges_both (e1 ++ e2 ++ flow_of w s) (flow_of w r)
-        (edges_both (e1 ++ e2) (flow_of w s) (edges_both e1 e2 (edge_fits spot.at (start s w.next) h.0 (start_fits s scope w.next hs k.next)) (edge_fits spot.at (start r w.next) h.0 (start_fits r scope w.next hr k.next))) (flow_fits s scope w hs k))
+        (edges_both (e1 ++ e2) (flow_of w s) (edges_both e1 e2 (edge_fits spot.at (start_place s w.next) h.0 (start_fits s scope w.next hs k.next)) (edge_fits spot.at (start_place r w.next) h.0 (start_fits r scope w.next hr k.next))) (flow_fits s scope w hs k))
         (flow_fits r scope w hr k)
     flow_fits (While spot e s) scope w h k =
-        let e1 = edge spot.at (start s (Some spot.at)) in let e2 = edge spot.at w.next in
-        edges_both (e1 ++ e2) (flow_of (within_loop spot.at w) s) (edges_both e1 e2 (edge_fits spot.at (start s (Some spot.at)) h.0 (start_fits s scope (Some spot.at) h.1 h.0)) (edge_fits spot.at w.next h.0 k.next))
+        let e1 = edge spot.at (start_place s (Some spot.at)) in let e2 = edge spot.at w.next in
+        edges_both (e1 ++ e2) (flow_of (within_loop spot.at w) s) (edges_both e1 e2 (edge_fits spot.at (start_place s (Some spot.at)) h.0 (start_fits s scope (Some spot.at) h.1 h.0)) (edge_fits spot.at w.next h.0 k.next))
         (flow_fits s scope (within_loop spot.at w) h.1 (loop_ways spot.at w h.0 k))
     flow_fits (DoWhile s spot e) scope w h k =
         let hs = fit_front (places_of number scope s) (stop number scope spot ∷ []) h in let hp = (fit_back (places_of number scope s) (stop number scope spot ∷ []) h).0 in
-        let e1 = edge spot.at (start s (Some spot.at)) in let e2 = edge spot.at w.next in
-        edges_both (e1 ++ e2) (flow_of (within_loop spot.at w) s) (edges_both e1 e2 (edge_fits spot.at (start s (Some spot.at)) hp (start_fits s scope (Some spot.at) hs hp)) (edge_fits spot.at w.next hp k.next))
+        let e1 = edge spot.at (start_place s (Some spot.at)) in let e2 = edge spot.at w.next in
+        edges_both (e1 ++ e2) (flow_of (within_loop spot.at w) s) (edges_both e1 e2 (edge_fits spot.at (start_place s (Some spot.at)) hp (start_fits s scope (Some spot.at) hs hp)) (edge_fits spot.at w.next hp k.next))
         (flow_fits s scope (within_loop spot.at w) hs (loop_ways spot.at w hp k))
     flow_fits (For begin spot e step s) scope w h k =
         let inner_scope = scope ++ brought_by_start begin in
@@ -169,10 +169,10 @@ module _ (number : ℕ) (Fits : ℕ → Type 0) where
         let ht = fit_back ph ps front_h in
         let f = flow_of (within_loop round w) s in
         let at_round = round_fits step inner_scope spot.at ht p.1 in
-        let fb = flow_of_start begin spot.at in let fi = edge spot.at (start s (Some round)) in let fo = flow_out e spot.at w.next in let fs = flow_of_step step spot.at in
+        let fb = flow_of_start begin spot.at in let fi = edge spot.at (start_place s (Some round)) in let fo = flow_out e spot.at w.next in let fs = flow_of_step step spot.at in
         edges_both (fb ++ fi ++ fo ++ fs) f
         (edges_both (fb ++ fi ++ fo) fs
-        (edges_both (fb ++ fi) fo (edges_both fb fi (begin_flow begin scope spot.at p.0 p.1) (edge_fits spot.at (start s (Some round)) p.1 (start_fits s inner_scope (Some round) hs at_round))) (out_flow e spot.at w.next p.1 k.next))
+        (edges_both (fb ++ fi) fo (edges_both fb fi (begin_flow begin scope spot.at p.0 p.1) (edge_fits spot.at (start_place s (Some round)) p.1 (start_fits s inner_scope (Some round) hs at_round))) (out_flow e spot.at w.next p.1 k.next))
         (round_flow step inner_scope spot.at ht p.1))
         (flow_fits s inner_scope (within_loop round w) hs (loop_ways round w at_round k))
     flow_fits (Switch spot e all) scope w h k =

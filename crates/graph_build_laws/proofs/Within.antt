@@ -24,7 +24,7 @@ use Rattle.graph_build_names.specs.Writes.{writes, writes_any, is_moved, is_loca
 use Rattle.graph_build_layout.specs.Laid.{Laid, Pair, PlaceLaid, pair, behind_move, behind_own, use_for, converted_laid, updated_laid, called_laid, loaded_laid}
 use Rattle.graph_build_layout.specs.Layout.{laid, place_laid, address_laid, passed_laid}
 use Rattle.graph_build_steps.specs.Rules.{element_of, truncation_to, callee_for, steps_by}
-use Rattle.graph_build_steps.specs.Drafts.{Made, Goal, Fork, To, Unused, Either, use_of, before, ending, zero, leaf, label_of, closed, forked, valued, used, operated, move_if, hold_location, held_location, stored, noted, assign_goal, called_by}
+use Rattle.graph_build_steps.specs.Drafts.{Made, Goal, Fork, To, Unused, Either, use_of, instruction_before, ending, zero, leaf, label_of, with_inner_block, forked, valued, used, operated, move_if, hold_location, held_location, stored, noted, assign_goal, called_by}
 use Rattle.graph_build_steps.specs.declared.site.Two as declared-two
 use Rattle.graph_build_steps.specs.declared.site.Two.TheVariants as two
 use Rattle.graph_build_steps.specs.declared.change.Change as declared-change
@@ -226,17 +226,17 @@ module _ (n : Names) (place top scalars : ℕ) (few : NamesFew n scalars) where
 
   -- `&&` and `||`
   both_most : (a b : RvalueTree) → Within a → Within b → (at behind_a one other one_a other_a : ℕ) (inner : List Block) → scalars ≤ at → scalars ≤ behind_a →
-      made_counts (code n place top a at (Either one_a other_a (closed place (code n place top b behind_a (Either one other inner))))) + 2 ≤ counted inner + 2 * (weighed false a + weighed false b)
+      made_counts (code n place top a at (Either one_a other_a (with_inner_block place (code n place top b behind_a (Either one other inner))))) + 2 ≤ counted inner + 2 * (weighed false a + weighed false b)
   both_most a b ha hb at behind_a one other one_a other_a inner p q =
       let m = code n place top b behind_a (Either one other inner) in
-      omega (arith, ha.any at (Either one_a other_a (closed place m)) p, hb.any behind_a (Either one other inner) q, closed_counts place m)
+      omega (arith, ha.any at (Either one_a other_a (with_inner_block place m)) p, hb.any behind_a (Either one other inner) q, closed_counts place m)
 
   pub within_both : (a b f : RvalueTree) → Within a → Within b → weighed true f ≡ weighed false f → weighed false f ≡ weighed false a + weighed false b + 1 →
       (to_a to_b : Fork → Made → ℕ) →
       ((t : ℕ) (g : Goal) →
       let at = behind_own (use_of g) t in let way = forked place top g t in
       let m = code n place top b (pick n at (laid n a Tested at).top) (Either way.one way.other way.inner) in
-      made_counts (code n place top f t g) ≤ made_counts (code n place top a at (Either (to_a way m) (to_b way m) (closed place m)))) → Within f
+      made_counts (code n place top f t g) ≤ made_counts (code n place top a at (Either (to_a way m) (to_b way m) (with_inner_block place m)))) → Within f
   within_both a b f ha hb same one to_a to_b k = loose f same (λ t g p. (
       let at = behind_own (use_of g) t in let way = forked place top g t in
       let later = pick n at (laid n a Tested at).top in
@@ -256,17 +256,17 @@ module _ (n : Names) (place top scalars : ℕ) (few : NamesFew n scalars) where
       let void = is_void (type_of n.results a) in let at = behind_move (not void) t in
       let at_a = pick n at (laid n c Tested at).top in let at_b = pick n at (laid n a (arm_use void t) at_a).top in
       let m = leaf g (arm_value void t) in
-      let y = code n place top b at_b (arm_goal void t (ending (Jump (label_of top m)) (closed place m))) in
-      let x = code n place top a at_a (arm_goal void t (ending (Jump (label_of top m)) (closed place y))) in
+      let y = code n place top b at_b (arm_goal void t (ending (Jump (label_of top m)) (with_inner_block place m))) in
+      let x = code n place top a at_a (arm_goal void t (ending (Jump (label_of top m)) (with_inner_block place y))) in
       let rc = behind n c Tested at in let ra = behind n a (arm_use void t) at_a in
       let p_at : scalars ≤ at = omega (arith, p, (moved_behind (not void) t).0) in
       let p_a : scalars ≤ at_a = pick_least n scalars at (laid n c Tested at).top p_at (omega (arith, p_at, rc.0, rc.1)) in
       let p_b : scalars ≤ at_b = pick_least n scalars at (laid n a (arm_use void t) at_a).top p_at (omega (arith, p_a, ra.0, ra.1)) in
       omega (
         arith,
-        hc.any at (Either (label_of top x) (label_of top y) (closed place x)) p_at,
-        arm_most void a ha t at_a (ending (Jump (label_of top m)) (closed place y)) p_a,
-        arm_most void b hb t at_b (ending (Jump (label_of top m)) (closed place m)) p_b,
+        hc.any at (Either (label_of top x) (label_of top y) (with_inner_block place x)) p_at,
+        arm_most void a ha t at_a (ending (Jump (label_of top m)) (with_inner_block place y)) p_a,
+        arm_most void b hb t at_b (ending (Jump (label_of top m)) (with_inner_block place m)) p_b,
         closed_counts place x,
         closed_counts place y,
         closed_counts place m,

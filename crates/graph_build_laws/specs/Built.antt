@@ -12,8 +12,9 @@ use Rattle.graph_build.specs.Units.{IsUnitOf}
 use Rattle.graph_build_laws.specs.Following.{FollowFlow}
 use Rattle.graph_build_runs.specs.Correspondence.{DoesProgram}
 
--- A UNIT IS BUILT OF ITS PROGRAM. It has the code that the forms give, and an empty log; its steps and assignments are the program's, in order and each once; each of its graphs begins with the marker
--- of its entry, its markers follow the flow, and each cycle has one; and on each input it does what the program does, as far as C defines it.
+-- A UNIT IS BUILT OF ITS PROGRAM. It has the code that the forms give, and an empty log; its steps and assignments are
+-- the program's, in order and each once; each of its graphs begins with the marker of its entry, its markers follow the
+-- flow, and each cycle has one; and on each input it does what the program does, as far as C defines it.
 pub record IsBuilt (p : ProgramTree) (u : UnitForm) : Type 0 where
   pub forms : IsUnitOf p u
   pub steps : (s : FlowStep) → Contains u.steps s ↔ Contains (steps_of_program p) s

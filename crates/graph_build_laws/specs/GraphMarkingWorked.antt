@@ -28,4 +28,5 @@ old_value =
 abbrev pub ComputesBetween : Type 0
 ComputesBetween =
     (code two_scalars 1 1 old_value 2 (Unused (ending (Return None) []))).ops
-    ≡ Move 0 (Name 1) ∷ Operate 2 Add (Name 1) (Constant 1) ∷ Truncate 1 Unsigned8 (Name 2) ∷ Note 1 (Is (Of (Name 1))) ∷ Note 0 (Is (Of (Name 0))) ∷ []
+    ≡ Move 0 (Name 1) ∷ Operate 2 Add (Name 1) (Constant 1) ∷ Truncate 1 Unsigned8 (Name 2) ∷ Note 1 (Is (Of (Name 1)))
+    ∷ Note 0 (Is (Of (Name 0))) ∷ []

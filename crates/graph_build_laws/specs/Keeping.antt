@@ -5,7 +5,8 @@ use Rattle.graph_core.specs.Graphs.{Graph, UnitForm}
 use Rattle.graph_core.specs.Bounds.{most_functions, most_instructions, most_instructions_of_function, most_names, most_blocks, most_parameters, most_arguments}
 use Rattle.graph_core.specs.Validity.{instructions_of, arguments_of, total}
 
--- A graph has at most two counted instructions and three blocks for each unit of its function's weight, and as many names as that.
+-- A graph has at most two counted instructions and three blocks for each unit of its function's weight, and as many
+-- names as that.
 pub record KeepsWeight (f : TypedFunctionTree) (g : Graph) : Type 0 where
   pub instructions : instructions_of g ≤ 2 * f.weight
   pub names : g.name_count ≤ f.weight
@@ -13,7 +14,9 @@ pub record KeepsWeight (f : TypedFunctionTree) (g : Graph) : Type 0 where
 
 -- Each graph of a unit keeps the weight of its function.
 abbrev pub KeepWeights : ProgramTree → UnitForm → Type 0
-KeepWeights p u = (k : ℕ) (f : TypedFunctionTree) (g : Graph) → slice_get p.functions k ≡ Some f → slice_get u.graphs k ≡ Some g → KeepsWeight f g
+KeepWeights p u =
+    (k : ℕ) (f : TypedFunctionTree) (g : Graph) → slice_get p.functions k ≡ Some f → slice_get u.graphs k ≡ Some g
+    → KeepsWeight f g
 
 -- what a graph may have
 pub record KeepsBounds (g : Graph) : Type 0 where
@@ -23,7 +26,8 @@ pub record KeepsBounds (g : Graph) : Type 0 where
   pub temporaries : g.first_moved ≤ g.name_count
   pub parameters : length g.parameters ≤ most_parameters
 
--- The counts of a unit are within the bounds of valid units: of functions, instructions, blocks, arguments of calls, and in each graph of instructions, names, scalars and parameters.
+-- The counts of a unit are within the bounds of valid units: of functions, instructions, blocks, arguments of calls,
+-- and in each graph of instructions, names, scalars and parameters.
 pub record KeepBounds (u : UnitForm) : Type 0 where
   pub functions : length u.graphs ≤ most_functions
   pub instructions : total instructions_of u.graphs ≤ most_instructions u.room

@@ -57,5 +57,8 @@ module _ (blocks : List Block) (x : ℕ) where
   -- Each way from here notes a scalar before it comes to a marker.
   pub data Notes : List Instruction → End → Type 0 where
     now : {v : NoteValue} {rest : List Instruction} {e : End} → Notes (Note x v ∷ rest) e
-    later : {i : Instruction} {rest : List Instruction} {e : End} → is_marker i ≡ false → Notes rest e → Notes (i ∷ rest) e
-    over : {e : End} → ((l : ℕ) → Among l (targets_of e) → (b : Block) → slice_get blocks l ≡ Some b → Notes b.instructions b.end) → Notes [] e
+    later : {i : Instruction} {rest : List Instruction} {e : End} → is_marker i ≡ false → Notes rest e
+        → Notes (i ∷ rest) e
+    over : {e : End}
+        → ((l : ℕ) → Among l (targets_of e) → (b : Block) → slice_get blocks l ≡ Some b → Notes b.instructions b.end)
+        → Notes [] e

@@ -1,4 +1,5 @@
--- A program that weighs as many nodes as it has, and whose graph has more than two instructions for each unit of that weight: conversions that follow one another are no nodes.
+-- A program that weighs as many nodes as it has, and whose graph has more than two instructions for each unit of that
+-- weight: conversions that follow one another are no nodes.
 use Rattle.std.specs.Prelude.{◌≡◌, ℕ, zero, suc, ◌+◌, ◌*◌, ◌<◌, ◌≤◌, true, false, Some, List, [], ◌∷◌, codes}
 use Rattle.debug_records.specs.declared.source.Spot.{Spot}
 use Rattle.c_tree.specs.declared.types.IntegerType.TheVariants.{Int, SignedChar, UnsignedChar}
@@ -34,7 +35,8 @@ converting_main = record {
   first_variable = 0;
   parameters = 0;
   variables = 0;
-  body = first (Return (spot 20) (Some (Convert Int (converted 5 (Load int (Named (Static 0) (type.Scalar int))))))) none;
+  body =
+      first (Return (spot 20) (Some (Convert Int (converted 5 (Load int (Named (Static 0) (type.Scalar int))))))) none;
   close = spot 90;
   weight = 4;
 }
@@ -50,7 +52,8 @@ converting = record {
   weight = 4;
 }
 
--- It weighs as many nodes as it has, its graph has more instructions than two for each unit of that weight, and it is not well formed.
+-- It weighs as many nodes as it has, its graph has more instructions than two for each unit of that weight, and it is
+-- not well formed.
 pub record IsConverting : Type 0 where
   pub nodes : 2 + converting_main.parameters + statements_nodes converting_main.body ≤ converting_main.weight
   pub more : 2 * converting_main.weight < instructions_of (graph_of converting converting_main true)

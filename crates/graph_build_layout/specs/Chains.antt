@@ -8,7 +8,8 @@ use Rattle.graph_build_layout.specs.Layout.{laid}
 use Rattle.graph_build_names.specs.Names.{Names}
 
 module _ (n : Names) where
-  -- Where the left operand of an expression stands, then that of this operand, and so on, as far as they are made by operators of two operands that may follow one another in a chain.
+  -- Where the left operand of an expression stands, then that of this operand, and so on, as far as they are made by
+  -- operators of two operands that may follow one another in a chain.
   abbrev pub lefts : RvalueTree → Use → ℕ → List Laid
   lefts (Arithmetic o t a b) u k = laid n a Anywhere k ∷ lefts a Anywhere k
   lefts (Compare o t a b) u k = laid n a Anywhere k ∷ lefts a Anywhere k

@@ -50,7 +50,17 @@ abbrev pub laid_view : declared-laid.Laid → Laid
 laid_view r = record { value = operand_view r.value; next = r.next; top = r.top }
 
 abbrev pub pair_view : declared-pair.Pair → Pair
-pair_view q = record { first = operand_view q.first; left = operand_view q.left; right = operand_view q.right; moved = q.moved; moved_to = q.moved_to; from = q.from; next = q.next; top = q.top }
+pair_view q =
+    record {
+      first = operand_view q.first;
+      left = operand_view q.left;
+      right = operand_view q.right;
+      moved = q.moved;
+      moved_to = q.moved_to;
+      from = q.from;
+      next = q.next;
+      top = q.top;
+    }
 
 abbrev pub place_view : declared-place.PlaceLaid → PlaceLaid
 place_view q = record { location = location_view q.location; next = q.next; top = q.top }
@@ -68,7 +78,16 @@ pair written a b =
     let moved = is_moved written a.value in
     let from = behind_move moved a.next in
     let r = b from in
-    record { first = a.value; left = held moved a.value a.next; right = r.value; moved = moved; moved_to = a.next; from = from; next = r.next; top = max a.top (max from r.top) }
+    record {
+      first = a.value;
+      left = held moved a.value a.next;
+      right = r.value;
+      moved = moved;
+      moved_to = a.next;
+      from = from;
+      next = r.next;
+      top = max a.top (max from r.top);
+    }
 
 -- the value itself, where it is to be tested
 abbrev pub as_value : Use → Use
@@ -122,7 +141,12 @@ begun_behind None k written place = behind_move (is_location_moved written place
 -- the old value of a scalar, which is moved where it is wanted
 abbrev pub old_laid : Use → (x : ℕ) → (t : ℕ) → Laid
 old_laid Nothing x t = record { value = unit.Name x; next = t; top = t }
-old_laid (In y) x t = if y == x then record { value = unit.Name t; next = t + 1; top = t + 1 } else record { value = unit.Name y; next = t; top = t }
+old_laid (In y) x t =
+    if y == x then record {
+      value = unit.Name t;
+      next = t + 1;
+      top = t + 1;
+    } else record { value = unit.Name y; next = t; top = t }
 old_laid u x t = record { value = unit.Name t; next = t + 1; top = t + 1 }
 
 -- the arguments of a call, one behind the other: one is moved to a temporary where a later one may write what it names
@@ -130,13 +154,23 @@ abbrev pub passed_behind : (written : ℕ → Bool) → Laid → (ℕ → Passed
 passed_behind written a rest =
     let moved = is_moved written a.value in
     let q = rest (behind_move moved a.next) in
-    record { values = held moved a.value a.next ∷ q.values; next = q.next; top = max a.top (max (behind_move moved a.next) q.top) }
+    record {
+      values = held moved a.value a.next ∷ q.values;
+      next = q.next;
+      top = max a.top (max (behind_move moved a.next) q.top);
+    }
 
 module _ (n : Names) where
-  -- An operation's result: in the scalar that wants it, or in a name of its own, which is the one that was free when it began where names are used again.
+  -- An operation's result: in the scalar that wants it, or in a name of its own, which is the one that was free when it
+  -- began where names are used again.
   abbrev pub operation_laid : Use → (begun free top : ℕ) → Laid
   operation_laid (In x) begun free top = record { value = unit.Name x; next = pick n begun free; top = max free top }
-  operation_laid _ begun free top = record { value = unit.Name (pick n begun free); next = pick n begun free + 1; top = max (pick n begun free + 1) (max free top) }
+  operation_laid _ begun free top =
+      record {
+        value = unit.Name (pick n begun free);
+        next = pick n begun free + 1;
+        top = max (pick n begun free + 1) (max free top);
+      }
 
   -- a value that stands already
   abbrev pub standing : Use → (begun : ℕ) → Laid → Laid
@@ -166,7 +200,8 @@ module _ (n : Names) where
 
   -- a conversion of a value that stands
   abbrev pub converted_laid : Use → IntegerType → (begun : ℕ) → Laid → Laid
-  converted_laid u t begun r = if is_kept_constant t r.value then standing u begun r else operation_laid u begun r.next r.top
+  converted_laid u t begun r =
+      if is_kept_constant t r.value then standing u begun r else operation_laid u begun r.next r.top
 
   -- a value in a name that arms wrote
   abbrev pub joined_laid : Use → ℕ → (top : ℕ) → Laid
@@ -179,7 +214,8 @@ module _ (n : Names) where
 
   -- two conditions of which the first decides whether the second is asked
   abbrev pub both_laid : Use → ℕ → (ℕ → Laid) → (ℕ → Laid) → Laid
-  both_laid u k a b = let r = a (behind_own u k) in let s = b (pick n (behind_own u k) r.top) in truth_laid u k (max r.top s.top)
+  both_laid u k a b =
+      let r = a (behind_own u k) in let s = b (pick n (behind_own u k) r.top) in truth_laid u k (max r.top s.top)
 
   -- the names behind two arms, and behind a condition and two arms
   abbrev pub arms_top : ℕ → (condition : Laid) → (ℕ → Laid) → (ℕ → Laid) → ℕ
@@ -204,7 +240,8 @@ module _ (n : Names) where
 
   -- the new value of a scalar: computed in so many instructions, the last of which writes the scalar
   abbrev pub renewed_scalar_laid : Use → (x : ℕ) → ℕ → (free top : ℕ) → Laid
-  renewed_scalar_laid u x k free top = standing u k (record { value = unit.Name x; next = pick n k free; top = max top free })
+  renewed_scalar_laid u x k free top =
+      standing u k (record { value = unit.Name x; next = pick n k free; top = max top free })
 
   -- the new value of what is in memory
   abbrev pub renewed_memory_laid : Use → (free top : ℕ) → PlaceLaid → Laid
@@ -212,8 +249,10 @@ module _ (n : Names) where
 
   -- `a op= b`: the index that is added to a pointer may be scaled, and a narrow value is truncated
   abbrev pub updated_laid : Use → (narrow : Bool) → (scales : Bool) → Option ℕ → ℕ → PlaceLaid → Laid → Laid
-  updated_laid u narrow scales (Some x) k place r = renewed_scalar_laid u x k (behind_move narrow (behind_move scales r.next)) r.top
-  updated_laid u narrow scales None k place r = renewed_memory_laid u (behind_move narrow (behind_move scales r.next)) r.top place
+  updated_laid u narrow scales (Some x) k place r =
+      renewed_scalar_laid u x k (behind_move narrow (behind_move scales r.next)) r.top
+  updated_laid u narrow scales None k place r =
+      renewed_memory_laid u (behind_move narrow (behind_move scales r.next)) r.top place
 
   -- the new value of `++` and `--`
   abbrev pub stepped_laid : Use → (narrow : Bool) → Option ℕ → ℕ → PlaceLaid → Laid
@@ -223,14 +262,18 @@ module _ (n : Names) where
   -- a scalar's old value that is left where it is wanted, behind its new one
   abbrev pub left_scalar_laid : Use → (narrow : Bool) → (x : ℕ) → ℕ → Laid
   left_scalar_laid u narrow x k =
-      let r = old_laid u x k in let free = behind_move narrow r.next in standing u k (record { value = r.value; next = pick n r.next free; top = max r.top free })
+      let r = old_laid u x k in
+      let free = behind_move narrow r.next in
+      standing u k (record { value = r.value; next = pick n r.next free; top = max r.top free })
 
   -- the same of what is in memory
   abbrev pub left_memory_laid : Use → (narrow : Bool) → ℕ → PlaceLaid → Laid
   left_memory_laid (In y) narrow k place =
-      let free = behind_move narrow (place.next + 1) in record { value = unit.Name y; next = pick n k free; top = max place.top free }
+      let free = behind_move narrow (place.next + 1) in
+      record { value = unit.Name y; next = pick n k free; top = max place.top free }
   left_memory_laid u narrow k place =
-      let free = behind_move narrow (place.next + 2) in record { value = unit.Name place.next; next = pick n (place.next + 1) free; top = max place.top free }
+      let free = behind_move narrow (place.next + 2) in
+      record { value = unit.Name place.next; next = pick n (place.next + 1) free; top = max place.top free }
 
   -- the old value of `++` and `--`
   abbrev pub left_laid : Use → (narrow : Bool) → Option ℕ → ℕ → PlaceLaid → Laid

@@ -9,7 +9,7 @@ use Rattle.c_type_rules.specs.ValueTypes.{type_of, given_by, is_void, integer_in
 use Rattle.graph_core.specs.Graphs as unit
 use Rattle.graph_core.specs.Graphs.{Operand, Location, Static}
 use Rattle.graph_build_names.specs.Scales.{is_scaled}
-use Rattle.graph_build_names.specs.Conversions.{word_of, keeps_bits, is_narrow}
+use Rattle.graph_build_names.specs.Conversions.{unsigned_bits, keeps_bits, is_narrow}
 use Rattle.graph_build_names.specs.Operands.{is_two, is_two_pointers}
 use Rattle.graph_build_layout.specs.declared.laid.Use.{Use}
 use Rattle.graph_build_layout.specs.declared.laid.Use.TheVariants.{Anywhere, In, Nothing, Tested}
@@ -38,12 +38,14 @@ module _ (n : Names) where
   abbrev mutual
     -- Where the value of an expression stands that begins to be computed when this name is free.
     pub laid : RvalueTree → Use → ℕ → Laid
-    laid (Constant z t) u k = leaf_laid n u (unit.Constant (word_of z)) k
+    laid (Constant z t) u k = leaf_laid n u (unit.Constant (unsigned_bits z)) k
     laid Null u k = leaf_laid n u (unit.Constant 0) k
     laid (Load s l) u k = loaded_laid n u (scalar_named n l) k (place_laid l k)
     laid (Decay l) u k = address_laid l u k
     laid (AddressOf l) u k = address_laid l u k
-    laid (Convert t e) u k = if keeps_bits (integer_in (type_of n.results e)) t then laid e (as_value u) k else converted_laid n u t k (laid e Anywhere k)
+    laid (Convert t e) u k =
+        if keeps_bits (integer_in (type_of n.results e)) t then laid e (as_value u) k
+        else converted_laid n u t k (laid e Anywhere k)
     laid (Discard e) u k = laid e Nothing k
     laid (Signed Plus t e) u k = laid e (as_value u) k
     laid (Signed Minus t e) u k = let r = laid e Anywhere k in operation_laid n u k r.next r.top
@@ -51,11 +53,18 @@ module _ (n : Names) where
     laid (Not e) Tested k = laid e Tested k
     laid (Not e) u k = let r = laid e Anywhere k in operation_laid n u k r.next r.top
     laid (Arithmetic o t a b) u k = after_pair n u k (pair (λ y. writes n y b) (laid a Anywhere k) (laid b Anywhere))
-    laid (Compare o t a b) u k = compared_laid n u (is_two o) k (pair (λ y. writes n y b) (laid a Anywhere k) (laid b Anywhere))
-    laid (ComparePointers o a b) u k = compared_laid n u (is_two_pointers o) k (pair (λ y. writes n y b) (laid a Anywhere k) (laid b Anywhere))
-    laid (Move d of p i) u k = let q = pair (λ y. writes n y i) (laid p Anywhere k) (laid i Anywhere) in moved_laid n u k (object_size of) q.right q
-    laid (MoveFrom i of p) u k = let q = pair (λ y. writes n y p) (laid i Anywhere k) (laid p Anywhere) in moved_laid n u k (object_size of) q.left q
-    laid (Difference of a b) u k = steps_laid n u (not (object_size of == 1)) k (pair (λ y. writes n y b) (laid a Anywhere k) (laid b Anywhere))
+    laid (Compare o t a b) u k =
+        compared_laid n u (is_two o) k (pair (λ y. writes n y b) (laid a Anywhere k) (laid b Anywhere))
+    laid (ComparePointers o a b) u k =
+        compared_laid n u (is_two_pointers o) k (pair (λ y. writes n y b) (laid a Anywhere k) (laid b Anywhere))
+    laid (Move d of p i) u k =
+        let q = pair (λ y. writes n y i) (laid p Anywhere k) (laid i Anywhere) in
+        moved_laid n u k (object_size of) q.right q
+    laid (MoveFrom i of p) u k =
+        let q = pair (λ y. writes n y p) (laid i Anywhere k) (laid p Anywhere) in
+        moved_laid n u k (object_size of) q.left q
+    laid (Difference of a b) u k =
+        steps_laid n u (not (object_size of == 1)) k (pair (λ y. writes n y b) (laid a Anywhere k) (laid b Anywhere))
     laid (And a b) u k = both_laid n u k (laid a Tested) (laid b Tested)
     laid (Or a b) u k = both_laid n u k (laid a Tested) (laid b Tested)
     laid (Conditional c a b) u k =
@@ -63,12 +72,16 @@ module _ (n : Names) where
         else arms_laid n u k (laid c Tested (k + 1)) (laid a (In k)) (laid b (In k))
     laid (Comma a b) u k = let r = laid a Nothing k in behind_top r.top (laid b u (pick n k r.top))
     laid (Assign s l e) u k =
-        let place = place_laid l k in assigned_laid n u (scalar_named n l) k place (laid e (use_for (scalar_named n l) u) (begun_at (scalar_named n l) k (λ y. writes n y e) place))
+        let place = place_laid l k in
+        assigned_laid n u (scalar_named n l) k place
+        (laid e (use_for (scalar_named n l) u) (begun_at (scalar_named n l) k (λ y. writes n y e) place))
     laid (Update o t v l e) u k =
-        let place = place_laid l k in let r = laid e Anywhere (begun_behind (scalar_named n l) k (λ y. writes n y e) place) in
+        let place = place_laid l k in
+        let r = laid e Anywhere (begun_behind (scalar_named n l) k (λ y. writes n y e) place) in
         updated_laid n u (is_narrow t) (scales None r.value) (scalar_named n l) k place r
     laid (UpdatePointer d of l e) u k =
-        let place = place_laid l k in let r = laid e Anywhere (begun_behind (scalar_named n l) k (λ y. writes n y e) place) in
+        let place = place_laid l k in
+        let r = laid e Anywhere (begun_behind (scalar_named n l) k (λ y. writes n y e) place) in
         updated_laid n u false (scales (Some of) r.value) (scalar_named n l) k place r
     laid (Step d g t v l) u k = step_laid n g u (is_narrow t) (scalar_named n l) k (place_laid l k)
     laid (StepPointer d g of l) u k = step_laid n g u false (scalar_named n l) k (place_laid l k)
@@ -78,15 +91,23 @@ module _ (n : Names) where
     pub place_laid : LvalueTree → ℕ → PlaceLaid
     place_laid (Named o of) k = record { location = named_location o; next = k; top = k }
     place_laid (Target of p) k = at_laid (laid p Anywhere k)
-    place_laid (Element of p i) k = let q = pair (λ y. writes n y i) (laid p Anywhere k) (laid i Anywhere) in at_laid (moved_laid n Anywhere k (object_size of) q.right q)
-    place_laid (ElementFrom of i p) k = let q = pair (λ y. writes n y p) (laid i Anywhere k) (laid p Anywhere) in at_laid (moved_laid n Anywhere k (object_size of) q.left q)
+    place_laid (Element of p i) k =
+        let q = pair (λ y. writes n y i) (laid p Anywhere k) (laid i Anywhere) in
+        at_laid (moved_laid n Anywhere k (object_size of) q.right q)
+    place_laid (ElementFrom of i p) k =
+        let q = pair (λ y. writes n y p) (laid i Anywhere k) (laid p Anywhere) in
+        at_laid (moved_laid n Anywhere k (object_size of) q.left q)
 
     -- the address of an object that an lvalue designates
     pub address_laid : LvalueTree → Use → ℕ → Laid
     address_laid (Named o of) u k = named_address o u k
     address_laid (Target of p) u k = laid p (worked u) k
-    address_laid (Element of p i) u k = let q = pair (λ y. writes n y i) (laid p Anywhere k) (laid i Anywhere) in moved_laid n u k (object_size of) q.right q
-    address_laid (ElementFrom of i p) u k = let q = pair (λ y. writes n y p) (laid i Anywhere k) (laid p Anywhere) in moved_laid n u k (object_size of) q.left q
+    address_laid (Element of p i) u k =
+        let q = pair (λ y. writes n y i) (laid p Anywhere k) (laid i Anywhere) in
+        moved_laid n u k (object_size of) q.right q
+    address_laid (ElementFrom of i p) u k =
+        let q = pair (λ y. writes n y p) (laid i Anywhere k) (laid p Anywhere) in
+        moved_laid n u k (object_size of) q.left q
 
     -- arguments
     pub passed_laid : ArgumentTrees → ℕ → PassedLaid

@@ -2,7 +2,8 @@
 use Rattle.std.specs.Prelude.{ℕ, ◌+◌, Bool, true, false, if◌then◌else◌}
 use Rattle.c_tree.specs.TypedExpressions.{RvalueTree, LvalueTree, ArgumentTrees, Constant, Null, Load, Decay, AddressOf, Convert, Discard, Signed, Not, Arithmetic, Compare, ComparePointers, Move, MoveFrom, Difference, And, Or, Conditional, Comma, Assign, Update, UpdatePointer, Step, StepPointer, Call, Named, Target, Element, ElementFrom, none, first}
 
--- `&&` and `||` have a block for the right operand, and where they are values also one for each truth value and one that follows.
+-- `&&` and `||` have a block for the right operand, and where they are values also one for each truth value and one
+-- that follows.
 abbrev pub for_truth : (is_tested : Bool) → ℕ
 for_truth is_tested = if is_tested then 1 else 4
 

@@ -10,8 +10,9 @@ use Rattle.graph_build_names.specs.declared.names.Home.{Home}
 use Rattle.graph_build_names.specs.declared.names.Home.TheVariants as home
 use Rattle.graph_build_names.specs.declared.names.Names as declared-names
 
--- What a function's code names: where each of its variables is kept, from the first one on; how many static variables stand before the literals; and the types of what functions give.
--- Temporaries are used again only where a fresh one for each result would be more names than the function weighs.
+-- What a function's code names: where each of its variables is kept, from the first one on; how many static variables
+-- stand before the literals; and the types of what functions give. Temporaries are used again only where a fresh one
+-- for each result would be more names than the function weighs.
 pub record Names : Type 0 where
   pub first : ℕ
   pub homes : List Home
@@ -20,13 +21,15 @@ pub record Names : Type 0 where
   pub again : Bool
 
 abbrev pub names_view : declared-names.Names → Names
-names_view n = record { first = n.first; homes = n.homes.items; statics = n.statics; results = n.results.items; again = n.again }
+names_view n =
+    record { first = n.first; homes = n.homes.items; statics = n.statics; results = n.results.items; again = n.again }
 
 -- Scalars and objects are numbered apart, each in the order of the variables.
 abbrev pub homes_from : (scalars objects : ℕ) → List AutomaticTree → List Home
 homes_from scalars objects [] = []
 homes_from scalars objects (a ∷ more) =
-    if a.in_memory then home.Object objects ∷ homes_from scalars (objects + 1) more else home.Scalar scalars ∷ homes_from (scalars + 1) objects more
+    if a.in_memory then home.Object objects ∷ homes_from scalars (objects + 1) more
+    else home.Scalar scalars ∷ homes_from (scalars + 1) objects more
 
 -- where so many variables are kept, from one on
 abbrev pub homes_of : List AutomaticTree → (first count : ℕ) → List Home

@@ -15,10 +15,10 @@ operand_at (Automatic o k) = Constant 0
 operand_at (Static o) = Constant 0
 
 -- a location with another operand, if it is where a value points
-abbrev pub located : Location → Operand → Location
-located (At b) a = At a
-located (Automatic o k) a = Automatic o k
-located (Static o) a = Static o
+abbrev pub located_at : Location → Operand → Location
+located_at (At b) a = At a
+located_at (Automatic o k) a = Automatic o k
+located_at (Static o) a = Static o
 
 -- a comparison of numbers whose value takes two instructions
 abbrev pub is_two : declared-comparison.Comparison → Bool

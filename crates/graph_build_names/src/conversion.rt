@@ -1,10 +1,10 @@
 //! Conversions of integers as words (ISO/IEC 9899:2011, 6.3.1.3).
 
 ghost use Rattle.std.specs.Prelude.{◌≡◌};
-ghost use Rattle.word_base.specs.Types.{greatest, least};
+ghost use Rattle.word_base.specs.Types.{greatest, least_number};
 ghost use Rattle.c_type_rules.specs.Integers.{integer};
 ghost use Rattle.graph_core.specs.Graphs.{operand_view};
-ghost use Rattle.graph_build_names.specs.Conversions.{is_kept_constant, is_narrow, is_within, keeps_bits, word_of};
+ghost use Rattle.graph_build_names.specs.Conversions.{is_kept_constant, is_narrow, is_within, keeps_bits, unsigned_bits};
 
 use c_tree::IntegerType;
 use c_type_rules::{residue, wrapped};
@@ -13,7 +13,7 @@ use graph_core::Operand;
 /// The word of a number: its lowest 32 bits in two's complement.
 #[tactic(auto, unfolding(c_type_rules::specs::Integers::residue))]
 pub fn word_of(number: i64) -> u32
-    ensures { result ≡ word_of number }
+    ensures { result ≡ unsigned_bits number }
 {
     residue(i128::from(number), 4294967296) as u32
 }
@@ -34,7 +34,7 @@ pub fn is_narrow(of: IntegerType) -> bool
 
 /// The least number of a type.
 fn lowest(of: IntegerType) -> i64
-    ensures { result ≡ least (integer of) }
+    ensures { result ≡ least_number (integer of) }
 {
     match of {
         IntegerType::SignedChar => -128,

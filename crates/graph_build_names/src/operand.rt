@@ -2,7 +2,7 @@
 
 ghost use Rattle.std.specs.Prelude.{◌≡◌};
 ghost use Rattle.graph_core.specs.Graphs.{location_view, operand_view};
-ghost use Rattle.graph_build_names.specs.Operands.{held, is_two, is_two_pointers, located, operand_at};
+ghost use Rattle.graph_build_names.specs.Operands.{held, is_two, is_two_pointers, located_at, operand_at};
 
 use c_tree::Comparison;
 use graph_core::{Location, Name, Operand};
@@ -30,7 +30,7 @@ pub fn operand_at(location: Location) -> Operand
 
 /// A location with another operand, if it is where a value points.
 pub fn located(location: Location, operand: Operand) -> Location
-    ensures { location_view result ≡ located (location_view location) (operand_view operand) }
+    ensures { location_view result ≡ located_at (location_view location) (operand_view operand) }
 {
     match location {
         Location::At(_) => Location::At(operand),

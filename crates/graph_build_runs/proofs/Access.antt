@@ -5,7 +5,7 @@ use Rattle.std.proofs.lemmas.Option.{slice_get_within}
 use Rattle.c_tree.specs.declared.object_type.Scalar.{Scalar}
 use Rattle.c_tree.specs.declared.object_type.ObjectType.TheVariants as of-object
 use Rattle.c_tree.specs.Programs.{ProgramTree}
-use Rattle.c_type_rules.specs.Types.{loaded}
+use Rattle.c_type_rules.specs.Types.{loaded_type}
 use Rattle.c_meaning_values.specs.declared.value.Value as source-value
 use Rattle.c_meaning_values.specs.declared.value.Phase.TheVariants.{Live, Ended}
 use Rattle.c_meaning_values.specs.Types.{scalar_size}
@@ -76,7 +76,7 @@ read_same x want s l w sc n offset given v sound f c live found pointer =
     let got = values_at x.program s.memory w.memory c.object.values q.object.values c.index v (q.values live) at_index in
     let less = slice_get_within q.object.values c.index got.0 got.1 in
     let reach = reaches sc q.object c.index offset q.same.lives (q.same.element ∙ ap element_of c.element_is) c.at less in
-    let typed : IsOf s.memory (loaded sc) v = subst (λ e. IsOf s.memory (loaded e) v) c.element_is (all_at s.memory (loaded c.object.element) c.object.values c.index v (sound.typed n c.object c.is) at_index) in
+    let typed : IsOf s.memory (loaded_type sc) v = subst (λ e. IsOf s.memory (loaded_type e) v) c.element_is (all_at s.memory (loaded_type c.object.element) c.object.values c.index v (sound.typed n c.object c.is) at_index) in
     let kept = element_keeps x.program s.memory w.memory sc v got.0 typed got.2 in (
       got.0,
       ap (read w.memory (element_of sc)) q.given_is ∙ ap (option_and_then (value_in (element_of sc) offset)) q.is ∙ ap (λ i. option_map (as_element (element_of sc)) (option_and_then (λ j. slice_get q.object.values j) i)) reach

@@ -2,7 +2,7 @@
 use Rattle.std.proofs.Common.{ℕ, List, [], Option}
 use Rattle.std.proofs.lemmas.Option.{slice_get_within}
 use Rattle.c_tree.specs.Programs.{ProgramTree}
-use Rattle.c_places.specs.Places.{number_at, places_of_program}
+use Rattle.c_places.specs.Places.{place_number_at, places_of_program}
 use Rattle.c_meaning_values.specs.Memory.{Memory as SourceMemory}
 use Rattle.c_meaning_steps.specs.declared.event.Frame.{Frame}
 use Rattle.c_meaning_steps.specs.States.{State}
@@ -38,7 +38,7 @@ coding_in k = record {
 
 -- the place at a position
 abbrev pub place_at : Activity → ℕ → ℕ
-place_at k at = number_at (places_of_program k.setting.program) at
+place_at k at = place_number_at (places_of_program k.setting.program) at
 
 -- the same at a place, where the place's code begins with a memory of the program's run
 abbrev pub placed : Activity → (place : ℕ) → SourceMemory → Setting

@@ -13,12 +13,12 @@ use Rattle.c_meaning_values.specs.declared.value.Value as source-value
 use Rattle.c_meaning_values.specs.declared.value.Value.TheVariants as source
 use Rattle.c_meaning_values.specs.Memory.{object_of as owned_number, is_usable}
 use Rattle.c_meaning_steps.specs.declared.event.Ending.TheVariants as ending
-use Rattle.c_meaning_steps.specs.States.{State, Evaluated, Gives, Leaves, Ends, given, with, usable}
+use Rattle.c_meaning_steps.specs.States.{State, Evaluated, Gives, Leaves, Ends, value_or_undefined, with, usable}
 use Rattle.c_meaning.specs.Expressions.{Calls, evaluate, designate}
-use Rattle.c_meaning_steps.specs.Steps.{named, decayed}
+use Rattle.c_meaning_steps.specs.Steps.{pointer_to_named, decayed}
 use Rattle.graph_core.specs.declared.value.Value.TheVariants.{Pointer, Odd}
 use Rattle.graph_core.specs.Graphs.{Operand, Name, StaticAddress, Static as StaticPlace, Instruction, Address, End}
-use Rattle.graph_core.specs.Memory.{Object, Memory, bytes_of, address_of, address_in}
+use Rattle.graph_core.specs.Memory.{Object, Memory, bytes_of, pointer_to_object, address_in}
 use Rattle.graph_core.specs.Values.{pointer_at}
 use Rattle.graph_build_layout.specs.declared.laid.Use.TheVariants.{Anywhere}
 use Rattle.graph_build_names.specs.Names.{object_of, object_location, pick}
@@ -41,7 +41,7 @@ use Rattle.graph_build_runs.proofs.Holding.{place_next}
 use Rattle.graph_build_runs.proofs.PointerSums.{Filters, gives_filters, decayed_filters, given_gives}
 
 -- a pointer to the beginning of an object
-begins : (memory : Memory) (n : ℕ) → address_in memory n 0 ≡ address_of memory n
+begins : (memory : Memory) (n : ℕ) → address_in memory n 0 ≡ pointer_to_object memory n
 begins memory n = by (slice_get memory n)
   where
     by : (r : Option Object) → option_map_or (λ o. pointer_at n (bytes_of o) 0) r Odd ≡ option_map_or (λ o. Pointer n (bytes_of o) 0) r Odd
@@ -59,16 +59,16 @@ module _ (x : Setting) (calls : Calls) (low : ScalarsFirst x) (next : source-val
 
   -- the pointer to an object that a name designates
   pointer_of : (o : designator.Object) (of : ObjectType) (s : State) (v : source-value.Value) (s1 : State) → designate calls (depth_in x) (Named o of) s ≡ Gives v s1 → HasWord v
-  pointer_of o of s v s1 e = by (named (depth_in x) o s.memory) e
+  pointer_of o of s v s1 e = by (pointer_to_named (depth_in x) o s.memory) e
     where
-      by_owner : (r : Option ℕ) → given (option_map (λ n. source.Pointer n 0) r) s ≡ Gives v s1 → HasWord v
+      by_owner : (r : Option ℕ) → value_or_undefined (option_map (λ n. source.Pointer n 0) r) s ≡ Gives v s1 → HasWord v
       by_owner None h = cc
       by_owner (Some n) h = let same : source.Pointer n 0 ≡ v = given_same h in subst HasWord same tt
         where
           given_same : {a b : source-value.Value} {p q : State} → Gives a p ≡ Gives b q → a ≡ b
           given_same h = cc
 
-      by_object : (o : designator.Object) → given (named (depth_in x) o s.memory) s ≡ Gives v s1 → HasWord v
+      by_object : (o : designator.Object) → value_or_undefined (pointer_to_named (depth_in x) o s.memory) s ≡ Gives v s1 → HasWord v
       by_object (object.Static n) h = by_owner (owned_number (Static n) s.memory) h
       by_object (object.Literal n) h = by_owner (owned_number (Literal n) s.memory) h
       by_object (object.Automatic y) h = by_owner (owned_number (Variable y (depth_in x)) s.memory) h
@@ -95,7 +95,7 @@ module _ (x : Setting) (calls : Calls) (low : ScalarsFirst x) (next : source-val
       let le = pick_between (names_in x) t t t (omega arith) (omega arith) in
       place_next x g m (Named (object.Automatic y) of) (Name own) t t (λ y. false) (λ y. false) m.ops m.end l w (designate calls (depth_in x) (Named (object.Automatic y) of) s) next (omega arith) (λ y lt nf. (refl, refl)) (does t m s l w size st sound fits)
       (λ v s1 e h. passed g (Name own) t v s1 h.reached.local h.reached.world m.ops m.end h.reached.fits
-      (operated_done x g own t (λ y. false) (λ k. Address k j) v (address_of h.reached.world.memory (x.first + j)) s1 h.reached.local h.reached.world low le (omega (arith, le, size)) h.reached.fits (λ k ops end. refl)
+      (operated_done x g own t (λ y. false) (λ k. Address k j) v (pointer_to_object h.reached.world.memory (x.first + j)) s1 h.reached.local h.reached.world low le (omega (arith, le, size)) h.reached.fits (λ k ops end. refl)
       (subst (SameValue x.program s1.memory h.reached.world.memory v) (ap (λ o. pointed_in x h.reached.local h.reached.world (object_location o)) is ∙ begins h.reached.world.memory (x.first + j)) h.same) (pointer_of (object.Automatic y) of s v s1 e)))
 
   -- where a pointer points, which may be used
@@ -163,14 +163,14 @@ module _ (x : Setting) (calls : Calls) (low : ScalarsFirst x) where
   pub static_address_does : (i : ℕ) (of : ObjectType) → StaticsThere x i → Does x calls (AddressOf (Named (object.Static i) of))
   static_address_does i of there t g s l w size st sound fits aims =
       let m = leaf g (StaticAddress i 0) in
-      subst (Result x g (StaticAddress i 0) t (λ y. false) m.ops m.end l w) (given_gives (named (depth_in x) (object.Static i) s.memory) s)
+      subst (Result x g (StaticAddress i 0) t (λ y. false) m.ops m.end l w) (given_gives (pointer_to_named (depth_in x) (object.Static i) s.memory) s)
       (fixed_address x calls low Gives gives_filters (object.Static i) of i (λ k. refl) (static_place x calls i of there) t g s l w size st sound fits)
 
   pub literal_address_does : (i : ℕ) (of : ObjectType) → StaticsThere x ((names_in x).statics + i) → Does x calls (AddressOf (Named (object.Literal i) of))
   literal_address_does i of there t g s l w size st sound fits aims =
       let a = StaticAddress ((names_in x).statics + i) 0 in
       let m = leaf g a in
-      subst (Result x g a t (λ y. false) m.ops m.end l w) (given_gives (named (depth_in x) (object.Literal i) s.memory) s)
+      subst (Result x g a t (λ y. false) m.ops m.end l w) (given_gives (pointer_to_named (depth_in x) (object.Literal i) s.memory) s)
       (fixed_address x calls low Gives gives_filters (object.Literal i) of ((names_in x).statics + i) (λ k. refl) (literal_place x calls i of there) t g s l w size st sound fits)
 
   abbrev address_by : ℕ → Goal → Option ℕ → Made
@@ -179,7 +179,7 @@ module _ (x : Setting) (calls : Calls) (low : ScalarsFirst x) where
   pub variable_address_does : (y j : ℕ) (of : ObjectType) → object_of (names_in x) y ≡ Some j → Does x calls (AddressOf (Named (object.Automatic y) of))
   variable_address_does y j of is t g s l w size st sound fits aims =
       subst (λ o. Stands x.graph x.top (address_by t g o).inner → Result x g (object_laid (names_in x) Anywhere o t).value t (λ y. false) (address_by t g o).ops (address_by t g o).end l w (evaluate calls (depth_in x) (AddressOf (Named (object.Automatic y) of)) s)) (sym is)
-      (λ st'. subst (Result x g (Name (pick (names_in x) t t)) t (λ y. false) (address_by t g (Some j)).ops (address_by t g (Some j)).end l w) (given_gives (named (depth_in x) (object.Automatic y) s.memory) s)
+      (λ st'. subst (Result x g (Name (pick (names_in x) t t)) t (λ y. false) (address_by t g (Some j)).ops (address_by t g (Some j)).end l w) (given_gives (pointer_to_named (depth_in x) (object.Automatic y) s.memory) s)
       (automatic_address x calls low Gives gives_filters y j of is (variable_place x calls y j of is) t g s l w size st' sound fits)) st
 
   -- arrays decay

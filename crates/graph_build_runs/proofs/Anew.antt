@@ -8,19 +8,19 @@ use Rattle.c_tree.specs.declared.object_type.ObjectType.{ObjectType}
 use Rattle.c_tree.specs.declared.object_type.ValueType.{ValueType}
 use Rattle.c_tree.specs.declared.object_type.Object.TheVariants as object
 use Rattle.c_tree.specs.TypedExpressions.{Named}
-use Rattle.c_type_rules.specs.Types.{loaded}
+use Rattle.c_type_rules.specs.Types.{loaded_type}
 use Rattle.c_meaning_values.specs.declared.value.Value as source-value
 use Rattle.c_meaning_values.specs.declared.value.Value.TheVariants as source
 use Rattle.c_meaning_values.specs.declared.value.Phase.TheVariants.{Live, Ended}
 use Rattle.c_meaning_values.specs.Memory.{Object as SourceObject, Memory as SourceMemory, is_usable, is_begun, is_writable, object_of, value_in as value_at, written_in, index_at, set_value, begun}
 use Rattle.c_meaning_steps.specs.declared.event.Ending.TheVariants as ending
-use Rattle.c_meaning_steps.specs.States.{State, Evaluated, Gives, Ends, given, with, usable, Both, Pair, NoPair}
+use Rattle.c_meaning_steps.specs.States.{State, Evaluated, Gives, Ends, value_or_undefined, with, usable, Both, Pair, NoPair}
 use Rattle.c_meaning.specs.Expressions.{Calls, designate}
-use Rattle.c_meaning_steps.specs.Steps.{store, stored, located, read_by}
+use Rattle.c_meaning_steps.specs.Steps.{store, value_stored, left_side_read, read_by}
 use Rattle.graph_core.specs.declared.value.Value.{Value}
 use Rattle.graph_core.specs.declared.value.Shadow.TheVariants.{Known}
 use Rattle.graph_core.specs.Graphs.{Operand, Name, Instruction, Note, Is, Of, End}
-use Rattle.graph_core.specs.Runs.{Goes, Wild, put, step, value}
+use Rattle.graph_core.specs.Runs.{Goes, Wild, with_value_at, step, value}
 use Rattle.graph_core.specs.Values.{is_odd}
 use Rattle.graph_build_names.specs.Names.{scalar_of}
 use Rattle.graph_build_steps.specs.Drafts.{Made, note}
@@ -57,7 +57,7 @@ fits_agree x want other s l m w f shadows agree =
 
 -- a name's shadow says its value
 abbrev pub noted_in : Local → ℕ → Local
-noted_in l k = record l { shadows = put l.shadows k (Known (l.names k)) }
+noted_in l k = record l { shadows = with_value_at l.shadows k (Known (l.names k)) }
 
 note_step : (x : Setting) (k : ℕ) (ops : List Instruction) (end : End) (l : Local) (w : World) → is_odd (l.names k) ≡ false → step x.unit (at x (Note k (Is (Of (Name k))) ∷ ops) end l w) ≡ Goes (at x ops end (noted_in l k) w)
 note_step x k ops end l w known = ap (λ b. if b then Wild else Goes (at x ops end (noted_in l k) w)) known
@@ -84,7 +84,7 @@ module _ (x : Setting) (apart : ScalarsApart x) (v k : ℕ) (named_by : scalar_o
   pub note_cases : (n : ℕ) (u : source-value.Value) (s : State) (l : Local) (w : World) → Sound x.program x.begun s → Fits x (Some k) s l w → ScalarObject x v s.memory n → SameValue x.program s.memory w.memory u (l.names k) → (R : Evaluated → Type 0) → R (Ends ending.Undefined s)
       → ((after : SourceMemory) → NotedAs x k s l w u after → R (Gives u (record s { memory = after }))) → R (store (source.Pointer n 0) u s)
   note_cases n u s l w sound f o same R undefined next =
-      subst (λ q. R (stored (option_and_then (written_in s.memory n 0 u) q) u s)) (sym o.is) (by_way (is_writable o.object 0))
+      subst (λ q. R (value_stored (option_and_then (written_in s.memory n 0 u) q) u s)) (sym o.is) (by_way (is_writable o.object 0))
     where
       after : SourceMemory
       after = slice_set s.memory n (record o.object { values = slice_set o.object.values 0 u; phase = Live })
@@ -92,7 +92,7 @@ module _ (x : Setting) (apart : ScalarsApart x) (v k : ℕ) (named_by : scalar_o
       written : begun (set_value s.memory n (index_at o.object 0) u) n ≡ slice_set s.memory n (record o.object { values = slice_set o.object.values 0 u; phase = Live })
       written = ap (λ i. begun (set_value s.memory n i u) n) (first_index o.object.element) ∙ written_is s.memory n 0 o.object u o.is
 
-      by_way : (b : Bool) → R (stored (if b then Some (begun (set_value s.memory n (index_at o.object 0) u) n) else None) u s)
+      by_way : (b : Bool) → R (value_stored (if b then Some (begun (set_value s.memory n (index_at o.object 0) u) n) else None) u s)
       by_way false = undefined
       by_way true =
           let a = subst (λ q. IsDeclared x.program q o.object) o.owner (sound.declared n o.object o.is) in
@@ -108,27 +108,27 @@ module _ (x : Setting) (apart : ScalarsApart x) (v k : ℕ) (named_by : scalar_o
 
   -- A scalar is designated and read: nothing is defined, or its name has the value.
   pub located_cases : (calls : Calls) (of : ObjectType) (s : State) (l : Local) (w : World) → Sound x.program x.begun s → Fits x None s l w → (R : Both → Type 0) → R (NoPair ending.Undefined s)
-      → ((n : ℕ) (u : source-value.Value) (o : ScalarObject x v s.memory n) → SameValue x.program s.memory w.memory u (l.names k) → IsOf s.memory (loaded o.object.element) u → R (Pair (source.Pointer n 0) u s))
-      → R (located (designate calls (depth_in x) (Named (object.Automatic v) of) s))
+      → ((n : ℕ) (u : source-value.Value) (o : ScalarObject x v s.memory n) → SameValue x.program s.memory w.memory u (l.names k) → IsOf s.memory (loaded_type o.object.element) u → R (Pair (source.Pointer n 0) u s))
+      → R (left_side_read (designate calls (depth_in x) (Named (object.Automatic v) of) s))
   located_cases calls of s l w sound f R undefined next = found_by (object_of (Variable v (depth_in x)) s.memory) refl
     where
-      used : (n : ℕ) (u : source-value.Value) (o : ScalarObject x v s.memory n) → SameValue x.program s.memory w.memory u (l.names k) → IsOf s.memory (loaded o.object.element) u → (b : Bool) → R (read_by (source.Pointer n 0) (if b then Gives u s else Ends ending.Undefined s))
+      used : (n : ℕ) (u : source-value.Value) (o : ScalarObject x v s.memory n) → SameValue x.program s.memory w.memory u (l.names k) → IsOf s.memory (loaded_type o.object.element) u → (b : Bool) → R (read_by (source.Pointer n 0) (if b then Gives u s else Ends ending.Undefined s))
       used n u o same is true = next n u o same is
       used n u o same is false = undefined
 
-      reads : (n : ℕ) (o : ScalarObject x v s.memory n) → (b : Bool) → is_begun o.object.phase ≡ b → R (read_by (source.Pointer n 0) (with (given (if b then slice_get o.object.values (index_at o.object 0) else None) s) usable))
+      reads : (n : ℕ) (o : ScalarObject x v s.memory n) → (b : Bool) → is_begun o.object.phase ≡ b → R (read_by (source.Pointer n 0) (with (value_or_undefined (if b then slice_get o.object.values (index_at o.object 0) else None) s) usable))
       reads n o false e = undefined
       reads n o true e =
           let c = f.own.scalars v k n o.object named_by o.is o.owner (begun_live o.object.phase e) in
           let found : slice_get o.object.values (index_at o.object 0) ≡ Some c.value = ap (slice_get o.object.values) (first_index o.object.element) ∙ ap (λ vs. slice_get vs 0) c.holds in
-          subst (λ r. R (read_by (source.Pointer n 0) (with (given r s) usable))) (sym found)
+          subst (λ r. R (read_by (source.Pointer n 0) (with (value_or_undefined r s) usable))) (sym found)
           (used n c.value o (c.named refl) (one_typed s.memory o.object c.value c.holds (sound.typed n o.object o.is)) (is_usable s.memory c.value))
 
-      found_by : (r : Option ℕ) → object_of (Variable v (depth_in x)) s.memory ≡ r → R (located (given (option_map (λ n. source.Pointer n 0) r) s))
+      found_by : (r : Option ℕ) → object_of (Variable v (depth_in x)) s.memory ≡ r → R (left_side_read (value_or_undefined (option_map (λ n. source.Pointer n 0) r) s))
       found_by None e = undefined
       found_by (Some n) e =
           let o = owned_at (Variable v (depth_in x)) s.memory n e in
-          subst (λ q. R (read_by (source.Pointer n 0) (with (given (option_and_then (λ p. value_at p 0) q) s) usable))) (sym o.is)
+          subst (λ q. R (read_by (source.Pointer n 0) (with (value_or_undefined (option_and_then (λ p. value_at p 0) q) s) usable))) (sym o.is)
           (reads n (record { object = o.object; is = o.is; owner = o.owner_is; alive = o.alive }) (is_begun o.object.phase) refl)
 
 -- what follows a new value, if there is one, that is stored where a pointer points
@@ -164,10 +164,10 @@ pub restored_fits : (x : Setting) (s : State) (w : World) (other : Option ℕ) (
 restored_fits x s w other a l f = fits_agree x None other s (restored other a l) l w f (sym (restored_shadows other a l)) (λ y i is nw. (refl, sym (restored_names other a l i nw)))
 
 -- a name that is put back is as it was
-pub put_back : (names : ℕ → Value) (y i : ℕ) (a : Value) → (put (put names y a) y (names y)) i ≡ names i
+pub put_back : (names : ℕ → Value) (y i : ℕ) (a : Value) → (with_value_at (with_value_at names y a) y (names y)) i ≡ names i
 put_back names y i a = go (i == y) refl
   where
-    go : (b : Bool) → i == y ≡ b → (if b then names y else put names y a i) ≡ names i
+    go : (b : Bool) → i == y ≡ b → (if b then names y else with_value_at names y a i) ≡ names i
     go true e = ap names (sym (eqb-true i y e))
     go false e = put_elsewhere names y i a e
 
@@ -223,4 +223,4 @@ module _ (x : Setting) (low : ScalarsFirst x) (apart : ScalarsApart x) (v k : �
 
       shadows_same : (other : Option ℕ) (q : Local) (u : Value) → (noted_in (set_name q k u) k).shadows ≡ (noted_in (set_name (restored other before_it q) k u) k).shadows
       shadows_same other q u =
-          ap (λ z. put q.shadows k (Known z)) (put_here q.names k u ∙ sym (put_here (restored other before_it q).names k u)) ∙ ap (λ z. put z k (Known ((set_name (restored other before_it q) k u).names k))) (sym (restored_shadows other before_it q))
+          ap (λ z. with_value_at q.shadows k (Known z)) (put_here q.names k u ∙ sym (put_here (restored other before_it q).names k u)) ∙ ap (λ z. with_value_at z k (Known ((set_name (restored other before_it q) k u).names k))) (sym (restored_shadows other before_it q))

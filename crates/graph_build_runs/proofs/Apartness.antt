@@ -11,7 +11,7 @@ use Rattle.c_tree.specs.declared.object_type.Object.TheVariants as object
 use Rattle.c_tree.specs.TypedExpressions.{RvalueTree, LvalueTree, Constant, Null, Load, Decay, AddressOf, Convert, Discard, Signed, Not, Arithmetic, Compare, ComparePointers, Move, MoveFrom, Difference, And, Or, Conditional, Comma, Assign, Update, UpdatePointer, Step, StepPointer, Call, Named, Target, Element, ElementFrom}
 use Rattle.c_tree.specs.Programs.{AutomaticTree}
 use Rattle.c_type_rules.specs.Integers.{promoted}
-use Rattle.c_type_rules.specs.Types.{loaded, same_integer}
+use Rattle.c_type_rules.specs.Types.{loaded_type, same_integer}
 use Rattle.c_type_rules.specs.ValueTypes.{object_type, decayed}
 use Rattle.c_type_laws.specs.Kind.{Kind, Wrong, Of}
 use Rattle.c_type_laws.specs.Kinds.{of_if, is_promoted, is_of, is_typed, is_scalar_type, is_integer, is_counted, is_operand, holds_scalar, holds_integer, holds_pointer, is_array, automatic_is, is_variable}
@@ -28,8 +28,8 @@ use Rattle.graph_build_runs.proofs.NamedPlaces.{no_array, no_itself, PointsBy, p
 
 -- what a scalar is assigned: a number, a pointer of its type, or what comes from a pointer to an array
 data Aim (own : Scalar) : Kind → Type 0 where
-  number : {j : Kind} → (t : IntegerType) → loaded own ≡ Integer t → Aim own j
-  pointer : {j : Kind} → (of : ObjectType) → loaded own ≡ Pointer of → is_of j (Pointer of) ≡ true → Aim own j
+  number : {j : Kind} → (t : IntegerType) → loaded_type own ≡ Integer t → Aim own j
+  pointer : {j : Kind} → (of : ObjectType) → loaded_type own ≡ Pointer of → is_of j (Pointer of) ≡ true → Aim own j
   array : {j : Kind} → (el : Scalar) (count : ℕ) → is_of j (Pointer (of-object.Array el count)) ≡ true → Aim own j
 
 through : (own : Scalar) (u : ValueType) (j : Kind) → is_of j u ≡ true → Aim own (Of u) → Aim own j
@@ -43,13 +43,13 @@ by_integer own u j (pointer of e is) = cc
 by_integer own u j (array el count is) = cc
 
 -- what is assigned that stores a value is not stored where the scalar points
-elsewhere : (own s : Scalar) → Aim own (Of (loaded s)) → loaded own ≡ Pointer (of-object.Scalar s) → ⊥
+elsewhere : (own s : Scalar) → Aim own (Of (loaded_type s)) → loaded_type own ≡ Pointer (of-object.Scalar s) → ⊥
 elsewhere own s (number t e) h = clash (sym e ∙ h)
   where
     clash : Integer t ≡ Pointer (of-object.Scalar s) → ⊥
     clash h = cc
-elsewhere own s (pointer of e is) h = no_itself s (value_is (loaded s) (Pointer of) is ∙ sym e ∙ h)
-elsewhere own s (array el count is) h = no_array s el count (value_is (loaded s) (Pointer (of-object.Array el count)) is)
+elsewhere own s (pointer of e is) h = no_itself s (value_is (loaded_type s) (Pointer of) is ∙ sym e ∙ h)
+elsewhere own s (array el count is) h = no_array s el count (value_is (loaded_type s) (Pointer (of-object.Array el count)) is)
 
 module _ (x : Setting) (low : ScalarsFirst x) (scalars : ScalarsApart x) (v k : ℕ) (named : scalar_of (names_in x) v ≡ Some k) (a : AutomaticTree) (is : slice_get x.program.automatics v ≡ Some a) (own : Scalar) (one : a.of ≡ of-object.Scalar own) where
   abbrev K : RvalueTree → Kind
@@ -58,16 +58,16 @@ module _ (x : Setting) (low : ScalarsFirst x) (scalars : ScalarsApart x) (v k : 
   abbrev P : LvalueTree → Bool
   P l = is_place x.program x.tree l
 
-  is_own : (of : ObjectType) → PointsBy x k of → loaded own ≡ Pointer of
+  is_own : (of : ObjectType) → PointsBy x k of → loaded_type own ≡ Pointer of
   is_own of p =
       let same : p.variable ≡ v = scalars.one p.variable v k p.named named in
       let declared : p.declared ≡ a = some_same (sym p.is ∙ ap (slice_get x.program.automatics) same ∙ is) in
-      subst (λ z. loaded z ≡ Pointer of) (same_scalar (sym p.one ∙ ap (λ z. z.of) declared ∙ one)) p.points
+      subst (λ z. loaded_type z ≡ Pointer of) (same_scalar (sym p.one ∙ ap (λ z. z.of) declared ∙ one)) p.points
     where
       same_scalar : {s r : Scalar} → of-object.Scalar s ≡ of-object.Scalar r → s ≡ r
       same_scalar h = cc
 
-  free : (l : LvalueTree) (s : Scalar) → P l ≡ true → object_type l ≡ of-object.Scalar s → Aim own (Of (loaded s)) → IsFreeOf x k l
+  free : (l : LvalueTree) (s : Scalar) → P l ≡ true → object_type l ≡ of-object.Scalar s → Aim own (Of (loaded_type s)) → IsFreeOf x k l
   free l s h of aim t size e = elsewhere own s aim (is_own (object_type l) (place_named x low l t k size (low v k named) h e) ∙ ap Pointer of)
 
   kind_aim : (b : Bool) (u : ValueType) → b ≡ true → Aim own (of_if b u) → Aim own (Of u)
@@ -110,11 +110,11 @@ module _ (x : Setting) (low : ScalarsFirst x) (scalars : ScalarsApart x) (v k : 
     apart (Conditional c a b) h aim = tt
     apart (Comma a b) h aim = let c = if_typed (is_typed (K a)) (K b) h in apart b c.1 (either_aim (is_typed (K a)) (K b) c.0 aim)
     apart (Assign s l e) h aim =
-        let fits = holds_scalar (object_type l) s && P l && is_of (K e) (loaded s) in
-        let b = fits_of fits (loaded s) h in
-        let c = three_true (holds_scalar (object_type l) s) (P l) (is_of (K e) (loaded s)) b in
-        let it = kind_aim fits (loaded s) b aim in
-        (free l s c.1 (object_is (object_type l) (of-object.Scalar s) c.0) it, apart e (typed_of (K e) (loaded s) c.2) (through own (loaded s) (K e) c.2 it))
+        let fits = holds_scalar (object_type l) s && P l && is_of (K e) (loaded_type s) in
+        let b = fits_of fits (loaded_type s) h in
+        let c = three_true (holds_scalar (object_type l) s) (P l) (is_of (K e) (loaded_type s)) b in
+        let it = kind_aim fits (loaded_type s) b aim in
+        (free l s c.1 (object_is (object_type l) (of-object.Scalar s) c.0) it, apart e (typed_of (K e) (loaded_type s) c.2) (through own (loaded_type s) (K e) c.2 it))
     apart (Update o t u l e) h aim =
         let fits = holds_integer (object_type l) t && is_promoted u && P l && is_operand o u (K e) in
         let b = fits_of fits (Integer t) h in
@@ -146,16 +146,16 @@ module _ (x : Setting) (low : ScalarsFirst x) (scalars : ScalarsApart x) (v k : 
     apart_in (ElementFrom of i p) h aim = tt
 
   -- a value of the scalar's type is apart from where the scalar points
-  pub assigned_apart : (e : RvalueTree) → is_of (K e) (loaded own) ≡ true → Apart x k e
-  assigned_apart e h = apart e (typed_of (K e) (loaded own) h) (by (loaded own) refl h)
+  pub assigned_apart : (e : RvalueTree) → is_of (K e) (loaded_type own) ≡ true → Apart x k e
+  assigned_apart e h = apart e (typed_of (K e) (loaded_type own) h) (by (loaded_type own) refl h)
     where
-      by : (u : ValueType) → loaded own ≡ u → is_of (K e) u ≡ true → Aim own (K e)
+      by : (u : ValueType) → loaded_type own ≡ u → is_of (K e) u ≡ true → Aim own (K e)
       by Void at q = let no : is_scalar_type Void ≡ true = subst (λ z. is_scalar_type z ≡ true) at (loaded_scalar x own) in cc
       by (Integer t) at q = number t at
       by (Pointer of) at q = pointer of at q
 
 -- What a scalar is assigned that an lvalue names stores nothing where that scalar points.
-pub place_apart : (x : Setting) → ScalarsFirst x → ScalarsApart x → (l : LvalueTree) (s : Scalar) (e : RvalueTree) → is_place x.program x.tree l ≡ true → object_type l ≡ of-object.Scalar s → is_of (kind_of x.program x.tree e) (loaded s) ≡ true → (k : ℕ) → scalar_named (names_in x) l ≡ Some k → Apart x k e
+pub place_apart : (x : Setting) → ScalarsFirst x → ScalarsApart x → (l : LvalueTree) (s : Scalar) (e : RvalueTree) → is_place x.program x.tree l ≡ true → object_type l ≡ of-object.Scalar s → is_of (kind_of x.program x.tree e) (loaded_type s) ≡ true → (k : ℕ) → scalar_named (names_in x) l ≡ Some k → Apart x k e
 place_apart x low scalars (Named (object.Automatic v) o) s e h one fits k named = by (slice_get x.program.automatics v) refl (two_true (is_variable x.tree v) (automatic_is (slice_get x.program.automatics v) o) h).1
   where
     by : (r : Option AutomaticTree) → slice_get x.program.automatics v ≡ r → automatic_is r o ≡ true → Apart x k e

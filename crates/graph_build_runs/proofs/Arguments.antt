@@ -8,7 +8,7 @@ use Rattle.c_type_laws.specs.Expressions.{kind_of}
 use Rattle.c_meaning_values.specs.declared.value.Value as source-value
 use Rattle.c_meaning_steps.specs.declared.event.Ending.TheVariants as ending
 use Rattle.c_meaning_values.specs.Memory.{Memory}
-use Rattle.c_meaning_steps.specs.States.{State, Evaluated, Gives, Leaves, Ends, Listed, Lists, NoList, listed, fronted}
+use Rattle.c_meaning_steps.specs.States.{State, Evaluated, Gives, Leaves, Ends, Listed, Lists, NoList, argument_listed, fronted}
 use Rattle.c_meaning.specs.Expressions.{Calls, evaluate, evaluate_all}
 use Rattle.graph_core.specs.Graphs.{Operand, Instruction, End}
 use Rattle.graph_core.specs.Runs.{value}
@@ -136,7 +136,7 @@ module _ (x : Setting) (calls : Calls) (low : ScalarsFirst x) (e : RvalueTree) (
     others_result v s1 k l1 w1 same held_is others leads kept (NoList e2 s2) keeps h = record { configuration = h.configuration; seen = h.seen; leads = then_leads leads h.leads; ends = h.ends }
 
     first_result : (r : Evaluated) → Keeps x.program x.begun s.memory (kind_of x.program x.tree e) r → ToR x None (rest_in t m) (value_in x e t) t (written_by x e) whole.ops whole.end l w r
-        → RowR x m (first e rest) t whole.ops whole.end l w (listed r (λ v s1. fronted v (evaluate_all calls (depth_in x) rest s1)))
+        → RowR x m (first e rest) t whole.ops whole.end l w (argument_listed r (λ v s1. fronted v (evaluate_all calls (depth_in x) rest s1)))
     first_result (Gives v s1) gave h =
         let r = low_e t size in
         let code_rest = passing x rest (from_in t) m in

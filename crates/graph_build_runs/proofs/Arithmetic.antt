@@ -3,7 +3,7 @@ use Rattle.std.proofs.Common.{◌≡◌, ℕ, ◌+◌, ◌<◌, ◌≤◌, List,
 use Rattle.std.specs.Prelude.{if◌then◌else◌, ◌||◌, option_map}
 use Rattle.word_base.specs.declared.operation.Operation.{Operation}
 use Rattle.word_base.specs.Types.{holds}
-use Rattle.word_base.specs.WordOperations.{operated as operated_words}
+use Rattle.word_base.specs.WordOperations.{word_operation as operated_words}
 use Rattle.c_tree.specs.declared.types.IntegerType.{IntegerType}
 use Rattle.c_tree.specs.declared.types.IntegerType.TheVariants.{Char, SignedChar, UnsignedChar, Short, UnsignedShort, Int, UnsignedInt, Long, UnsignedLong}
 use Rattle.c_tree.specs.declared.typed_expression.Arithmetic.TheVariants as arithmetic-is
@@ -21,16 +21,16 @@ use Rattle.c_meaning_values.specs.declared.value.Value as source-value
 use Rattle.c_meaning_values.specs.declared.value.Value.TheVariants as source
 use Rattle.c_meaning_steps.specs.declared.event.Ending.TheVariants as ending
 use Rattle.c_meaning_values.specs.Operations.{arithmetic}
-use Rattle.c_meaning_steps.specs.States.{State, Evaluated, Gives, Ends, given}
+use Rattle.c_meaning_steps.specs.States.{State, Evaluated, Gives, Ends, value_or_undefined}
 use Rattle.c_meaning.specs.Expressions.{Calls, evaluate}
 use Rattle.graph_core.specs.declared.value.Value.{Value}
 use Rattle.graph_core.specs.declared.value.Value.TheVariants.{Number}
 use Rattle.graph_core.specs.Graphs.{Operand, Name, Operate}
 use Rattle.graph_core.specs.Runs.{value}
 use Rattle.graph_core.specs.Values.{operate}
-use Rattle.graph_build_names.specs.Conversions.{word_of}
+use Rattle.graph_build_names.specs.Conversions.{unsigned_bits}
 use Rattle.graph_build_names.specs.Names.{Names, pick}
-use Rattle.graph_build_steps.specs.Drafts.{Made, Goal, before, target, follow, operated}
+use Rattle.graph_build_steps.specs.Drafts.{Made, Goal, instruction_before, target, follow, operated}
 use Rattle.graph_build_steps.specs.Rules.{operation_for}
 use Rattle.graph_build_runs.specs.Correspondence.{SameValue}
 use Rattle.graph_build_runs.proofs.Words.{InWord, in_word, word_sum, word_difference, kept_word_int, kept_word_unsigned, kept_in_int, kept_in_unsigned}
@@ -58,7 +58,7 @@ IsRight o t z = holds (integer t) z ≡ true
 
 -- The machine's operation on words of numbers of a type gives the word of what C makes of them.
 abbrev pub Computes : declared.Arithmetic → IntegerType → Type 0
-Computes o t = (a b z : ℤ) → holds (integer t) a ≡ true → IsRight o t b → calculated o t a b ≡ Some z → (operated_words (operation_for o t) (word_of a) (word_of b) ≡ word_of z) × InWord z
+Computes o t = (a b z : ℤ) → holds (integer t) a ≡ true → IsRight o t b → calculated o t a b ≡ Some z → (operated_words (operation_for o t) (unsigned_bits a) (unsigned_bits b) ≡ unsigned_bits z) × InWord z
 
 module _ (x : Setting) (calls : Calls) (low : ScalarsFirst x) (o : declared.Arithmetic) (ty : IntegerType) (a b : RvalueTree) (computes : Computes o ty) (kind_a : kind_of x.program x.tree a ≡ Of (Integer ty))
     (right : (memory : Memory) (z : ℤ) → HasKind memory (kind_of x.program x.tree b) (source.Number z) → IsRight o ty z)
@@ -72,22 +72,22 @@ module _ (x : Setting) (calls : Calls) (low : ScalarsFirst x) (o : declared.Arit
   abbrev own_in : ℕ → ℕ
   own_in t = pick (names_in x) t (q_in t).next
 
-  numbers : (t : ℕ) (g : Goal) → size_in x ≤ t → (za zb : ℤ) (s : State) (l : Local) (w : World) → Fits x None s l w → value x.unit.statics l.names (q_in t).left ≡ Number (word_of za) → value x.unit.statics l.names (q_in t).right ≡ Number (word_of zb)
+  numbers : (t : ℕ) (g : Goal) → size_in x ≤ t → (za zb : ℤ) (s : State) (l : Local) (w : World) → Fits x None s l w → value x.unit.statics l.names (q_in t).left ≡ Number (unsigned_bits za) → value x.unit.statics l.names (q_in t).right ≡ Number (unsigned_bits zb)
       → holds (integer ty) za ≡ true → IsRight o ty zb → (r : Option ℤ) → calculated o ty za zb ≡ r
-      → Result x g (Name (own_in t)) t (λ y. false) (last_in t g).ops (last_in t g).end l w (given (option_map source.Number r) s)
+      → Result x g (Name (own_in t)) t (λ y. false) (last_in t g).ops (last_in t g).end l w (value_or_undefined (option_map source.Number r) s)
   numbers t g size za zb s l w fits same_a same_b ha hb None e = ended_result x g (Name (own_in t)) t (λ y. false) (last_in t g).ops (last_in t g).end l w ending.Undefined s (stuck_now x None (last_in t g).ops (last_in t g).end s l w fits)
   numbers t g size za zb s l w fits same_a same_b ha hb (Some z) e =
       let c = computes za zb z ha hb e in
       let given_word : Value = operate (operation_for o ty) (value x.unit.statics l.names (q_in t).left) (value x.unit.statics l.names (q_in t).right) in
-      let is : given_word ≡ Number (word_of z) =
-      ap (λ v. operate (operation_for o ty) v (value x.unit.statics l.names (q_in t).right)) same_a ∙ ap (operate (operation_for o ty) (Number (word_of za))) same_b ∙ ap Number c.0 in
+      let is : given_word ≡ Number (unsigned_bits z) =
+      ap (λ v. operate (operation_for o ty) v (value x.unit.statics l.names (q_in t).right)) same_a ∙ ap (operate (operation_for o ty) (Number (unsigned_bits za))) same_b ∙ ap Number c.0 in
       let above : t ≤ (q_in t).next = omega (arith, (low_a t size).next, behind_le (q_in t).moved (q_in t).moved_to, (low_b (q_in t).from (omega (arith, size, (low_a t size).next, behind_le (q_in t).moved (q_in t).moved_to))).next) in
       let le : t ≤ own_in t = pick_between (names_in x) t (q_in t).next t (omega arith) above in
       operated_done x g (own_in t) t (λ y. false) (λ k. Operate k (operation_for o ty) (q_in t).left (q_in t).right) (source.Number z) given_word s l w low le (omega (arith, le, size)) fits (λ k ops end. refl) is c.1
 
   finishes : (t : ℕ) (g : Goal) → size_in x ≤ t → (v u : source-value.Value) (s : State) (l : Local) (w : World) → Fits x None s l w → SameValue x.program s.memory w.memory v (value x.unit.statics l.names (q_in t).left)
       → SameValue x.program s.memory w.memory u (value x.unit.statics l.names (q_in t).right) → HasKind s.memory (Of (Integer ty)) v → HasKind s.memory (kind_of x.program x.tree b) u
-      → Result x g (Name (own_in t)) t (λ y. false) (last_in t g).ops (last_in t g).end l w (given (arithmetic o ty v u) s)
+      → Result x g (Name (own_in t)) t (λ y. false) (last_in t g).ops (last_in t g).end l w (value_or_undefined (arithmetic o ty v u) s)
   finishes t g size (source.Number za) (source.Number zb) s l w fits same_a same_b ka kb = numbers t g size za zb s l w fits same_a same_b ka (right s.memory zb kb) (calculated o ty za zb) refl
   finishes t g size (source.Number za) source.Null s l w fits same_a same_b ka kb = ended_result x g (Name (own_in t)) t (λ y. false) (last_in t g).ops (last_in t g).end l w ending.Undefined s (stuck_now x None (last_in t g).ops (last_in t g).end s l w fits)
   finishes t g size (source.Number za) (source.Pointer n offset) s l w fits same_a same_b ka kb = ended_result x g (Name (own_in t)) t (λ y. false) (last_in t g).ops (last_in t g).end l w ending.Undefined s (stuck_now x None (last_in t g).ops (last_in t g).end s l w fits)
@@ -96,7 +96,7 @@ module _ (x : Setting) (calls : Calls) (low : ScalarsFirst x) (o : declared.Arit
 
   pub arithmetic_does : Does x calls (Arithmetic o ty a b)
   arithmetic_does t g s l w size st sound fits aims =
-      pair_does x calls low a b typed_a typed_b low_a spares_b grows_a does_a does_b t g (Name (own_in t)) (last_in t g) (λ v u s1. given (arithmetic o ty v u) s1) s l w size st sound fits
+      pair_does x calls low a b typed_a typed_b low_a spares_b grows_a does_a does_b t g (Name (own_in t)) (last_in t g) (λ v u s1. value_or_undefined (arithmetic o ty v u) s1) s l w size st sound fits
       (λ v u s1 l1 w1 sound1 fits1 same_a same_b ka kb. finishes t g size v u s1 l1 w1 fits1 same_a same_b (subst (λ k. HasKind s1.memory k v) kind_a ka) kb)
 
 -- sums and differences

@@ -12,7 +12,7 @@ use Rattle.c_tree.specs.TypedStatements.{DeclaredTree, Elements, Literal}
 use Rattle.c_tree.specs.Programs.{AutomaticTree, LiteralTree}
 use Rattle.c_type_rules.specs.Integers.{scalar_size as type_size}
 use Rattle.c_meaning_values.specs.declared.value.Phase.TheVariants.{Initialising, Live}
-use Rattle.c_meaning_values.specs.Types.{element_of, count_of, scalar_size, zero_of}
+use Rattle.c_meaning_values.specs.Types.{element_scalar, value_count, scalar_size, zero_of}
 use Rattle.c_meaning_steps.specs.States.{State}
 use Rattle.c_meaning.specs.Activations as activations
 use Rattle.c_meaning.specs.Statements.{initialise_elements, declare_with}
@@ -22,7 +22,7 @@ use Rattle.graph_core.specs.Graphs as unit
 use Rattle.graph_core.specs.Memory.{words_of}
 use Rattle.graph_core.specs.Runs.{Goes, step, with_memory}
 use Rattle.graph_build_names.specs.Names.{scalar_of, object_of}
-use Rattle.graph_build_steps.specs.Drafts.{before}
+use Rattle.graph_build_steps.specs.Drafts.{instruction_before}
 use Rattle.graph_build_steps.specs.Steps.{or_zero}
 use Rattle.graph_build_statements.specs.Coding.{begun, going}
 use Rattle.graph_build_statements.specs.Declaring.{object_type_of, cleared, store_elements, copied_words, declare_array, declare_kept, declare_as}
@@ -43,29 +43,29 @@ use Rattle.graph_build_runs.proofs.ArrayElements.{ElementsWork, elements_go}
 use Rattle.graph_build_runs.proofs.ArrayKept.{elements_keep}
 use Rattle.graph_build_runs.proofs.LiteralArrays.{literal_goes, literal_keeps}
 
-module _ (k : Activity) (law : Lawful k) (v j : ℕ) (a : AutomaticTree) (is : slice_get k.setting.program.automatics v ≡ Some a) (named : object_of (names_in k.setting) v ≡ Some j) (inside : a.in_memory ≡ true) (scope : List ℕ) (low : ℕ) (w : Ways) (spot : Spot) (le : low ≤ v) (all : List RvalueTree) (room : length all ≤ count_of a.of)
-    (work : ElementsWork k (place_at k spot.at) (element_of a.of) all) where
+module _ (k : Activity) (law : Lawful k) (v j : ℕ) (a : AutomaticTree) (is : slice_get k.setting.program.automatics v ≡ Some a) (named : object_of (names_in k.setting) v ≡ Some j) (inside : a.in_memory ≡ true) (scope : List ℕ) (low : ℕ) (w : Ways) (spot : Spot) (le : low ≤ v) (all : List RvalueTree) (room : length all ≤ value_count a.of)
+    (work : ElementsWork k (place_at k spot.at) (element_scalar a.of) all) where
   -- how many words are cleared first
   abbrev clear_words : ℕ
-  clear_words = (count_of a.of * scalar_size (element_of a.of) + 3) / 4
+  clear_words = (value_count a.of * scalar_size (element_scalar a.of) + 3) / 4
 
   -- the new object is an array that lives
   new_array : (s : State) → IsArray k v a (with_new k v a is Live s.memory) (length s.memory)
-  new_array s = record { object = new_in k v a is Live; is = last_is s.memory (new_in k v a is Live); owner = refl; lives = refl; element = refl; count = length-replicate (count_of a.of) (zero_of (element_of a.of)) }
+  new_array s = record { object = new_in k v a is Live; is = last_is s.memory (new_in k v a is Live); owner = refl; lives = refl; element = refl; count = length-replicate (value_count a.of) (zero_of (element_scalar a.of)) }
 
   -- An array with elements is zero, and then takes them.
-  elements_goes : Begins k scope spot.at (λ t i. before (unit.Zero j clear_words) (store_elements (coding_in k) spot.at (element_of a.of) j 0 all (begun (coding_in k) t) (going (coding_in k) w.next i)))
+  elements_goes : Begins k scope spot.at (λ t i. instruction_before (unit.Zero j clear_words) (store_elements (coding_in k) spot.at (element_scalar a.of) j 0 all (begun (coding_in k) t) (going (coding_in k) w.next i)))
       → GoesOn k low (v + 1) (v ∷ []) w scope (Some spot.at) (λ s. activations.at (here_in k) spot s (declare_with k.calls (here_in k) spot v (Elements all)))
   elements_goes b =
       let t = begun (coding_in k) b.free in
-      let m = store_elements (coding_in k) spot.at (element_of a.of) j 0 all t (going (coding_in k) w.next b.inner) in
-      place_begins k law scope spot (before (unit.Zero j clear_words) m) b.block b.here low (v + 1) (v ∷ []) w (declare_with k.calls (here_in k) spot v (Elements all))
+      let m = store_elements (coding_in k) spot.at (element_scalar a.of) j 0 all t (going (coding_in k) w.next b.inner) in
+      place_begins k law scope spot (instruction_before (unit.Zero j clear_words) m) b.block b.here low (v + 1) (v ∷ []) w (declare_with k.calls (here_in k) spot v (Elements all))
       (λ c es l u s leads sound fits h ready.
       (let p = k.setting.program in
       let place = place_at k spot.at in
       let frames = frames_length p k.setting.unit s.memory k.frames k.setting.waiting h.frames in
-      let sc = element_of a.of in
-      let count = count_of a.of in
+      let sc = element_scalar a.of in
+      let count = value_count a.of in
       let q = fits.own.objects v j a named is in
       let number = k.setting.first + j in
       let zeros = replicate count (zero_of sc) in
@@ -94,11 +94,11 @@ module _ (k : Activity) (law : Lawful k) (v j : ℕ) (a : AutomaticTree) (is : s
 -- A declarator of an array in memory.
 module _ (k : Activity) (law : Lawful k) (d : DeclaredTree) (a : AutomaticTree) (is : slice_get k.setting.program.automatics d.variable ≡ Some a) (j : ℕ) (sc : Scalar) (n : ℕ) (nowhere : scalar_of (names_in k.setting) d.variable ≡ None) (named : object_of (names_in k.setting) d.variable ≡ Some j) (inside : a.in_memory ≡ true)
     (array : a.of ≡ of-object.Array sc n) where
-  counts : count_of a.of ≡ n
-  counts = ap count_of array
+  counts : value_count a.of ≡ n
+  counts = ap value_count array
 
-  elements : element_of a.of ≡ sc
-  elements = ap element_of array
+  elements : element_scalar a.of ≡ sc
+  elements = ap element_scalar array
 
   bytes_are : type_size sc * n ≡ n * scalar_size sc
   bytes_are = ap (λ x. x * n) (type_sizes sc.base sc.stars) ∙ swapped (scalar_size sc) n
@@ -120,11 +120,11 @@ module _ (k : Activity) (law : Lawful k) (d : DeclaredTree) (a : AutomaticTree) 
   array_elements all init enough room work scope low w le b =
       let b1 = array_begins scope w.next b in
       let b2 = subst (λ q. Begins k scope d.spot.at (λ t i. declare_array (coding_in k) d.spot.at j sc (n * scalar_size sc) q t (going (coding_in k) w.next i))) init b1 in
-      let b3 = subst (λ c. Begins k scope d.spot.at (λ t i. if c then store_elements (coding_in k) d.spot.at sc j 0 all (begun (coding_in k) t) (going (coding_in k) w.next i) else before (unit.Zero j ((n * scalar_size sc + 3) / 4)) (store_elements (coding_in k) d.spot.at sc j 0 all (begun (coding_in k) t) (going (coding_in k) w.next i))))
+      let b3 = subst (λ c. Begins k scope d.spot.at (λ t i. if c then store_elements (coding_in k) d.spot.at sc j 0 all (begun (coding_in k) t) (going (coding_in k) w.next i) else instruction_before (unit.Zero j ((n * scalar_size sc + 3) / 4)) (store_elements (coding_in k) d.spot.at sc j 0 all (begun (coding_in k) t) (going (coding_in k) w.next i))))
       (some_words n (scalar_size sc) enough (some_size sc.base sc.stars)) b2 in
-      let b4 = subst (λ x. Begins k scope d.spot.at (λ t i. before (unit.Zero j ((x * scalar_size sc + 3) / 4)) (store_elements (coding_in k) d.spot.at sc j 0 all (begun (coding_in k) t) (going (coding_in k) w.next i)))) (sym counts) b3 in
-      let b5 = subst (λ s. Begins k scope d.spot.at (λ t i. before (unit.Zero j ((count_of a.of * scalar_size s + 3) / 4)) (store_elements (coding_in k) d.spot.at s j 0 all (begun (coding_in k) t) (going (coding_in k) w.next i)))) (sym elements) b4 in
-      let room2 : length all ≤ count_of a.of = omega (arith, room, counts) in
+      let b4 = subst (λ x. Begins k scope d.spot.at (λ t i. instruction_before (unit.Zero j ((x * scalar_size sc + 3) / 4)) (store_elements (coding_in k) d.spot.at sc j 0 all (begun (coding_in k) t) (going (coding_in k) w.next i)))) (sym counts) b3 in
+      let b5 = subst (λ s. Begins k scope d.spot.at (λ t i. instruction_before (unit.Zero j ((value_count a.of * scalar_size s + 3) / 4)) (store_elements (coding_in k) d.spot.at s j 0 all (begun (coding_in k) t) (going (coding_in k) w.next i)))) (sym elements) b4 in
+      let room2 : length all ≤ value_count a.of = omega (arith, room, counts) in
       let work2 = subst (λ s. ElementsWork k (place_at k d.spot.at) s all) (sym elements) work in (
         subst (λ q. GoesOn k low (d.variable + 1) (d.variable ∷ []) w scope (Some d.spot.at) (λ s. activations.at (here_in k) d.spot s (declare_with k.calls (here_in k) d.spot d.variable q))) (sym init)
             (elements_goes k law d.variable j a is named inside scope low w d.spot le all room2 work2 b5),
@@ -137,11 +137,11 @@ module _ (k : Activity) (law : Lawful k) (d : DeclaredTree) (a : AutomaticTree) 
   array_literal m l init literal_is unit_bytes single scope low w le b =
       let b1 = array_begins scope w.next b in
       let b2 = subst (λ q. Begins k scope d.spot.at (λ t i. declare_array (coding_in k) d.spot.at j sc (n * scalar_size sc) q t (going (coding_in k) w.next i))) init b1 in
-      let bytes : n * scalar_size sc ≡ count_of a.of = ap (λ z. n * z) single ∙ omega arith ∙ sym counts in
-      let b3 = subst (λ x. Begins k scope d.spot.at (λ t i. cleared j x (copied_words (coding_in k) m x) (before (unit.CopyWords j m (copied_words (coding_in k) m x)) (going (coding_in k) w.next i)))) bytes b2 in
-      let count = count_of a.of in
+      let bytes : n * scalar_size sc ≡ value_count a.of = ap (λ z. n * z) single ∙ omega arith ∙ sym counts in
+      let b3 = subst (λ x. Begins k scope d.spot.at (λ t i. cleared j x (copied_words (coding_in k) m x) (instruction_before (unit.CopyWords j m (copied_words (coding_in k) m x)) (going (coding_in k) w.next i)))) bytes b2 in
+      let count = value_count a.of in
       let words : copied_words (coding_in k) m count ≡ min (words_of count) (words_of (length l.bytes)) = ap (λ r. option_map_or (λ (q : LiteralTree). min (words_of count) (words_of (length q.bytes))) r 0) literal_is in
-      let b4 = subst (λ x. Begins k scope d.spot.at (λ t i. cleared j count x (before (unit.CopyWords j m x) (going (coding_in k) w.next i)))) words b3 in
+      let b4 = subst (λ x. Begins k scope d.spot.at (λ t i. cleared j count x (instruction_before (unit.CopyWords j m x) (going (coding_in k) w.next i)))) words b3 in
       let single2 = ap scalar_size elements ∙ single in (
         subst (λ q. GoesOn k low (d.variable + 1) (d.variable ∷ []) w scope (Some d.spot.at) (λ s. activations.at (here_in k) d.spot s (declare_with k.calls (here_in k) d.spot d.variable q))) (sym init)
             (literal_goes k law d.variable j a is named inside scope low w d.spot le m l literal_is unit_bytes single2 b4),

@@ -7,16 +7,16 @@ use Rattle.c_tree.specs.declared.object_type.ValueType.TheVariants.{Integer}
 use Rattle.c_tree.specs.TypedExpressions.{RvalueTree, Convert}
 use Rattle.c_tree.specs.Programs.{AutomaticTree}
 use Rattle.c_type_rules.specs.Integers.{wrapped}
-use Rattle.c_type_rules.specs.Types.{loaded}
+use Rattle.c_type_rules.specs.Types.{loaded_type}
 use Rattle.c_type_laws.specs.Kind.{Kind}
 use Rattle.c_type_laws.specs.Kinds.{is_of, is_integer}
 use Rattle.c_type_laws.specs.Expressions.{kind_of}
 use Rattle.c_meaning_values.specs.declared.value.Value as source-value
 use Rattle.c_meaning_values.specs.declared.value.Value.TheVariants as source
-use Rattle.c_meaning_values.specs.Types.{element_of}
+use Rattle.c_meaning_values.specs.Types.{element_scalar}
 use Rattle.c_meaning_values.specs.Memory.{set_value}
 use Rattle.c_meaning_values.specs.Operations.{convert}
-use Rattle.c_meaning_steps.specs.States.{State, given, Outcome, on_value}
+use Rattle.c_meaning_steps.specs.States.{State, value_or_undefined, Outcome, on_value}
 use Rattle.c_meaning.specs.Statements.{value_at, initialise_elements}
 use Rattle.graph_build_names.specs.Names.{object_of}
 use Rattle.graph_build_statements.specs.Reached.{bare}
@@ -42,29 +42,29 @@ module _ (k : Activity) (law : Lawful k) (v j : ℕ) (a : AutomaticTree) (is : s
   kind e = kind_of k.setting.program k.setting.tree e
 
   abbrev element : Scalar
-  element = element_of a.of
+  element = element_scalar a.of
 
   -- What is kept where an element is evaluated by way of its expression without the conversion.
   abbrev Kept : (q b : RvalueTree) → Type 0
-  Kept q b = Works k here b → is_of (kind q) (loaded element) ≡ true → (s : State) → Sound k.setting.program s.memory s → Ready k here s.memory → (next : source-value.Value → State → Outcome)
-      → ((val : source-value.Value) (s2 : State) → Sound k.setting.program s2.memory s2 → Since s.memory s2.memory → IsOf s2.memory (loaded element) val → KeptBy k low (v + 1) (v ∷ []) s2.memory (next val s2))
+  Kept q b = Works k here b → is_of (kind q) (loaded_type element) ≡ true → (s : State) → Sound k.setting.program s.memory s → Ready k here s.memory → (next : source-value.Value → State → Outcome)
+      → ((val : source-value.Value) (s2 : State) → Sound k.setting.program s2.memory s2 → Since s.memory s2.memory → IsOf s2.memory (loaded_type element) val → KeptBy k low (v + 1) (v ∷ []) s2.memory (next val s2))
       → KeptBy k low (v + 1) (v ∷ []) s.memory (on_value (value_at k.calls (here_in k) spot q s) next)
 
   plain_kept : (e : RvalueTree) → Kept e e
   plain_kept e works fits_type s sound ready next go =
-      value_kept k spot.at e works s sound ready low (v + 1) (v ∷ []) next (λ val s2 sound2 since kind_is. go val s2 sound2 since (kind_is_of s2.memory (kind e) (loaded element) val fits_type kind_is))
+      value_kept k spot.at e works s sound ready low (v + 1) (v ∷ []) next (λ val s2 sound2 since kind_is. go val s2 sound2 since (kind_is_of s2.memory (kind e) (loaded_type element) val fits_type kind_is))
 
   converted_kept : (ty : IntegerType) (b : RvalueTree) → Kept (Convert ty b) b
   converted_kept ty b works fits_type s sound ready next go =
-      let both = converted_fits (is_integer (kind b)) (Integer ty) (loaded element) fits_type in
+      let both = converted_fits (is_integer (kind b)) (Integer ty) (loaded_type element) fits_type in
       let scalar = element_is ty element.base element.stars both.1 in
-      let convert_then : source-value.Value → State → Outcome = λ val s2. on_value (given (convert ty val) s2) next in
+      let convert_then : source-value.Value → State → Outcome = λ val s2. on_value (value_or_undefined (convert ty val) s2) next in
       subst (λ o. KeptBy k low (v + 1) (v ∷ []) s.memory o) (sym (mapped_value (value_at k.calls (here_in k) spot b s) (convert ty) next))
       (value_kept k spot.at b works s sound ready low (v + 1) (v ∷ []) convert_then
       (λ val s2 sound2 since kind_is.
       (let n = integer_value s2.memory (kind b) val both.0 kind_is in
-      let typed = subst (λ z. IsOf s2.memory (loaded z) (source.Number (wrapped ty n.1))) scalar (wrapped_holds ty n.1) in
-      subst (λ q. KeptBy k low (v + 1) (v ∷ []) s2.memory (on_value (given (convert ty q) s2) next)) (sym n.2) (go (source.Number (wrapped ty n.1)) s2 sound2 since typed))))
+      let typed = subst (λ z. IsOf s2.memory (loaded_type z) (source.Number (wrapped ty n.1))) scalar (wrapped_holds ty n.1) in
+      subst (λ q. KeptBy k low (v + 1) (v ∷ []) s2.memory (on_value (value_or_undefined (convert ty q) s2) next)) (sym n.2) (go (source.Number (wrapped ty n.1)) s2 sound2 since typed))))
 
   kept_so : (e : RvalueTree) → Kept e (bare e)
   kept_so e = elim (bare_cases e) [

@@ -18,7 +18,7 @@ use Rattle.graph_core.specs.declared.instruction.Element.{Element}
 use Rattle.graph_core.specs.Memory as unit-memory
 use Rattle.graph_core.specs.Memory.{Object, Memory, bytes_of, words_of, with_object, filled, copied, elements_from, element_in}
 use Rattle.graph_core.specs.Values.{as_element, size_of}
-use Rattle.graph_build_names.specs.Conversions.{word_of}
+use Rattle.graph_build_names.specs.Conversions.{unsigned_bits}
 use Rattle.graph_build_steps.specs.Rules as rule
 use Rattle.graph_build_steps.specs.Rules.{truncation_to}
 use Rattle.graph_build_runs.specs.Correspondence.{SameValue, SameValues}
@@ -88,7 +88,7 @@ truncated_alike Long b single = cc
 truncated_alike UnsignedLong b single = cc
 
 -- A byte, as an element of a type of one byte keeps it, is the word of the converted number.
-number_kept : (t : IntegerType) (b : ℕ) → integer_size t ≡ 1 → as_element (rule.element_of (record { base = t; stars = 0 })) (Number b) ≡ Number (word_of (wrapped t (pos b)))
+number_kept : (t : IntegerType) (b : ℕ) → integer_size t ≡ 1 → as_element (rule.element_of (record { base = t; stars = 0 })) (Number b) ≡ Number (unsigned_bits (wrapped t (pos b)))
 number_kept Char b single = ap Number (truncated_alike Char b single ∙ truncated_word Char (pos b) refl)
 number_kept UnsignedChar b single = ap Number (truncated_alike UnsignedChar b single ∙ truncated_word UnsignedChar (pos b) refl)
 number_kept SignedChar b single = ap Number (truncated_alike SignedChar b single ∙ truncated_word SignedChar (pos b) refl)
@@ -99,7 +99,7 @@ number_kept UnsignedInt b single = cc
 number_kept Long b single = cc
 number_kept UnsignedLong b single = cc
 
-scalar_kept : (base : IntegerType) (stars b : ℕ) → size_by_stars base stars ≡ 1 → as_element (rule.element_of (record { base = base; stars = stars })) (Number b) ≡ Number (word_of (wrapped base (pos b)))
+scalar_kept : (base : IntegerType) (stars b : ℕ) → size_by_stars base stars ≡ 1 → as_element (rule.element_of (record { base = base; stars = stars })) (Number b) ≡ Number (unsigned_bits (wrapped base (pos b)))
 scalar_kept base zero b single = number_kept base b single
 scalar_kept base (suc stars) b single = cc
 

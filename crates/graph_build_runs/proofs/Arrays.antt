@@ -9,10 +9,10 @@ use Rattle.std.proofs.lemmas.Option.{slice_get_within}
 use Rattle.word_base.specs.Owners.{Variable}
 use Rattle.c_tree.specs.declared.object_type.Scalar.{Scalar}
 use Rattle.c_tree.specs.Programs.{AutomaticTree}
-use Rattle.c_type_rules.specs.Types.{loaded}
+use Rattle.c_type_rules.specs.Types.{loaded_type}
 use Rattle.c_meaning_values.specs.declared.value.Value as source-value
 use Rattle.c_meaning_values.specs.declared.value.Phase.TheVariants.{Initialising, Live, Ended}
-use Rattle.c_meaning_values.specs.Types.{element_of, count_of, scalar_size, zero_of}
+use Rattle.c_meaning_values.specs.Types.{element_scalar, value_count, scalar_size, zero_of}
 use Rattle.c_meaning_values.specs.Memory.{Object as SourceObject, Memory as SourceMemory, set_value, with_value as source_with}
 use Rattle.c_meaning_steps.specs.States.{State}
 use Rattle.graph_core.specs.declared.value.Value.{Value}
@@ -57,7 +57,7 @@ module _ (k : Activity) (v : ℕ) (a : AutomaticTree) (is : slice_get k.setting.
   abbrev pub with_array : List source-value.Value → SourceMemory → SourceMemory
   with_array vs memory = memory ++ array_of vs ∷ []
 
-  pub sound_array : (s : State) (low : ℕ) → low ≤ v → Under s.memory (depth_in k.setting) low → Sound k.setting.program s.memory s → (vs : List source-value.Value) → length vs ≡ count_of a.of → AllByRecursion (IsOf (with_array vs s.memory) (loaded (element_of a.of))) vs
+  pub sound_array : (s : State) (low : ℕ) → low ≤ v → Under s.memory (depth_in k.setting) low → Sound k.setting.program s.memory s → (vs : List source-value.Value) → length vs ≡ value_count a.of → AllByRecursion (IsOf (with_array vs s.memory) (loaded_type (element_scalar a.of))) vs
       → Sound k.setting.program (with_array vs s.memory) (record s { memory = with_array vs s.memory })
   sound_array s low le under sound vs count typed = sound_more k v a is (array_of vs) refl refl count (λ young. not_initialising young) s low le under sound typed
 
@@ -73,8 +73,8 @@ pub record IsArray (k : Activity) (v : ℕ) (a : AutomaticTree) (memory : Source
   pub is : slice_get memory n ≡ Some object
   pub owner : object.owner ≡ Variable v (depth_in k.setting)
   pub lives : object.phase ≡ Live
-  pub element : object.element ≡ element_of a.of
-  pub count : length object.values ≡ count_of a.of
+  pub element : object.element ≡ element_scalar a.of
+  pub count : length object.values ≡ value_count a.of
 
 pub array_later : (k : Activity) (v : ℕ) (a : AutomaticTree) (before after : SourceMemory) (n : ℕ) → Later before after → IsArray k v a before n → IsArray k v a after n
 array_later k v a before after n later h =
@@ -93,7 +93,7 @@ open_live h = cc
 
 module _ (k : Activity) (law : Lawful k) (v j : ℕ) (a : AutomaticTree) (is : slice_get k.setting.program.automatics v ≡ Some a) (named : object_of (names_in k.setting) v ≡ Some j) (inside : a.in_memory ≡ true) where
   -- An array takes all its values at once.
-  pub fits_array : (s : State) (l : Local) (u : World) (low : ℕ) → low ≤ v → Under s.memory (depth_in k.setting) low → Sound k.setting.program s.memory s → (fits : Fits k.setting None s l u) → (vs : List source-value.Value) (ws : List Value) → length vs ≡ count_of a.of → length ws ≡ count_of a.of
+  pub fits_array : (s : State) (l : Local) (u : World) (low : ℕ) → low ≤ v → Under s.memory (depth_in k.setting) low → Sound k.setting.program s.memory s → (fits : Fits k.setting None s l u) → (vs : List source-value.Value) (ws : List Value) → length vs ≡ value_count a.of → length ws ≡ value_count a.of
       → SameValues k.setting.program (with_new k v a is Initialising s.memory) u.memory vs ws
       → Fits k.setting None (record s { memory = with_array k v a is vs s.memory }) l (record u { memory = slice_set u.memory (k.setting.first + j) (record (fits.own.objects v j a named is).object { values = ws }) })
   fits_array s l u low le under sound fits vs ws count unit_count same =
@@ -106,7 +106,7 @@ module _ (k : Activity) (law : Lawful k) (v j : ℕ) (a : AutomaticTree) (is : s
       let m = k.setting.first + j in
       let others = slice_set u.memory m (record q.object { values = ws }) in
       let u2 : World = record u { memory = others } in
-      let counted = length-replicate (count_of a.of) (zero_of (element_of a.of)) in
+      let counted = length-replicate (value_count a.of) (zero_of (element_scalar a.of)) in
       let alive : o.phase ≢ Ended = λ over. initialising_open over in
       let so = same_object k law v j a is named inside u.memory o refl refl counted q in
       let after : State = record s { memory = with_array k v a is vs s.memory } in
@@ -121,13 +121,13 @@ module _ (k : Activity) (law : Lawful k) (v j : ℕ) (a : AutomaticTree) (is : s
   pub record ElementStored (s : State) (l : Local) (u : World) (n index : ℕ) (o : SourceObject) (val : source-value.Value) (operand : Operand) : Type 0 where
     pub memory : Memory
     pub fits : Fits k.setting None (record s { memory = slice_set s.memory n (record o { values = slice_set o.values index val }) }) l (record u { memory = memory })
-    pub steps : (place : ℕ) (ops : List Instruction) (end : End) → step k.setting.unit (before_in k place (Store (rule.element_of (element_of a.of)) (Automatic j (index * scalar_size (element_of a.of))) operand ∷ ops) end l u) ≡ Goes (before_in k place ops end l (record u { memory = memory }))
+    pub steps : (place : ℕ) (ops : List Instruction) (end : End) → step k.setting.unit (before_in k place (Store (rule.element_of (element_scalar a.of)) (Automatic j (index * scalar_size (element_scalar a.of))) operand ∷ ops) end l u) ≡ Goes (before_in k place ops end l (record u { memory = memory }))
 
-  pub element_stored : (s : State) (l : Local) (u : World) (n index : ℕ) (arr : IsArray k v a s.memory n) (val : source-value.Value) (operand : Operand) → index < count_of a.of → Sound k.setting.program s.memory s → Fits k.setting None s l u
-      → Taken k s.memory u.memory (element_of a.of) val (value k.setting.unit.statics l.names operand) → ElementStored s l u n index arr.object val operand
+  pub element_stored : (s : State) (l : Local) (u : World) (n index : ℕ) (arr : IsArray k v a s.memory n) (val : source-value.Value) (operand : Operand) → index < value_count a.of → Sound k.setting.program s.memory s → Fits k.setting None s l u
+      → Taken k s.memory u.memory (element_scalar a.of) val (value k.setting.unit.statics l.names operand) → ElementStored s l u n index arr.object val operand
   element_stored s l u n index arr val operand lt sound fits taken =
       let p = k.setting.program in
-      let sc = element_of a.of in
+      let sc = element_scalar a.of in
       let o = arr.object in
       let m = k.setting.first + j in
       let given = value k.setting.unit.statics l.names operand in
@@ -139,11 +139,11 @@ module _ (k : Activity) (law : Lawful k) (v j : ℕ) (a : AutomaticTree) (is : s
       let there : slice_get u.memory m ≡ Some c.object = ap (slice_get u.memory) (sym number) ∙ c.is in
       let element : c.object.element ≡ rule.element_of sc = c.same.element ∙ ap rule.element_of arr.element in
       let size : size_of c.object.element ≡ scalar_size sc = ap size_of element ∙ element_size sc in
-      let many : length c.object.values ≡ count_of a.of = c.same.count ∙ arr.count in
+      let many : length c.object.values ≡ value_count a.of = c.same.count ∙ arr.count in
       let less : index < length c.object.values = omega (arith, lt, many) in
       let offset = index * scalar_size sc in
-      let room : bytes_of c.object ≡ count_of a.of * scalar_size sc = ap (λ k2. k2 * size_of c.object.element) many ∙ ap (λ k2. count_of a.of * k2) size in
-      let within : offset ≤ bytes_of c.object = (let top = times_within index (count_of a.of) (scalar_size sc) lt in omega (arith, top, room)) in
+      let room : bytes_of c.object ≡ value_count a.of * scalar_size sc = ap (λ k2. k2 * size_of c.object.element) many ∙ ap (λ k2. value_count a.of * k2) size in
+      let within : offset ≤ bytes_of c.object = (let top = times_within index (value_count a.of) (scalar_size sc) lt in omega (arith, top, room)) in
       let reach = reaches sc c.object index offset c.same.lives element refl less in
       let others = slice_set u.memory m (record c.object { values = slice_set c.object.values index taken.kept }) in
       let x = placed k 0 s.memory in
@@ -178,8 +178,8 @@ module _ (k : Activity) (law : Lawful k) (v j : ℕ) (a : AutomaticTree) (is : s
         let e = length-set memory n (record arr.object { values = slice_set arr.object.values index val }) in omega (arith, lt, e));
   }
 
-  pub sound_element : (s : State) (n index : ℕ) (arr : IsArray k v a s.memory n) (val : source-value.Value) → Sound k.setting.program s.memory s → IsOf s.memory (loaded (element_of a.of)) val
+  pub sound_element : (s : State) (n index : ℕ) (arr : IsArray k v a s.memory n) (val : source-value.Value) → Sound k.setting.program s.memory s → IsOf s.memory (loaded_type (element_scalar a.of)) val
       → Sound k.setting.program (slice_set s.memory n (record arr.object { values = slice_set arr.object.values index val })) (record s { memory = slice_set s.memory n (record arr.object { values = slice_set arr.object.values index val }) })
   sound_element s n index arr val sound typed =
       sound_now k.setting.program s.memory (record s { memory = slice_set s.memory n (record arr.object { values = slice_set arr.object.values index val }) })
-      (sound_set k.setting.program s.memory s n index arr.object val arr.is sound (subst (λ e. IsOf s.memory (loaded e) val) (sym arr.element) typed))
+      (sound_set k.setting.program s.memory s n index arr.object val arr.is sound (subst (λ e. IsOf s.memory (loaded_type e) val) (sym arr.element) typed))

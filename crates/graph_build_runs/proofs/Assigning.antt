@@ -6,7 +6,7 @@ use Rattle.c_tree.specs.declared.object_type.Scalar.{Scalar}
 use Rattle.c_tree.specs.declared.object_type.ObjectType.TheVariants as of-object
 use Rattle.c_tree.specs.declared.object_type.ValueType.TheVariants.{Pointer as PointerType}
 use Rattle.c_tree.specs.TypedExpressions.{RvalueTree, LvalueTree, Assign}
-use Rattle.c_type_rules.specs.Types.{loaded}
+use Rattle.c_type_rules.specs.Types.{loaded_type}
 use Rattle.c_type_rules.specs.ValueTypes.{object_type}
 use Rattle.c_type_laws.specs.Kind.{Of}
 use Rattle.c_type_laws.specs.Kinds.{is_of}
@@ -102,7 +102,7 @@ spare_want x (Either one other inner) lv t y aims le = refl
 
 -- Assignment to memory: the value of the right side is computed where it is wanted, and stored.
 module _ (x : Setting) (calls : Calls) (low : ScalarsFirst x) (sc : Scalar) (lv : LvalueTree) (in_memory : scalar_named (names_in x) lv ≡ None) (of : object_type lv ≡ of-object.Scalar sc) (typed_lv : TypedPlace x calls lv) (lays_lv : PlaceLays x lv) (below_lv : PlaceBelow x lv) (fresh_lv : PlaceFresh x lv)
-    (grows_lv : GrowsPlace x lv) (does_lv : DoesPlace x calls lv) (e : RvalueTree) (fits_e : is_of (kind_of x.program x.tree e) (loaded sc) ≡ true) (typed_e : Typed x calls e) (spares_e : Spares x e) (stands_e : StandsIn x e) (does_e : Does x calls e) where
+    (grows_lv : GrowsPlace x lv) (does_lv : DoesPlace x calls lv) (e : RvalueTree) (fits_e : is_of (kind_of x.program x.tree e) (loaded_type sc) ≡ true) (typed_e : Typed x calls e) (spares_e : Spares x e) (stands_e : StandsIn x e) (does_e : Does x calls e) where
   abbrev moved_of : ℕ → Bool
   moved_of t = is_location_moved (λ y. writes (names_in x) y e) (place_in x lv t)
 
@@ -154,7 +154,7 @@ module _ (x : Setting) (calls : Calls) (low : ScalarsFirst x) (sc : Scalar) (lv 
     above = let le = lays_lv t size in let held_le = behind_le (moved_of t) (next_of t) in omega (arith, le, held_le)
 
     -- the value is there
-    stores : (p v : source-value.Value) (s2 : State) (l2 : Local) (w2 : World) → Sound x.program x.begun s2 → Fits x (want_by g) s2 l2 w2 → IsPointerTo s2.memory (of-object.Scalar sc) p → SameValue x.program s2.memory w2.memory p (pointed_in x l2 w2 (place_of t)) → IsOf s2.memory (loaded sc) v
+    stores : (p v : source-value.Value) (s2 : State) (l2 : Local) (w2 : World) → Sound x.program x.begun s2 → Fits x (want_by g) s2 l2 w2 → IsPointerTo s2.memory (of-object.Scalar sc) p → SameValue x.program s2.memory w2.memory p (pointed_in x l2 w2 (place_of t)) → IsOf s2.memory (loaded_type sc) v
         → SameValue x.program s2.memory w2.memory v (value x.unit.statics l2.names (operand_in (want_by g) (value_in x e (from_of t)))) → Result x g (value_in x e (from_of t)) t (λ y. false) (last_of t g).ops (last_of t g).end l2 w2 (store p v s2)
     stores p v s2 l2 w2 sound2 fits2 is pointer typed same =
         let u = value x.unit.statics l2.names (store_of t g) in
@@ -162,7 +162,7 @@ module _ (x : Setting) (calls : Calls) (low : ScalarsFirst x) (sc : Scalar) (lv 
         let same_u : SameValue x.program s2.memory w2.memory v u = subst (SameValue x.program s2.memory w2.memory v) (sym is_u) same in
         store_cases x (want_by g) s2 l2 w2 sc p (pointed_in x l2 w2 (place_of t)) v u sound2 fits2 is pointer typed same_u (λ r. Result x g (value_in x e (from_of t)) t (λ y. false) (last_of t g).ops (last_of t g).end l2 w2 r)
         (ended_result x g (value_in x e (from_of t)) t (λ y. false) (last_of t g).ops (last_of t g).end l2 w2 ending.Undefined s2 (stuck_now x (want_by g) (last_of t g).ops (last_of t g).end s2 l2 w2 fits2))
-        (λ after h. stored_done x g (rule.element_of sc) (place_of t) (store_of t g) (value_in x e (from_of t)) t (λ y. false) v (record s2 { memory = after }) l2 w2 h.memory h.writes h.others_later h.fits h.same (of_word s2.memory (loaded sc) v typed) is_u)
+        (λ after h. stored_done x g (rule.element_of sc) (place_of t) (store_of t g) (value_in x e (from_of t)) t (λ y. false) v (record s2 { memory = after }) l2 w2 h.memory h.writes h.others_later h.fits h.same (of_word s2.memory (loaded_type sc) v typed) is_u)
 
     -- behind the place
     evaluates : (p : source-value.Value) (s1 : State) (l1 : Local) (w1 : World) → Sound x.program x.begun s1 → Fits x None s1 l1 w1 → IsOf s1.memory (PointerType (object_type lv)) p → SameValue x.program s1.memory w1.memory p (pointed_in x l1 w1 (place_in x lv t))
@@ -187,7 +187,7 @@ module _ (x : Setting) (calls : Calls) (low : ScalarsFirst x) (sc : Scalar) (lv 
         (spare_want x g lv t (next_of t) (aims_place t g aims) le) (place_aside x g lv t fresh_lv size (aims_place t g aims)) (λ y lt nw nf. h.reached.kept y lt nw nf) h.reached.later known in
         stores p v s2 h.reached.local h.reached.world gave.sound h.reached.fits (subst (λ q. IsPointerTo s2.memory q p) of there)
         (subst (SameValue x.program s2.memory h.reached.world.memory p) (sym place) (value_later x.program s1.memory s2.memory w1.memory h.reached.world.memory gave.later h.reached.later p (pointed_in x k.local w1 (place_of t)) pointer_held))
-        (kind_is_of s2.memory (kind_of x.program x.tree e) (loaded sc) v fits_e gave.is) h.same)))
+        (kind_is_of s2.memory (kind_of x.program x.tree e) (loaded_type sc) v fits_e gave.is) h.same)))
 
     memory_assigned : Result x g (value_in x e (from_of t)) t written_of (placing x lv t (behind_of t g)).ops (placing x lv t (behind_of t g)).end l w (evaluate calls (depth_in x) (Assign sc lv e) s)
     memory_assigned =

@@ -6,7 +6,7 @@ use Rattle.c_meaning_values.specs.declared.value.Value as source-value
 use Rattle.c_meaning_values.specs.Memory.{Memory as SourceMemory}
 use Rattle.c_meaning_steps.specs.declared.event.Ending.{Ending}
 use Rattle.c_meaning_steps.specs.declared.event.Ending.TheVariants as ending
-use Rattle.c_meaning_steps.specs.States.{State, Evaluated, Gives, Leaves, Ends, Tested, Holds, Fails, NoTest, tested, choose, on_value, on_effect, Outcome}
+use Rattle.c_meaning_steps.specs.States.{State, Evaluated, Gives, Leaves, Ends, Tested, Holds, Fails, NoTest, condition_tested, choose, on_value, on_effect, Outcome}
 use Rattle.c_meaning.specs.Activations.{depth_of}
 use Rattle.c_meaning.specs.Expressions.{evaluate}
 use Rattle.c_flow.specs.declared.edge.Ways.{Ways}
@@ -135,12 +135,12 @@ module _ (k : Activity) (at : ℕ) (e : RvalueTree) (works : Works k (place_at k
       → Runs k c es low high brought s2.memory w (if_so s2))
       → ((s2 : State) (l2 : Local) (u2 : World) → ((b : Block) → slice_get k.setting.graph.blocks other ≡ Some b → Leads k.setting.unit c es (before_in k (place_at k at) b.instructions b.end (in_block other l2) u2) u2.seen) → Sound k.setting.program s2.memory s2 → Fits k.setting None s2 l2 u2 → Since s.memory s2.memory
       → Runs k c es low high brought s2.memory w (if_not s2))
-      → Runs k c es low high brought s.memory w (choose (tested (evaluate (k.calls (place_at k at)) (depth_of (here_in k)) e s)) if_so if_not)
+      → Runs k c es low high brought s.memory w (choose (condition_tested (evaluate (k.calls (place_at k at)) (depth_of (here_in k)) e s)) if_so if_not)
   test_runs one other blocks if_so if_not inner before go_yes go_no =
       let does = works s.memory ready in
       let r = evaluate (k.calls (place_at k at)) (depth_in k.setting) e s in
-      subst (λ d. Runs k c es low high brought s.memory w (choose (tested (evaluate (k.calls (place_at k at)) d e s)) if_so if_not)) depths
-      (by (tested r) (keeps_tested k.setting.program s.memory s.memory (kind_of k.setting.program k.setting.tree e) r (does.0 s sound))
+      subst (λ d. Runs k c es low high brought s.memory w (choose (condition_tested (evaluate (k.calls (place_at k at)) d e s)) if_so if_not)) depths
+      (by (condition_tested r) (keeps_tested k.setting.program s.memory s.memory (kind_of k.setting.program k.setting.tree e) r (does.0 s sound))
       (does.1 t (Either one other blocks) s l u size inner sound (fits_placed k (place_at k at) s.memory None s l u fits) tt))
     where
       by : (r : Tested) → KeepsTest k.setting.program s.memory s.memory r → EitherR X one other t (written_by X e) (made_for (Either one other blocks)).ops (made_for (Either one other blocks)).end l u r → Runs k c es low high brought s.memory w (choose r if_so if_not)
@@ -157,7 +157,7 @@ module _ (k : Activity) (at : ℕ) (e : RvalueTree) (works : Works k (place_at k
       → Leads k.setting.unit c es (before_in k (place_at k at) (branching (coding_in k) at e free one other inner).ops (branching (coding_in k) at e free one other inner).end l u) u.seen
       → ((s2 : State) (l2 : Local) (u2 : World) → Comes k c es one (place_at k at) l2 u2 → Sound k.setting.program s2.memory s2 → Fits k.setting None s2 l2 u2 → Since s.memory s2.memory → Runs k c es low high brought s2.memory w (if_so s2))
       → ((s2 : State) (l2 : Local) (u2 : World) → Comes k c es other (place_at k at) l2 u2 → Sound k.setting.program s2.memory s2 → Fits k.setting None s2 l2 u2 → Since s.memory s2.memory → Runs k c es low high brought s2.memory w (if_not s2))
-      → Runs k c es low high brought s.memory w (choose (tested (evaluate (k.calls (place_at k at)) (depth_of (here_in k)) e s)) if_so if_not)
+      → Runs k c es low high brought s.memory w (choose (condition_tested (evaluate (k.calls (place_at k at)) (depth_of (here_in k)) e s)) if_so if_not)
   branch_runs free is one other inner if_so if_not st leads go_yes go_no =
       let ends = with_end (coding_in k) at other inner in
       let all = with_end (coding_in k) at one ends in

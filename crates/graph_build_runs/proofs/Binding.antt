@@ -8,12 +8,12 @@ use Rattle.c_tree.specs.declared.object_type.ObjectType.{ObjectType}
 use Rattle.c_tree.specs.declared.object_type.ObjectType.TheVariants as of-object
 use Rattle.c_tree.specs.declared.object_type.ValueType.{ValueType}
 use Rattle.c_tree.specs.Programs.{AutomaticTree}
-use Rattle.c_type_rules.specs.Types.{loaded}
+use Rattle.c_type_rules.specs.Types.{loaded_type}
 use Rattle.c_type_laws.specs.Kinds.{element_type, types_of}
 use Rattle.c_places.specs.Places.{numbers_from}
 use Rattle.c_meaning_values.specs.declared.value.Value as source-value
 use Rattle.c_meaning_values.specs.declared.value.Phase.TheVariants.{Live}
-use Rattle.c_meaning_values.specs.Types.{element_of, count_of, zero_of}
+use Rattle.c_meaning_values.specs.Types.{element_scalar, value_count, zero_of}
 use Rattle.c_meaning_values.specs.Memory.{Object as SourceObject, Memory as SourceMemory, new_object, with_value}
 use Rattle.c_meaning_steps.specs.States.{State}
 use Rattle.c_meaning.specs.Calls.{bind_one, bind}
@@ -39,7 +39,7 @@ types_later memory after later [] (v ∷ vs) are = absurd are
 types_later memory after later (t ∷ types) [] are = absurd are
 types_later memory after later (t ∷ types) (v ∷ vs) are = (of_later memory after later t v are.0, types_later memory after later types vs are.1)
 
-pub element_loaded : (of : ObjectType) → element_type of ≡ loaded (element_of of)
+pub element_loaded : (of : ObjectType) → element_type of ≡ loaded_type (element_scalar of)
 element_loaded (of-object.Scalar s) = refl
 element_loaded (of-object.Array s count) = refl
 
@@ -74,9 +74,9 @@ module _ (k : Activity) (same_depth : length k.frames ≡ length k.setting.waiti
       let self : first ≤ first = omega arith in
       let more = later_more s.memory o in
       let typed = subst (λ t. IsOf memory t u) (element_loaded a.of) (of_later s.memory memory more (element_type a.of) u are.0) in
-      let zeros = all_alike (IsOf memory (loaded (element_of a.of))) (count_of a.of) (zero_of (element_of a.of)) (zero_typed memory (element_of a.of).base (element_of a.of).stars) in
-      let sound1 = sound_more k first a is o refl refl (length-set (replicate (count_of a.of) (zero_of (element_of a.of))) 0 u ∙ length-replicate (count_of a.of) (zero_of (element_of a.of))) (λ young. not_initialising young) s first self under sound
-      (all_first (IsOf memory (loaded (element_of a.of))) (replicate (count_of a.of) (zero_of (element_of a.of))) u zeros typed) in
+      let zeros = all_alike (IsOf memory (loaded_type (element_scalar a.of))) (value_count a.of) (zero_of (element_scalar a.of)) (zero_typed memory (element_scalar a.of).base (element_scalar a.of).stars) in
+      let sound1 = sound_more k first a is o refl refl (length-set (replicate (value_count a.of) (zero_of (element_scalar a.of))) 0 u ∙ length-replicate (value_count a.of) (zero_of (element_scalar a.of))) (λ young. not_initialising young) s first self under sound
+      (all_first (IsOf memory (loaded_type (element_scalar a.of))) (replicate (value_count a.of) (zero_of (element_scalar a.of))) u zeros typed) in
       let grown1 = grown_more d s.memory o first first self refl in
       let next : first ≤ first + 1 = omega arith in
       let r = binds_from count (first + 1) all (λ i. (let q : first + 1 + i ≡ first + suc i = omega arith in ap (slice_get k.setting.program.automatics) q ∙ there (suc i))) (omega (arith, le)) vs s1 sound1 (under_grown d first (first + 1) s.memory memory next under grown1)

@@ -4,11 +4,11 @@ use Rattle.std.specs.Prelude.{option_map}
 use Rattle.std.proofs.lemmas.Option.{slice_get-map}
 use Rattle.c_tree.specs.declared.object_type.ValueType.{ValueType}
 use Rattle.c_tree.specs.Programs.{AutomaticTree, ProgramTree}
-use Rattle.c_type_rules.specs.Types.{loaded}
+use Rattle.c_type_rules.specs.Types.{loaded_type}
 use Rattle.c_type_laws.specs.Kinds.{element_type, types_of}
 use Rattle.c_places.specs.Places.{numbers_from}
 use Rattle.c_meaning_values.specs.declared.value.Value as source-value
-use Rattle.c_meaning_values.specs.Types.{element_of}
+use Rattle.c_meaning_values.specs.Types.{element_scalar}
 use Rattle.c_meaning_values.specs.Memory.{Object as SourceObject, Memory as SourceMemory}
 use Rattle.c_meaning.specs.Calls.{bind}
 use Rattle.graph_core.specs.declared.value.Value.{Value}
@@ -71,7 +71,7 @@ pub record Argument (p : ProgramTree) (memory : SourceMemory) (others : Memory) 
   pub is : slice_get p.automatics (first + i) ≡ Some tree
   pub value : source-value.Value
   pub found : slice_get vs i ≡ Some value
-  pub typed : IsOf memory (loaded (element_of tree.of)) value
+  pub typed : IsOf memory (loaded_type (element_scalar tree.of)) value
   pub other : Value
   pub there : slice_get ws i ≡ Some other
   pub same : SameValue p memory others value other

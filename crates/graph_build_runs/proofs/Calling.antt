@@ -16,7 +16,7 @@ use Rattle.c_meaning_steps.specs.declared.event.Ending.TheVariants as ending
 use Rattle.c_meaning_values.specs.Memory.{Memory}
 use Rattle.c_meaning_steps.specs.States.{State, Event as SourceEvent, Put as SourcePut, seen, Evaluated, Gives, Leaves, Ends, Listed, Lists, NoList, on_list}
 use Rattle.c_meaning.specs.Expressions.{Calls, evaluate, evaluate_all, call}
-use Rattle.c_meaning_steps.specs.Steps.{next_byte, put, leave}
+use Rattle.c_meaning_steps.specs.Steps.{next_byte, byte_put, leave}
 use Rattle.graph_core.specs.declared.value.Value.{Value}
 use Rattle.graph_core.specs.declared.value.Value.TheVariants.{Number}
 use Rattle.graph_core.specs.declared.instruction.Callee as unit-callee
@@ -27,13 +27,13 @@ use Rattle.graph_core.specs.Memory.{Memory as UnitMemory}
 use Rattle.graph_core.specs.Runs.{Event, Put, Exited, Stepped, Goes, Shows, Ends as StepEnds, Wild, step, value, got, put_out, exited}
 use Rattle.graph_core.specs.Runs as run
 use Rattle.graph_core.specs.Values.{is_odd}
-use Rattle.graph_build_names.specs.Conversions.{word_of}
+use Rattle.graph_build_names.specs.Conversions.{unsigned_bits}
 use Rattle.graph_build_layout.specs.declared.laid.Use.TheVariants.{Anywhere}
 use Rattle.graph_build_names.specs.Names.{pick}
 use Rattle.graph_build_layout.specs.Layout.{laid, passed_laid}
 use Rattle.graph_build_names.specs.Writes.{writes_any}
 use Rattle.graph_build_steps.specs.Rules.{callee_for}
-use Rattle.graph_build_steps.specs.Drafts.{Made, Goal, To, Unused, Either, before, leaf, zero as zero_operand, target, follow, called_by}
+use Rattle.graph_build_steps.specs.Drafts.{Made, Goal, To, Unused, Either, instruction_before, leaf, zero as zero_operand, target, follow, called_by}
 use Rattle.event_runs.specs.Agreement.{Pairs}
 use Rattle.graph_build_runs.specs.Correspondence.{SameValue, SameValues, SameEvent, AreBytes}
 use Rattle.graph_build_runs.proofs.Leads.{Setting, names_in, size_in, depth_in, Local, World, set_name, at, Leads, stays, goes, shows, then_leads, put_here, put_elsewhere, less_other}
@@ -59,7 +59,7 @@ waiting l target = record l { wants = target }
 
 abbrev pub returned : Local → Option ℕ → Value → Local
 returned l None given = record l { wants = None }
-returned l (Some k) given = record l { names = run.put l.names k given; wants = Some k }
+returned l (Some k) given = record l { names = run.with_value_at l.names k given; wants = Some k }
 
 -- A call comes back, with a value or without one.
 pub record Back (x : Setting) (target : Option ℕ) (f : ℕ) (all : List Operand) (ops : List Instruction) (end : End) (l : Local) (w : World) (s : State) : Type 0 where

@@ -16,7 +16,7 @@ use Rattle.c_meaning_steps.specs.declared.event.Ending.TheVariants as ending
 use Rattle.c_meaning_values.specs.Memory.{Memory}
 use Rattle.c_meaning_steps.specs.States.{State, Evaluated, Gives, Leaves, Ends, Listed}
 use Rattle.c_meaning.specs.Expressions.{Calls, evaluate, evaluate_all, call, call_with_one}
-use Rattle.c_meaning_steps.specs.Steps.{next_byte, put, leave}
+use Rattle.c_meaning_steps.specs.Steps.{next_byte, byte_put, leave}
 use Rattle.graph_core.specs.declared.value.Value.{Value}
 use Rattle.graph_core.specs.declared.value.Value.TheVariants.{Number}
 use Rattle.graph_core.specs.declared.instruction.Callee.TheVariants as unit-called
@@ -25,13 +25,13 @@ use Rattle.graph_core.specs.Graphs.{Operand, Name, Instruction, End}
 use Rattle.graph_core.specs.Memory.{Memory as UnitMemory}
 use Rattle.graph_core.specs.Runs.{value}
 use Rattle.graph_core.specs.Values.{is_odd}
-use Rattle.graph_build_names.specs.Conversions.{word_of}
+use Rattle.graph_build_names.specs.Conversions.{unsigned_bits}
 use Rattle.graph_build_layout.specs.declared.laid.Use.TheVariants.{Anywhere}
 use Rattle.graph_build_names.specs.Names.{pick}
 use Rattle.graph_build_layout.specs.Laid.{called_laid}
 use Rattle.graph_build_layout.specs.Layout.{passed_laid}
 use Rattle.graph_build_steps.specs.Rules.{callee_for}
-use Rattle.graph_build_steps.specs.Drafts.{Made, Goal, To, Unused, Either, before, leaf, zero as zero_operand, target, follow, called_by}
+use Rattle.graph_build_steps.specs.Drafts.{Made, Goal, To, Unused, Either, instruction_before, leaf, zero as zero_operand, target, follow, called_by}
 use Rattle.graph_build_runs.specs.Typed.{IsOf}
 use Rattle.graph_build_runs.specs.Stops.{IsStatus}
 use Rattle.graph_build_runs.specs.Correspondence.{SameValue, SameValues, AreBytes}
@@ -127,7 +127,7 @@ module _ (x : Setting) (calls : Calls) (low : ScalarsFirst x) (all : ArgumentTre
   getchar_does = call_does called.Getchar false refl byte_finishes
 
   -- one argument that is a number
-  one_word : (memory : Memory) (others : UnitMemory) (z : ℤ) (ws : List Value) → SameValues x.program memory others (source.Number z ∷ []) ws → ws ≡ Number (word_of z) ∷ []
+  one_word : (memory : Memory) (others : UnitMemory) (z : ℤ) (ws : List Value) → SameValues x.program memory others (source.Number z ∷ []) ws → ws ≡ Number (unsigned_bits z) ∷ []
   one_word memory others z [] same = absurd same
   one_word memory others z (w ∷ []) same = ap (λ k. k ∷ []) same.0
   one_word memory others z (w ∷ u ∷ ws) same = absurd same.1

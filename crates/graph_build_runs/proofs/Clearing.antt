@@ -10,7 +10,7 @@ use Rattle.c_tree.specs.declared.object_type.Scalar.{Scalar}
 use Rattle.c_tree.specs.TypedStatements.{Zero}
 use Rattle.c_tree.specs.Programs.{AutomaticTree, ProgramTree}
 use Rattle.c_meaning_values.specs.declared.value.Phase.TheVariants.{Initialising, Live, Ended}
-use Rattle.c_meaning_values.specs.Types.{element_of, count_of, scalar_size, size_by_stars, zero_of}
+use Rattle.c_meaning_values.specs.Types.{element_scalar, value_count, scalar_size, size_by_stars, zero_of}
 use Rattle.c_meaning_values.specs.Memory.{Memory as SourceMemory}
 use Rattle.c_meaning_steps.specs.States.{State, Next}
 use Rattle.c_meaning.specs.Activations as activations
@@ -23,7 +23,7 @@ use Rattle.graph_core.specs.Runs.{Goes, step, with_memory}
 use Rattle.graph_core.specs.Values.{size_of}
 use Rattle.graph_build_names.specs.Names.{object_of}
 use Rattle.graph_build_steps.specs.Rules as rule
-use Rattle.graph_build_steps.specs.Drafts.{before}
+use Rattle.graph_build_steps.specs.Drafts.{instruction_before}
 use Rattle.graph_build_statements.specs.Coding.{going}
 use Rattle.graph_build_runs.specs.Correspondence.{SameValues}
 use Rattle.graph_build_runs.proofs.Leads.{names_in, World, goes, stays, then_leads}
@@ -99,12 +99,12 @@ module _ (memory : Memory) (m : ℕ) (q : Object) (sc : Scalar) (count : ℕ) (i
 -- An array, or a scalar in memory, becomes zero.
 module _ (k : Activity) (law : Lawful k) (v j : ℕ) (a : AutomaticTree) (is : slice_get k.setting.program.automatics v ≡ Some a) (named : object_of (names_in k.setting) v ≡ Some j) (inside : a.in_memory ≡ true) (scope : List ℕ) (low : ℕ) (w : Ways) (spot : Spot) (le : low ≤ v) where
   abbrev clear_words : ℕ
-  clear_words = (count_of a.of * scalar_size (element_of a.of) + 3) / 4
+  clear_words = (value_count a.of * scalar_size (element_scalar a.of) + 3) / 4
 
-  pub cleared_goes : Begins k scope spot.at (λ t i. before (unit.Zero j clear_words) (going (coding_in k) w.next i)) → GoesOn k low (v + 1) (v ∷ []) w scope (Some spot.at) (λ s. activations.at (here_in k) spot s (declare_with k.calls (here_in k) spot v Zero))
+  pub cleared_goes : Begins k scope spot.at (λ t i. instruction_before (unit.Zero j clear_words) (going (coding_in k) w.next i)) → GoesOn k low (v + 1) (v ∷ []) w scope (Some spot.at) (λ s. activations.at (here_in k) spot s (declare_with k.calls (here_in k) spot v Zero))
   cleared_goes b =
       let g = going (coding_in k) w.next b.inner in
-      place_begins k law scope spot (before (unit.Zero j clear_words) g) b.block b.here low (v + 1) (v ∷ []) w (declare_with k.calls (here_in k) spot v Zero)
+      place_begins k law scope spot (instruction_before (unit.Zero j clear_words) g) b.block b.here low (v + 1) (v ∷ []) w (declare_with k.calls (here_in k) spot v Zero)
       (λ c es l u s leads sound fits h ready.
       (let p = k.setting.program in
       let place = place_at k spot.at in
@@ -112,8 +112,8 @@ module _ (k : Activity) (law : Lawful k) (v j : ℕ) (a : AutomaticTree) (is : s
       let memory = with_new k v a is Initialising s.memory in
       let s1 : State = record s { memory = memory } in
       let frames = frames_length p k.setting.unit s.memory k.frames k.setting.waiting h.frames in
-      let sc = element_of a.of in
-      let count = count_of a.of in
+      let sc = element_scalar a.of in
+      let count = value_count a.of in
       let fits1 = fits_made k v a s l u fits (λ inside_it. placed_new k law v j a is named inside s l u fits) in
       let q = fits1.own.objects v j a named is in
       let m = k.setting.first + j in
@@ -127,7 +127,7 @@ module _ (k : Activity) (law : Lawful k) (v j : ℕ) (a : AutomaticTree) (is : s
       let fits2 = fits_both_set (placed k place memory) None s1 l u (length s.memory) o m q.object (replicate count (zero_of sc)) zeros refl (length-replicate count (Number 0) ∙ sym q.count) Live (live_open o.phase alive) (differ_made k v a is Initialising s.memory low le h.under sound.differ) (declared_made k v a is Initialising s.memory sound.declared) (fits_placed k place memory None s1 l u fits1) (last_is s.memory o) alive (a, is, inside) q.is so
       (λ live. zeros_same p memory u.memory sc.stars sc refl count) in
       let fits3 = subst (λ z. Fits (placed k place memory) None (record s { memory = z }) l u2) (set_last s.memory o (new_in k v a is Live)) fits2 in
-      let clears : step k.setting.unit (before_in k place (before (unit.Zero j clear_words) g).ops g.end l u) ≡ Goes (before_in k place g.ops g.end l u2) = ap (with_memory (before_in k place g.ops g.end l u)) (zeroed_is u.memory m q.object sc count q.is q.lives q.element q.count) in
+      let clears : step k.setting.unit (before_in k place (instruction_before (unit.Zero j clear_words) g).ops g.end l u) ≡ Goes (before_in k place g.ops g.end l u2) = ap (with_memory (before_in k place g.ops g.end l u)) (zeroed_is u.memory m q.object sc count q.is q.lives q.element q.count) in
       subst (λ z. Runs k c es low (v + 1) (v ∷ []) s.memory w (Next z)) (sym (made_is k v a is Live s frames))
       (record {
         place = place;

@@ -18,7 +18,7 @@ use Rattle.c_tree.specs.declared.typed_expression.Callee.TheVariants as callee
 use Rattle.c_tree.specs.TypedExpressions.{RvalueTree, LvalueTree, ArgumentTrees, Constant, Null, Load, Decay, AddressOf, Convert, Discard, Signed, Not, Arithmetic, Compare, ComparePointers, Move, MoveFrom, Difference, And, Or, Conditional, Comma, Assign, Update, UpdatePointer, Step, StepPointer, Call, Named, Target, Element, ElementFrom, none, first}
 use Rattle.c_tree.specs.Programs.{AutomaticTree, LiteralTree, StaticTree}
 use Rattle.c_type_rules.specs.Integers.{fits as number_fits, promoted}
-use Rattle.c_type_rules.specs.Types.{loaded, same_integer}
+use Rattle.c_type_rules.specs.Types.{loaded_type, same_integer}
 use Rattle.c_type_rules.specs.ValueTypes.{object_type, decayed, results_of, type_of, given_by, integer_in, is_void, is_pointer}
 use Rattle.c_type_laws.specs.Kind.{Kind, Wrong, NullPointer, Of}
 use Rattle.c_type_laws.specs.Kinds.{is_promoted, is_of, is_typed, is_scalar, is_pointer as is_pointer_kind, is_integer, is_counted, joined, is_operand, holds_scalar, holds_integer, holds_pointer, is_array, static_is, literal_is, automatic_is, is_variable, is_object, is_callee, taken_by}
@@ -50,7 +50,7 @@ use Rattle.graph_build_runs.proofs.ValuesStand.{IsWhole}
 use Rattle.graph_build_runs.proofs.Shapes.{fits_of, kind_by, integer_kind, typed_of, any_integer, counted, counted_typed, scalar_typed, two_true, three_true, four_true, Shape, joined_shape, joined_typed, left_joined, right_joined, pointer_kinds, shape, scalar_by, loaded_scalar, whole_of, array_of, pointer_object, if_typed}
 use Rattle.graph_build_runs.proofs.Expressions.{IsRightBy, IsNumberBy, CallKeeps, Coded, constant, null, scalar, load, decay, address, convert, discarded, signed, negated, operated, compared, pointers, moved, moved_from, subtracted, conjunction, disjunction, chosen, nothing_chosen, sequence, assigned, stored, updated, updated_there, advanced, advanced_there, stepped, stepped_there, walked, walked_there, called, run, got, put_out, left, CodedPlace, variable, static, literal, target, element, element_from, CodedAll, no_more, one_more}
 
-word_of_pointer : (base : IntegerType) (stars : ℕ) (el : ObjectType) → loaded (record { base = base; stars = stars }) ≡ Pointer el → rule.element_of (record { base = base; stars = stars }) ≡ Word
+word_of_pointer : (base : IntegerType) (stars : ℕ) (el : ObjectType) → loaded_type (record { base = base; stars = stars }) ≡ Pointer el → rule.element_of (record { base = base; stars = stars }) ≡ Word
 word_of_pointer base zero el h = cc
 word_of_pointer base (suc stars) el h = word_element base stars
 
@@ -225,7 +225,7 @@ data View (x : Setting) (calls : Calls) : LvalueTree → Type 0 where
   as_name : {v : ℕ} {of : ObjectType} → (k : ℕ) → scalar_of (names_in x) v ≡ Some k → ((a : AutomaticTree) → slice_get x.program.automatics v ≡ Some a → a.of ≡ of) → View x calls (Named (object.Automatic v) of)
   as_place : {l : LvalueTree} → CodedPlace x calls l → View x calls l
 
-load_view : (x : Setting) (calls : Calls) (s : Scalar) (l : LvalueTree) → View x calls l → object_type l ≡ of-object.Scalar s → kind_of x.program x.tree (Load s l) ≡ Of (loaded s) → Coded x calls (Load s l)
+load_view : (x : Setting) (calls : Calls) (s : Scalar) (l : LvalueTree) → View x calls l → object_type l ≡ of-object.Scalar s → kind_of x.program x.tree (Load s l) ≡ Of (loaded_type s) → Coded x calls (Load s l)
 load_view x calls s (Named (object.Automatic v) of) (as_name k is fits) one kind = scalar (record { name = k; is = is; one = one; fits = fits }) kind
 load_view x calls s l (as_place p) one kind = load one kind p
 
@@ -233,7 +233,7 @@ memory_view : (x : Setting) (calls : Calls) (l : LvalueTree) → View x calls l 
 memory_view x calls (Named (object.Automatic v) of) (as_name k is fits) there = variable there.1 fits
 memory_view x calls l (as_place p) there = p
 
-assign_view : (x : Setting) (calls : Calls) (s : Scalar) (l : LvalueTree) (e : RvalueTree) → View x calls l → object_type l ≡ of-object.Scalar s → kind_of x.program x.tree (Assign s l e) ≡ Of (loaded s) → is_of (kind_of x.program x.tree e) (loaded s) ≡ true → IsWhole x e
+assign_view : (x : Setting) (calls : Calls) (s : Scalar) (l : LvalueTree) (e : RvalueTree) → View x calls l → object_type l ≡ of-object.Scalar s → kind_of x.program x.tree (Assign s l e) ≡ Of (loaded_type s) → is_of (kind_of x.program x.tree e) (loaded_type s) ≡ true → IsWhole x e
     → ((k : ℕ) → scalar_named (names_in x) l ≡ Some k → Apart x k e) → Coded x calls e → Coded x calls (Assign s l e)
 assign_view x calls s (Named (object.Automatic v) of) e (as_name k is fits) one kind fits_e whole apart c = assigned (record { name = k; is = is; one = one; fits = fits }) kind fits_e (apart k is) c
 assign_view x calls s l e (as_place p) one kind fits_e whole apart c = stored one kind fits_e whole p c
@@ -243,7 +243,7 @@ update_view : (x : Setting) (calls : Calls) (o : declared-arithmetic.Arithmetic)
 update_view x calls o ty t (Named (object.Automatic v) of) e (as_name k is fits) promoted one kind right c = updated promoted (record { name = k; is = is; one = one; fits = fits }) kind right c
 update_view x calls o ty t l e (as_place p) promoted one kind right c = updated_there promoted one kind right p c
 
-advance_view : (x : Setting) (calls : Calls) (d : Direction) (of : ObjectType) (s : Scalar) (l : LvalueTree) (e : RvalueTree) → View x calls l → object_type l ≡ of-object.Scalar s → loaded s ≡ Pointer of → kind_of x.program x.tree (UpdatePointer d of l e) ≡ Of (Pointer of) → IsNumberBy x e → Coded x calls e
+advance_view : (x : Setting) (calls : Calls) (d : Direction) (of : ObjectType) (s : Scalar) (l : LvalueTree) (e : RvalueTree) → View x calls l → object_type l ≡ of-object.Scalar s → loaded_type s ≡ Pointer of → kind_of x.program x.tree (UpdatePointer d of l e) ≡ Of (Pointer of) → IsNumberBy x e → Coded x calls e
     → Coded x calls (UpdatePointer d of l e)
 advance_view x calls d of s (Named (object.Automatic v) o) e (as_name k is fits) one type_is kind number c = advanced (record { name = k; is = is; one = one; fits = fits }) type_is kind number c
 advance_view x calls d of s l e (as_place p) one type_is kind number c = advanced_there one type_is (word_of_pointer s.base s.stars of type_is) kind number p c
@@ -252,7 +252,7 @@ step_view : (x : Setting) (calls : Calls) (d : Direction) (g : Given) (ty t : In
 step_view x calls d g ty t (Named (object.Automatic v) of) (as_name k is fits) promoted one kind = stepped promoted (record { name = k; is = is; one = one; fits = fits }) kind
 step_view x calls d g ty t l (as_place p) promoted one kind = stepped_there promoted one kind p
 
-walk_view : (x : Setting) (calls : Calls) (d : Direction) (g : Given) (of : ObjectType) (s : Scalar) (l : LvalueTree) → View x calls l → object_type l ≡ of-object.Scalar s → loaded s ≡ Pointer of → kind_of x.program x.tree (StepPointer d g of l) ≡ Of (Pointer of) → Coded x calls (StepPointer d g of l)
+walk_view : (x : Setting) (calls : Calls) (d : Direction) (g : Given) (of : ObjectType) (s : Scalar) (l : LvalueTree) → View x calls l → object_type l ≡ of-object.Scalar s → loaded_type s ≡ Pointer of → kind_of x.program x.tree (StepPointer d g of l) ≡ Of (Pointer of) → Coded x calls (StepPointer d g of l)
 walk_view x calls d g of s (Named (object.Automatic v) o) (as_name k is fits) one type_is kind = walked (record { name = k; is = is; one = one; fits = fits }) type_is kind
 walk_view x calls d g of s l (as_place p) one type_is kind = walked_there one type_is (word_of_pointer s.base s.stars of type_is) kind p
 
@@ -322,8 +322,8 @@ module _ (x : Setting) (calls : Calls) (low : ScalarsFirst x) (scalars : Scalars
     coded (Constant z t) h laid = constant (fits_of (number_fits t z) (Integer t) h)
     coded Null h laid = null
     coded (Load s l) h laid =
-        let a = fits_of (holds_scalar (object_type l) s && P l) (loaded s) h in
-        let b = two_true (holds_scalar (object_type l) s) (P l) a in load_view x calls s l (view l b.1 laid) (object_is (object_type l) (of-object.Scalar s) b.0) (kind_by (holds_scalar (object_type l) s && P l) (loaded s) a)
+        let a = fits_of (holds_scalar (object_type l) s && P l) (loaded_type s) h in
+        let b = two_true (holds_scalar (object_type l) s) (P l) a in load_view x calls s l (view l b.1 laid) (object_is (object_type l) (of-object.Scalar s) b.0) (kind_by (holds_scalar (object_type l) s && P l) (loaded_type s) a)
     coded (Decay l) h laid =
         let a = fits_of (is_array (object_type l) && P l) (decayed (object_type l)) h in
         let b = two_true (is_array (object_type l)) (P l) a in let o = array_of (object_type l) b.0 in
@@ -377,10 +377,10 @@ module _ (x : Setting) (calls : Calls) (low : ScalarsFirst x) (scalars : Scalars
         choice c a b f.0 f.1 (coded c (scalar_typed (K c) f.0) laid.0) (coded a k.0 laid.1) (coded b k.1 laid.2)
     coded (Comma a b) h laid = let f = if_typed (is_typed (K a)) (K b) h in sequence (ap (λ q. if q then K b else Wrong) f.0) (coded a f.0 laid.0) (coded b f.1 laid.1)
     coded (Assign s l e) h laid =
-        let f = fits_of (holds_scalar (object_type l) s && P l && is_of (K e) (loaded s)) (loaded s) h in
-        let c = three_true (holds_scalar (object_type l) s) (P l) (is_of (K e) (loaded s)) f in
-        assign_view x calls s l e (view l c.1 laid.0) (object_is (object_type l) (of-object.Scalar s) c.0) (kind_by (holds_scalar (object_type l) s && P l && is_of (K e) (loaded s)) (loaded s) f) c.2 (whole_of x e (scalar_by x (K e) (loaded s) c.2 (loaded_scalar x s))) (place_apart x low scalars l s e c.1 (object_is (object_type l) (of-object.Scalar s) c.0) c.2)
-        (coded e (typed_of (K e) (loaded s) c.2) laid.1)
+        let f = fits_of (holds_scalar (object_type l) s && P l && is_of (K e) (loaded_type s)) (loaded_type s) h in
+        let c = three_true (holds_scalar (object_type l) s) (P l) (is_of (K e) (loaded_type s)) f in
+        assign_view x calls s l e (view l c.1 laid.0) (object_is (object_type l) (of-object.Scalar s) c.0) (kind_by (holds_scalar (object_type l) s && P l && is_of (K e) (loaded_type s)) (loaded_type s) f) c.2 (whole_of x e (scalar_by x (K e) (loaded_type s) c.2 (loaded_scalar x s))) (place_apart x low scalars l s e c.1 (object_is (object_type l) (of-object.Scalar s) c.0) c.2)
+        (coded e (typed_of (K e) (loaded_type s) c.2) laid.1)
     coded (Update o t u l e) h laid =
         let f = fits_of (holds_integer (object_type l) t && is_promoted u && P l && is_operand o u (K e)) (Integer t) h in
         let c = four_true (holds_integer (object_type l) t) (is_promoted u) (P l) (is_operand o u (K e)) f in

@@ -8,7 +8,7 @@ use Rattle.std.proofs.lemmas.Bool.Decides.{nat_tests}
 use Rattle.word_base.specs.Types.{holds as is_number}
 use Rattle.word_base.specs.Operations.{truth}
 use Rattle.word_base.specs.Words.{word_of_test}
-use Rattle.word_base.specs.WordOperations.{operated as operated_words}
+use Rattle.word_base.specs.WordOperations.{word_operation as operated_words}
 use Rattle.word_base.specs.declared.operation.Operation.TheVariants as operation
 use Rattle.c_tree.specs.declared.types.IntegerType.{IntegerType}
 use Rattle.c_tree.specs.declared.object_type.ValueType.TheVariants.{Integer}
@@ -16,7 +16,7 @@ use Rattle.c_tree.specs.declared.typed_expression.Comparison as declared
 use Rattle.c_tree.specs.declared.typed_expression.Comparison.TheVariants as comparison
 use Rattle.c_tree.specs.TypedExpressions.{RvalueTree, Compare}
 use Rattle.c_type_rules.specs.Integers.{integer}
-use Rattle.c_type_rules.specs.Constants.{same, compared as holds_of}
+use Rattle.c_type_rules.specs.Constants.{same, comparison_holds as holds_of}
 use Rattle.c_type_laws.specs.Kind.{Of}
 use Rattle.c_type_laws.specs.Expressions.{kind_of}
 use Rattle.c_type_laws.specs.Kinds.{is_promoted}
@@ -24,8 +24,8 @@ use Rattle.c_meaning_values.specs.declared.value.Value as source-value
 use Rattle.c_meaning_values.specs.declared.value.Value.TheVariants as source
 use Rattle.c_meaning_steps.specs.declared.event.Ending.TheVariants as ending
 use Rattle.c_meaning_values.specs.Memory.{Memory}
-use Rattle.c_meaning_values.specs.Operations.{comparison as compares, compared as truth_of, is_true}
-use Rattle.c_meaning_steps.specs.States.{State, Evaluated, Gives, Ends, given, Tested, tested, by_truth}
+use Rattle.c_meaning_values.specs.Operations.{comparison as compares, comparison_value as truth_of, is_true}
+use Rattle.c_meaning_steps.specs.States.{State, Evaluated, Gives, Ends, value_or_undefined, Tested, condition_tested, by_truth}
 use Rattle.c_meaning.specs.Expressions.{Calls, evaluate}
 use Rattle.graph_core.specs.declared.value.Value.{Value}
 use Rattle.graph_core.specs.declared.value.Value.TheVariants.{Number}
@@ -33,11 +33,11 @@ use Rattle.graph_core.specs.Graphs as unit
 use Rattle.graph_core.specs.Graphs.{Operand, Name, Operate, End, Instruction}
 use Rattle.graph_core.specs.Runs.{value}
 use Rattle.graph_core.specs.Values.{operate}
-use Rattle.graph_build_names.specs.Conversions.{word_of}
+use Rattle.graph_build_names.specs.Conversions.{unsigned_bits}
 use Rattle.graph_build_names.specs.Operands.{is_two}
 use Rattle.graph_build_layout.specs.Laid.{Pair, behind_move}
 use Rattle.graph_build_names.specs.Names.{pick}
-use Rattle.graph_build_steps.specs.Drafts.{Made, Goal, To, Unused, Either, before, target, follow, branch_by, compare_by, compared}
+use Rattle.graph_build_steps.specs.Drafts.{Made, Goal, To, Unused, Either, instruction_before, target, follow, branch_by, compare_by, compared}
 use Rattle.graph_build_steps.specs.Rules.{less_by}
 use Rattle.graph_build_runs.specs.Correspondence.{SameValue}
 use Rattle.graph_build_runs.proofs.Words.{InWord}
@@ -53,7 +53,7 @@ use Rattle.graph_build_runs.proofs.Operands.{Does, code_in, Low, Spares, behind_
 use Rattle.graph_build_runs.proofs.Arithmetic.{pick_between}
 use Rattle.graph_build_runs.proofs.Laying.{behind_from}
 
-pub truth_word : (c : Bool) → word_of_test c ≡ word_of (truth c)
+pub truth_word : (c : Bool) → word_of_test c ≡ unsigned_bits (truth c)
 truth_word true = refl
 truth_word false = refl
 
@@ -86,17 +86,17 @@ xor_differ a b = elim (cases_eq a b) [
 
 module _ (x : Setting) (low : ScalarsFirst x) (ty : IntegerType) (promoted : is_promoted ty ≡ true) (g : Goal) (own temporary t : ℕ) (f : ℕ → Bool) (le1 : t ≤ temporary) (size1 : size_in x ≤ temporary) (le2 : t ≤ own) (size2 : size_in x ≤ own)
     (left right : Operand) (a b : ℤ) (s : State) (l : Local) (w : World) (fits : Fits x None s l w) (ha : is_number (integer ty) a ≡ true) (hb : is_number (integer ty) b ≡ true)
-    (sa : value x.unit.statics l.names left ≡ Number (word_of a)) (sb : value x.unit.statics l.names right ≡ Number (word_of b)) where
+    (sa : value x.unit.statics l.names left ≡ Number (unsigned_bits a)) (sb : value x.unit.statics l.names right ≡ Number (unsigned_bits b)) where
   abbrev In : declared.Comparison → Made
   In o = compare_by o (integer ty).is_signed (target g own) temporary left right (follow g own)
 
-  less_is : (c d : ℤ) (first second : Operand) → is_number (integer ty) c ≡ true → is_number (integer ty) d ≡ true → value x.unit.statics l.names first ≡ Number (word_of c) → value x.unit.statics l.names second ≡ Number (word_of d)
+  less_is : (c d : ℤ) (first second : Operand) → is_number (integer ty) c ≡ true → is_number (integer ty) d ≡ true → value x.unit.statics l.names first ≡ Number (unsigned_bits c) → value x.unit.statics l.names second ≡ Number (unsigned_bits d)
       → operate (less_by (integer ty).is_signed) (value x.unit.statics l.names first) (value x.unit.statics l.names second) ≡ Number (word_of_test (int_lt c d))
   less_is c d first second hc hd sc sd =
-      ap (λ v. operate (less_by (integer ty).is_signed) v (value x.unit.statics l.names second)) sc ∙ ap (operate (less_by (integer ty).is_signed) (Number (word_of c))) sd ∙ ap Number (less_computes ty promoted c d hc hd)
+      ap (λ v. operate (less_by (integer ty).is_signed) v (value x.unit.statics l.names second)) sc ∙ ap (operate (less_by (integer ty).is_signed) (Number (unsigned_bits c))) sd ∙ ap Number (less_computes ty promoted c d hc hd)
 
-  xor_is : operate operation.Xor (value x.unit.statics l.names left) (value x.unit.statics l.names right) ≡ Number (operated_words operation.Xor (word_of a) (word_of b))
-  xor_is = ap (λ v. operate operation.Xor v (value x.unit.statics l.names right)) sa ∙ ap (operate operation.Xor (Number (word_of a))) sb
+  xor_is : operate operation.Xor (value x.unit.statics l.names left) (value x.unit.statics l.names right) ≡ Number (operated_words operation.Xor (unsigned_bits a) (unsigned_bits b))
+  xor_is = ap (λ v. operate operation.Xor v (value x.unit.statics l.names right)) sa ∙ ap (operate operation.Xor (Number (unsigned_bits a))) sb
 
   pub value_compares : (o : declared.Comparison) → Result x g (Name own) t f (In o).ops (In o).end l w (Gives (source.Number (truth_of o a b)) s)
   value_compares comparison.Less =
@@ -114,11 +114,11 @@ module _ (x : Setting) (low : ScalarsFirst x) (ty : IntegerType) (promoted : is_
   value_compares comparison.Equal =
       let between = operate operation.Xor (value x.unit.statics l.names left) (value x.unit.statics l.names right) in
       two_done x g own temporary t f (λ k. Operate k operation.Xor left right) (λ k. Operate k operation.Sltu (Name temporary) (unit.Constant 1)) (source.Number (truth (same a b))) between _ s l w low le1 size1 le2 size2 fits (λ k ops end. refl) (λ k ops end. refl)
-      (ap (λ v. operate operation.Sltu v (Number 1)) (put_here l.names temporary between ∙ xor_is) ∙ ap Number (xor_equal (word_of a) (word_of b) ∙ ap word_of_test (equal_computes ty promoted a b ha hb) ∙ truth_word (same a b))) (truth_in (same a b))
+      (ap (λ v. operate operation.Sltu v (Number 1)) (put_here l.names temporary between ∙ xor_is) ∙ ap Number (xor_equal (unsigned_bits a) (unsigned_bits b) ∙ ap word_of_test (equal_computes ty promoted a b ha hb) ∙ truth_word (same a b))) (truth_in (same a b))
   value_compares comparison.NotEqual =
       let between = operate operation.Xor (value x.unit.statics l.names left) (value x.unit.statics l.names right) in
       two_done x g own temporary t f (λ k. Operate k operation.Xor left right) (λ k. Operate k operation.Sltu (unit.Constant 0) (Name temporary)) (source.Number (truth (not (same a b)))) between _ s l w low le1 size1 le2 size2 fits (λ k ops end. refl) (λ k ops end. refl)
-      (ap (operate operation.Sltu (Number 0)) (put_here l.names temporary between ∙ xor_is) ∙ ap Number (xor_differ (word_of a) (word_of b) ∙ ap (λ c. word_of_test (not c)) (equal_computes ty promoted a b ha hb) ∙ truth_word (not (same a b)))) (truth_in (not (same a b)))
+      (ap (operate operation.Sltu (Number 0)) (put_here l.names temporary between ∙ xor_is) ∙ ap Number (xor_differ (unsigned_bits a) (unsigned_bits b) ∙ ap (λ c. word_of_test (not c)) (equal_computes ty promoted a b ha hb) ∙ truth_word (not (same a b)))) (truth_in (not (same a b)))
 
 truth_true : (c : Bool) → is_true (source.Number (truth c)) ≡ c
 truth_true true = refl
@@ -140,7 +140,7 @@ module _ (x : Setting) (calls : Calls) (low : ScalarsFirst x) (o : declared.Comp
       let second = (low_b q.from (omega (arith, size, first, held))).next in
       omega (arith, first, held, second)
 
-  compares_numbers : (t : ℕ) (g : Goal) → size_in x ≤ t → (za zb : ℤ) (s : State) (l : Local) (w : World) → Fits x None s l w → value x.unit.statics l.names (pair_in x a b t).left ≡ Number (word_of za) → value x.unit.statics l.names (pair_in x a b t).right ≡ Number (word_of zb)
+  compares_numbers : (t : ℕ) (g : Goal) → size_in x ≤ t → (za zb : ℤ) (s : State) (l : Local) (w : World) → Fits x None s l w → value x.unit.statics l.names (pair_in x a b t).left ≡ Number (unsigned_bits za) → value x.unit.statics l.names (pair_in x a b t).right ≡ Number (unsigned_bits zb)
       → is_number (integer ty) za ≡ true → is_number (integer ty) zb ≡ true → Result x g (Name (own_of t)) t (λ y. false) (last_of t g).ops (last_of t g).end l w (Gives (source.Number (truth_of o za zb)) s)
   compares_numbers t (Either one other inner) size za zb s l w fits sa sb ha hb =
       let q = pair_in x a b t in
@@ -164,7 +164,7 @@ module _ (x : Setting) (calls : Calls) (low : ScalarsFirst x) (o : declared.Comp
 
   compares_values : (t : ℕ) (g : Goal) → size_in x ≤ t → (v u : source-value.Value) (s : State) (l : Local) (w : World) → Fits x None s l w → SameValue x.program s.memory w.memory v (value x.unit.statics l.names (pair_in x a b t).left)
       → SameValue x.program s.memory w.memory u (value x.unit.statics l.names (pair_in x a b t).right) → HasKind s.memory (Of (Integer ty)) v → HasKind s.memory (Of (Integer ty)) u
-      → Result x g (Name (own_of t)) t (λ y. false) (last_of t g).ops (last_of t g).end l w (given (compares o v u) s)
+      → Result x g (Name (own_of t)) t (λ y. false) (last_of t g).ops (last_of t g).end l w (value_or_undefined (compares o v u) s)
   compares_values t g size (source.Number za) (source.Number zb) s l w fits sa sb ka kb = compares_numbers t g size za zb s l w fits sa sb ka kb
   compares_values t g size (source.Number za) source.Null s l w fits sa sb ka kb = absurd kb
   compares_values t g size (source.Number za) (source.Pointer n k) s l w fits sa sb ka kb = absurd kb
@@ -173,5 +173,5 @@ module _ (x : Setting) (calls : Calls) (low : ScalarsFirst x) (o : declared.Comp
 
   pub compare_does : Does x calls (Compare o ty a b)
   compare_does t g s l w size st sound fits aims =
-      pair_does x calls low a b typed_a typed_b low_a spares_b grows_a does_a does_b t g (Name (own_of t)) (last_of t g) (λ v u s1. given (compares o v u) s1) s l w size st sound fits
+      pair_does x calls low a b typed_a typed_b low_a spares_b grows_a does_a does_b t g (Name (own_of t)) (last_of t g) (λ v u s1. value_or_undefined (compares o v u) s1) s l w size st sound fits
       (λ v u s1 l1 w1 sound1 fits1 sa sb ka kb. compares_values t g size v u s1 l1 w1 fits1 sa sb (subst (λ k. HasKind s1.memory k v) kind_a ka) (subst (λ k. HasKind s1.memory k u) kind_b kb))

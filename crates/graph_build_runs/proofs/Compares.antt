@@ -7,7 +7,7 @@ use Rattle.std.proofs.lemmas.Bool.Decides.{nat_tests}
 use Rattle.word_base.specs.Types.{holds as is_number}
 use Rattle.word_base.specs.Operations as source-operations
 use Rattle.word_base.specs.Words.{word_of_test}
-use Rattle.word_base.specs.WordOperations.{operated as operated_words}
+use Rattle.word_base.specs.WordOperations.{word_operation as operated_words}
 use Rattle.word_base.specs.declared.operation.Operation.TheVariants as operation
 use Rattle.c_tree.specs.declared.types.IntegerType.{IntegerType}
 use Rattle.c_tree.specs.declared.object_type.ValueType.TheVariants.{Integer}
@@ -15,14 +15,14 @@ use Rattle.c_tree.specs.declared.typed_expression.Comparison as declared
 use Rattle.c_tree.specs.declared.typed_expression.Comparison.TheVariants as comparison
 use Rattle.c_tree.specs.TypedExpressions.{RvalueTree, Compare}
 use Rattle.c_type_rules.specs.Integers.{integer}
-use Rattle.c_type_rules.specs.Constants.{same, compared as holds_of}
+use Rattle.c_type_rules.specs.Constants.{same, comparison_holds as holds_of}
 use Rattle.c_type_laws.specs.Kind.{Of}
 use Rattle.c_type_laws.specs.Expressions.{kind_of}
 use Rattle.c_type_laws.specs.Kinds.{is_promoted}
 use Rattle.c_meaning_values.specs.declared.value.Value as source-value
 use Rattle.c_meaning_values.specs.declared.value.Value.TheVariants as source
-use Rattle.c_meaning_values.specs.Operations.{comparison as compares, compared as truth_of}
-use Rattle.c_meaning_steps.specs.States.{State, Evaluated, Gives, given, tested, by_truth}
+use Rattle.c_meaning_values.specs.Operations.{comparison as compares, comparison_value as truth_of}
+use Rattle.c_meaning_steps.specs.States.{State, Evaluated, Gives, value_or_undefined, condition_tested, by_truth}
 use Rattle.c_meaning.specs.Expressions.{Calls, evaluate}
 use Rattle.graph_core.specs.declared.value.Value.{Value}
 use Rattle.graph_core.specs.declared.value.Value.TheVariants.{Number}
@@ -32,11 +32,11 @@ use Rattle.graph_core.specs.Memory.{is_live}
 use Rattle.graph_core.specs.Runs.{Goes, step, value, branched}
 use Rattle.graph_core.specs.Values.{operate, holds, is_true as is_known}
 use Rattle.graph_core.specs.declared.block.Comparison.TheVariants as branch
-use Rattle.graph_build_names.specs.Conversions.{word_of}
+use Rattle.graph_build_names.specs.Conversions.{unsigned_bits}
 use Rattle.graph_build_names.specs.Operands.{is_two}
 use Rattle.graph_build_layout.specs.Laid.{Pair, behind_move}
 use Rattle.graph_build_names.specs.Names.{pick}
-use Rattle.graph_build_steps.specs.Drafts.{Made, Goal, To, Unused, Either, before, target, follow, less, not_less, branch_by, compare_by, compared, compared_value}
+use Rattle.graph_build_steps.specs.Drafts.{Made, Goal, To, Unused, Either, instruction_before, target, follow, less, not_less, branch_by, compare_by, compared, compared_value}
 use Rattle.graph_build_steps.specs.Rules.{less_by}
 use Rattle.graph_build_runs.specs.Correspondence.{SameValue}
 use Rattle.graph_build_runs.proofs.Words.{InWord}
@@ -70,36 +70,36 @@ equal_test true = refl
 equal_test false = refl
 
 module _ (t : IntegerType) (promoted : is_promoted t ≡ true) (a b : ℤ) (ha : is_number (integer t) a ≡ true) (hb : is_number (integer t) b ≡ true) where
-  less_known : is_known (operate (less_by (integer t).is_signed) (Number (word_of a)) (Number (word_of b))) ≡ Some (int_lt a b)
+  less_known : is_known (operate (less_by (integer t).is_signed) (Number (unsigned_bits a)) (Number (unsigned_bits b))) ≡ Some (int_lt a b)
   less_known = ap (λ k. is_known (Number k)) (less_computes t promoted a b ha hb) ∙ known_test (int_lt a b)
 
-  more_known : is_known (operate (less_by (integer t).is_signed) (Number (word_of b)) (Number (word_of a))) ≡ Some (int_lt b a)
+  more_known : is_known (operate (less_by (integer t).is_signed) (Number (unsigned_bits b)) (Number (unsigned_bits a))) ≡ Some (int_lt b a)
   more_known = ap (λ k. is_known (Number k)) (less_computes t promoted b a hb ha) ∙ known_test (int_lt b a)
 
   -- The end of a block compares as C does.
-  pub branch_compares : (x : Setting) (o : declared.Comparison) (left right : Operand) (one other : ℕ) (l : Local) (w : World) → value x.unit.statics l.names left ≡ Number (word_of a) → value x.unit.statics l.names right ≡ Number (word_of b)
+  pub branch_compares : (x : Setting) (o : declared.Comparison) (left right : Operand) (one other : ℕ) (l : Local) (w : World) → value x.unit.statics l.names left ≡ Number (unsigned_bits a) → value x.unit.statics l.names right ≡ Number (unsigned_bits b)
       → step x.unit (at x [] (branch_by o (integer t).is_signed left right one other) l w) ≡ branched (at x [] (branch_by o (integer t).is_signed left right one other) l w) (Some (holds_of o a b)) one other
   branch_compares x comparison.Less left right one other l w sa sb =
       let c = at x [] (branch_by comparison.Less (integer t).is_signed left right one other) l w in
-      ap (λ h. branched c h one other) (ap (λ v. holds (is_live w.memory) (less (integer t).is_signed) v (value x.unit.statics l.names right)) sa ∙ ap (holds (is_live w.memory) (less (integer t).is_signed) (Number (word_of a))) sb
-      ∙ less_test (is_live w.memory) (integer t).is_signed (Number (word_of a)) (Number (word_of b)) ∙ less_known)
+      ap (λ h. branched c h one other) (ap (λ v. holds (is_live w.memory) (less (integer t).is_signed) v (value x.unit.statics l.names right)) sa ∙ ap (holds (is_live w.memory) (less (integer t).is_signed) (Number (unsigned_bits a))) sb
+      ∙ less_test (is_live w.memory) (integer t).is_signed (Number (unsigned_bits a)) (Number (unsigned_bits b)) ∙ less_known)
   branch_compares x comparison.Greater left right one other l w sa sb =
       let c = at x [] (branch_by comparison.Greater (integer t).is_signed left right one other) l w in
-      ap (λ h. branched c h one other) (ap (λ v. holds (is_live w.memory) (less (integer t).is_signed) v (value x.unit.statics l.names left)) sb ∙ ap (holds (is_live w.memory) (less (integer t).is_signed) (Number (word_of b))) sa
-      ∙ less_test (is_live w.memory) (integer t).is_signed (Number (word_of b)) (Number (word_of a)) ∙ more_known)
+      ap (λ h. branched c h one other) (ap (λ v. holds (is_live w.memory) (less (integer t).is_signed) v (value x.unit.statics l.names left)) sb ∙ ap (holds (is_live w.memory) (less (integer t).is_signed) (Number (unsigned_bits b))) sa
+      ∙ less_test (is_live w.memory) (integer t).is_signed (Number (unsigned_bits b)) (Number (unsigned_bits a)) ∙ more_known)
   branch_compares x comparison.LessEqual left right one other l w sa sb =
       let c = at x [] (branch_by comparison.LessEqual (integer t).is_signed left right one other) l w in
-      ap (λ h. branched c h one other) (ap (λ v. holds (is_live w.memory) (not_less (integer t).is_signed) v (value x.unit.statics l.names left)) sb ∙ ap (holds (is_live w.memory) (not_less (integer t).is_signed) (Number (word_of b))) sa
-      ∙ not_less_test (is_live w.memory) (integer t).is_signed (Number (word_of b)) (Number (word_of a)) ∙ ap (option_map not) more_known ∙ ap Some (at_most_is a b))
+      ap (λ h. branched c h one other) (ap (λ v. holds (is_live w.memory) (not_less (integer t).is_signed) v (value x.unit.statics l.names left)) sb ∙ ap (holds (is_live w.memory) (not_less (integer t).is_signed) (Number (unsigned_bits b))) sa
+      ∙ not_less_test (is_live w.memory) (integer t).is_signed (Number (unsigned_bits b)) (Number (unsigned_bits a)) ∙ ap (option_map not) more_known ∙ ap Some (at_most_is a b))
   branch_compares x comparison.GreaterEqual left right one other l w sa sb =
       let c = at x [] (branch_by comparison.GreaterEqual (integer t).is_signed left right one other) l w in
-      ap (λ h. branched c h one other) (ap (λ v. holds (is_live w.memory) (not_less (integer t).is_signed) v (value x.unit.statics l.names right)) sa ∙ ap (holds (is_live w.memory) (not_less (integer t).is_signed) (Number (word_of a))) sb
-      ∙ not_less_test (is_live w.memory) (integer t).is_signed (Number (word_of a)) (Number (word_of b)) ∙ ap (option_map not) less_known ∙ ap Some (at_most_is b a))
+      ap (λ h. branched c h one other) (ap (λ v. holds (is_live w.memory) (not_less (integer t).is_signed) v (value x.unit.statics l.names right)) sa ∙ ap (holds (is_live w.memory) (not_less (integer t).is_signed) (Number (unsigned_bits a))) sb
+      ∙ not_less_test (is_live w.memory) (integer t).is_signed (Number (unsigned_bits a)) (Number (unsigned_bits b)) ∙ ap (option_map not) less_known ∙ ap Some (at_most_is b a))
   branch_compares x comparison.Equal left right one other l w sa sb =
       let c = at x [] (branch_by comparison.Equal (integer t).is_signed left right one other) l w in
-      ap (λ h. branched c h one other) (ap (λ v. holds (is_live w.memory) branch.Equal v (value x.unit.statics l.names right)) sa ∙ ap (holds (is_live w.memory) branch.Equal (Number (word_of a))) sb
-      ∙ equal_test (word_of a == word_of b) ∙ ap Some (equal_computes t promoted a b ha hb))
+      ap (λ h. branched c h one other) (ap (λ v. holds (is_live w.memory) branch.Equal v (value x.unit.statics l.names right)) sa ∙ ap (holds (is_live w.memory) branch.Equal (Number (unsigned_bits a))) sb
+      ∙ equal_test (unsigned_bits a == unsigned_bits b) ∙ ap Some (equal_computes t promoted a b ha hb))
   branch_compares x comparison.NotEqual left right one other l w sa sb =
       let c = at x [] (branch_by comparison.NotEqual (integer t).is_signed left right one other) l w in
-      ap (λ h. branched c h one other) (ap (λ v. holds (is_live w.memory) branch.NotEqual v (value x.unit.statics l.names right)) sa ∙ ap (holds (is_live w.memory) branch.NotEqual (Number (word_of a))) sb
-      ∙ ap (option_map not) (equal_test (word_of a == word_of b)) ∙ ap (λ q. Some (not q)) (equal_computes t promoted a b ha hb))
+      ap (λ h. branched c h one other) (ap (λ v. holds (is_live w.memory) branch.NotEqual v (value x.unit.statics l.names right)) sa ∙ ap (holds (is_live w.memory) branch.NotEqual (Number (unsigned_bits a))) sb
+      ∙ ap (option_map not) (equal_test (unsigned_bits a == unsigned_bits b)) ∙ ap (λ q. Some (not q)) (equal_computes t promoted a b ha hb))

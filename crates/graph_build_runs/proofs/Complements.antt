@@ -7,7 +7,7 @@ use Rattle.std.proofs.lemmas.Nat.{and_mask}
 use Rattle.std.proofs.lemmas.Bool.{leb-true}
 use Rattle.std.proofs.lemmas.Bool.Decides.{nat_tests}
 use Rattle.word_base.specs.Types.{holds, converted, int_type}
-use Rattle.word_base.specs.WordOperations.{operated as operated_words}
+use Rattle.word_base.specs.WordOperations.{word_operation as operated_words}
 use Rattle.word_base.specs.declared.operation.Operation.TheVariants as operation
 use Rattle.c_tree.specs.declared.types.IntegerType.{IntegerType}
 use Rattle.c_tree.specs.declared.types.IntegerType.TheVariants.{Char, SignedChar, UnsignedChar, Short, UnsignedShort, Int, UnsignedInt, Long, UnsignedLong}
@@ -20,15 +20,15 @@ use Rattle.c_type_laws.specs.Kinds.{is_promoted}
 use Rattle.c_type_laws.specs.Expressions.{kind_of}
 use Rattle.c_meaning_values.specs.declared.value.Value as source-value
 use Rattle.c_meaning_values.specs.declared.value.Value.TheVariants as source
-use Rattle.c_meaning_values.specs.Operations.{signed}
-use Rattle.c_meaning_steps.specs.States.{State, given}
+use Rattle.c_meaning_values.specs.Operations.{value_with_sign}
+use Rattle.c_meaning_steps.specs.States.{State, value_or_undefined}
 use Rattle.c_meaning.specs.Expressions.{Calls, evaluate}
 use Rattle.graph_core.specs.declared.value.Value.TheVariants.{Number}
 use Rattle.graph_core.specs.Graphs as unit
 use Rattle.graph_core.specs.Graphs.{Name, Operate}
 use Rattle.graph_core.specs.Runs.{value}
 use Rattle.graph_core.specs.Values.{operate}
-use Rattle.graph_build_names.specs.Conversions.{word_of}
+use Rattle.graph_build_names.specs.Conversions.{unsigned_bits}
 use Rattle.graph_build_layout.specs.declared.laid.Use.TheVariants.{Anywhere}
 use Rattle.graph_build_names.specs.Names.{pick}
 use Rattle.graph_build_layout.specs.Layout.{laid}
@@ -52,15 +52,15 @@ turned_bits k lt =
     let mask : bit_and k 4294967295 ≡ k % 4294967296 = and_mask k 32 in
     omega (arith, sum, mask, lt)
 
-turned_word : (z : ℤ) → word_of (negsuc 0 -ℤ z) ≡ 4294967295 - word_of z
+turned_word : (z : ℤ) → unsigned_bits (negsuc 0 -ℤ z) ≡ 4294967295 - unsigned_bits z
 turned_word (pos n) = by (negsuc 0 -ℤ pos n) refl
   where
-    by : (y : ℤ) → negsuc 0 -ℤ pos n ≡ y → word_of y ≡ 4294967295 - n % 4294967296
+    by : (y : ℤ) → negsuc 0 -ℤ pos n ≡ y → unsigned_bits y ≡ 4294967295 - n % 4294967296
     by (pos k) e = absurd (omega (arith, ints, e))
     by (negsuc k) e = omega (arith, ints, e)
 turned_word (negsuc n) = by (negsuc 0 -ℤ negsuc n) refl
   where
-    by : (y : ℤ) → negsuc 0 -ℤ negsuc n ≡ y → word_of y ≡ 4294967295 - (4294967295 - n % 4294967296)
+    by : (y : ℤ) → negsuc 0 -ℤ negsuc n ≡ y → unsigned_bits y ≡ 4294967295 - (4294967295 - n % 4294967296)
     by (pos k) e = omega (arith, ints, e)
     by (negsuc k) e = absurd (omega (arith, ints, e))
 
@@ -84,7 +84,7 @@ turned_holds (negsuc n) h = by (negsuc 0 -ℤ negsuc n) refl
     by (negsuc k) e = absurd (omega (arith, ints, e))
 
 -- its word is that of the complement
-complement_word : (t : IntegerType) → is_promoted t ≡ true → (z : ℤ) → holds (integer t) z ≡ true → word_of (converted (integer t) (negsuc 0 -ℤ z)) ≡ word_of (negsuc 0 -ℤ z)
+complement_word : (t : IntegerType) → is_promoted t ≡ true → (z : ℤ) → holds (integer t) z ≡ true → unsigned_bits (converted (integer t) (negsuc 0 -ℤ z)) ≡ unsigned_bits (negsuc 0 -ℤ z)
 complement_word Char p z h = cc
 complement_word SignedChar p z h = cc
 complement_word UnsignedChar p z h = cc
@@ -95,9 +95,9 @@ complement_word UnsignedInt p z h = word_unsigned (negsuc 0 -ℤ z)
 complement_word Long p z h = kept_word Int Int (negsuc 0 -ℤ z) refl (turned_holds z h)
 complement_word UnsignedLong p z h = word_unsigned (negsuc 0 -ℤ z)
 
-complement_computes : (t : IntegerType) → is_promoted t ≡ true → (z : ℤ) → holds (integer t) z ≡ true → operated_words operation.Xor (word_of z) 4294967295 ≡ word_of (converted (integer t) (negsuc 0 -ℤ z))
+complement_computes : (t : IntegerType) → is_promoted t ≡ true → (z : ℤ) → holds (integer t) z ≡ true → operated_words operation.Xor (unsigned_bits z) 4294967295 ≡ unsigned_bits (converted (integer t) (negsuc 0 -ℤ z))
 unfolding operated_words
-complement_computes t p z h = turned_bits (word_of z) (word_below z) ∙ sym (turned_word z) ∙ sym (complement_word t p z h)
+complement_computes t p z h = turned_bits (unsigned_bits z) (word_below z) ∙ sym (turned_word z) ∙ sym (complement_word t p z h)
 
 module _ (x : Setting) (calls : Calls) (low : ScalarsFirst x) (ty : IntegerType) (promoted : is_promoted ty ≡ true) (e : RvalueTree) (kind_e : kind_of x.program x.tree e ≡ Of (Integer ty)) (typed_e : Typed x calls e) (low_e : Low x e) (does_e : Does x calls e) where
   abbrev own_at : ℕ → ℕ
@@ -107,7 +107,7 @@ module _ (x : Setting) (calls : Calls) (low : ScalarsFirst x) (ty : IntegerType)
   last_at t g = operated (names_in x) g t (laid (names_in x) e Anywhere t).next (λ k. Operate k operation.Xor (value_in x e t) (unit.Constant 4294967295))
 
   complements : (t : ℕ) (g : Goal) (s : State) (l : Local) (w : World) → size_in x ≤ t → Fits x None s l w → (v : source-value.Value) → HasKind s.memory (Of (Integer ty)) v → SameValue x.program s.memory w.memory v (value x.unit.statics l.names (value_in x e t))
-      → Result x g (Name (own_at t)) t (λ y. false) (last_at t g).ops (last_at t g).end l w (given (signed Complement ty v) s)
+      → Result x g (Name (own_at t)) t (λ y. false) (last_at t g).ops (last_at t g).end l w (value_or_undefined (value_with_sign Complement ty v) s)
   complements t g s l w size fits (source.Number z) is same =
       let le = pick_between (names_in x) t (laid (names_in x) e Anywhere t).next t (omega arith) (low_e t size).next in
       let r = converted (integer ty) (negsuc 0 -ℤ z) in
@@ -120,6 +120,6 @@ module _ (x : Setting) (calls : Calls) (low : ScalarsFirst x) (ty : IntegerType)
   complement_does t g s l w size st sound fits aims =
       let m = last_at t g in
       let c = code_in x e t (To None m) in
-      with_then x None g m (Name (own_at t)) (value_in x e t) t t t (written_by x e) (written_by x e) (λ y. false) c.ops c.end l w (evaluate calls (depth_in x) e s) (λ v s1. given (signed Complement ty v) s1) (omega arith) (omega arith) (λ y lt nf. (refl, nf, refl))
+      with_then x None g m (Name (own_at t)) (value_in x e t) t t t (written_by x e) (written_by x e) (λ y. false) c.ops c.end l w (evaluate calls (depth_in x) e s) (λ v s1. value_or_undefined (value_with_sign Complement ty v) s1) (omega arith) (omega arith) (λ y lt nf. (refl, nf, refl))
       (does_e t (To None m) s l w size st sound fits tt)
       (λ v s1 is h. (let gave = subst (Keeps x.program x.begun s.memory (Of (Integer ty))) is (subst (λ k. Keeps x.program x.begun s.memory k (evaluate calls (depth_in x) e s)) kind_e (typed_e s sound)) in complements t g s1 h.reached.local h.reached.world size h.reached.fits v gave.is h.same))

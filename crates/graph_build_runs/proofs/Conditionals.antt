@@ -5,7 +5,7 @@ use Rattle.c_tree.specs.TypedExpressions.{RvalueTree, Conditional}
 use Rattle.c_type_laws.specs.Expressions.{kind_of}
 use Rattle.c_type_laws.specs.Kind.{Kind}
 use Rattle.c_meaning_values.specs.declared.value.Value as source-value
-use Rattle.c_meaning_steps.specs.States.{State, Evaluated, Gives, Leaves, Ends, Tested, Holds, Fails, NoTest, tested, on_test}
+use Rattle.c_meaning_steps.specs.States.{State, Evaluated, Gives, Leaves, Ends, Tested, Holds, Fails, NoTest, condition_tested, on_test}
 use Rattle.c_meaning.specs.Expressions.{Calls, evaluate}
 use Rattle.c_type_rules.specs.ValueTypes.{type_of, is_void}
 use Rattle.graph_core.specs.Graphs.{Operand, Name, Instruction, End, Jump, Block}
@@ -16,7 +16,7 @@ use Rattle.graph_build_names.specs.Names.{Names, pick}
 use Rattle.graph_build_layout.specs.Laid.{Laid, behind_move, void_arms_laid, arms_laid}
 use Rattle.graph_build_layout.specs.Layout.{laid}
 use Rattle.graph_build_names.specs.Writes.{writes}
-use Rattle.graph_build_steps.specs.Drafts.{Made, Goal, To, Unused, Either, ending, leaf, closed, label_of}
+use Rattle.graph_build_steps.specs.Drafts.{Made, Goal, To, Unused, Either, ending, leaf, with_inner_block, label_of}
 use Rattle.graph_build_steps.specs.Steps.{arm_use, arm_value, arm_goal}
 use Rattle.graph_build_runs.specs.Correspondence.{SameValue}
 use Rattle.graph_build_runs.proofs.Leads.{Setting, names_in, size_in, depth_in, Local, World, at, Leads, stays, goes, then_leads, less_other, in_block}
@@ -69,13 +69,13 @@ module _ (x : Setting) (calls : Calls) (low : ScalarsFirst x) (c a b : RvalueTre
   join_in t g = leaf g (Name t)
 
   abbrev other_in : ℕ → Goal → Made
-  other_in t g = code_in x b (from_b t) (To (Some t) (ending (Jump (label_of x.top (join_in t g))) (closed x.place (join_in t g))))
+  other_in t g = code_in x b (from_b t) (To (Some t) (ending (Jump (label_of x.top (join_in t g))) (with_inner_block x.place (join_in t g))))
 
   abbrev one_in : ℕ → Goal → Made
-  one_in t g = code_in x a (from_a t) (To (Some t) (ending (Jump (label_of x.top (join_in t g))) (closed x.place (other_in t g))))
+  one_in t g = code_in x a (from_a t) (To (Some t) (ending (Jump (label_of x.top (join_in t g))) (with_inner_block x.place (other_in t g))))
 
   abbrev test_in : ℕ → Goal → Made
-  test_in t g = code_in x c (t + 1) (Either (label_of x.top (one_in t g)) (label_of x.top (other_in t g)) (closed x.place (one_in t g)))
+  test_in t g = code_in x c (t + 1) (Either (label_of x.top (one_in t g)) (label_of x.top (other_in t g)) (with_inner_block x.place (one_in t g)))
 
   abbrev all_written : ℕ → Bool
   all_written y = writes (names_in x) y c || writes (names_in x) y a || writes (names_in x) y b
@@ -90,14 +90,14 @@ module _ (x : Setting) (calls : Calls) (low : ScalarsFirst x) (c a b : RvalueTre
         let top = tops_a t (from_a t) (omega (arith, size, le)) in
         pick_between (names_in x) (t + 1) (laid (names_in x) a (In t) (from_a t)).top (t + 1) (omega arith) (omega (arith, le, top))
 
-    one_stands : Stands x.graph x.top (closed x.place (one_in t g))
-    one_stands = grows_c (t + 1) (Either (label_of x.top (one_in t g)) (label_of x.top (other_in t g)) (closed x.place (one_in t g))) st
+    one_stands : Stands x.graph x.top (with_inner_block x.place (one_in t g))
+    one_stands = grows_c (t + 1) (Either (label_of x.top (one_in t g)) (label_of x.top (other_in t g)) (with_inner_block x.place (one_in t g))) st
 
-    other_stands : Stands x.graph x.top (closed x.place (other_in t g))
-    other_stands = grows_a (from_a t) (To (Some t) (ending (Jump (label_of x.top (join_in t g))) (closed x.place (other_in t g)))) (closed_inner x.graph x.top x.place (one_in t g) one_stands)
+    other_stands : Stands x.graph x.top (with_inner_block x.place (other_in t g))
+    other_stands = grows_a (from_a t) (To (Some t) (ending (Jump (label_of x.top (join_in t g))) (with_inner_block x.place (other_in t g)))) (closed_inner x.graph x.top x.place (one_in t g) one_stands)
 
-    join_stands : Stands x.graph x.top (closed x.place (join_in t g))
-    join_stands = grows_b (from_b t) (To (Some t) (ending (Jump (label_of x.top (join_in t g))) (closed x.place (join_in t g)))) (closed_inner x.graph x.top x.place (other_in t g) other_stands)
+    join_stands : Stands x.graph x.top (with_inner_block x.place (join_in t g))
+    join_stands = grows_b (from_b t) (To (Some t) (ending (Jump (label_of x.top (join_in t g))) (with_inner_block x.place (join_in t g)))) (closed_inner x.graph x.top x.place (other_in t g) other_stands)
 
     -- behind the condition an arm decides
     arm_decides : (e : RvalueTree) (from : ℕ) (inner : List Block) (m : Made) → Typed x calls e → t + 1 ≤ from → ((y : ℕ) → all_written y ≡ false → writes (names_in x) y e ≡ false) → m ≡ code_in x e from (To (Some t) (ending (Jump (label_of x.top (join_in t g))) inner))
@@ -126,9 +126,9 @@ module _ (x : Setting) (calls : Calls) (low : ScalarsFirst x) (c a b : RvalueTre
     decides : (r : Tested) → KeepsTest x.program x.begun s.memory r → EitherR x (label_of x.top (one_in t g)) (label_of x.top (other_in t g)) (t + 1) (written_by x c) (test_in t g).ops (test_in t g).end l w r
         → Result x g (Name t) t all_written (test_in t g).ops (test_in t g).end l w (on_test r (evaluate calls (depth_in x) a) (evaluate calls (depth_in x) b))
     decides (Holds s1) keeps h =
-        arm_decides a (from_a t) (closed x.place (other_in t g)) (one_in t g) typed_a above_a spares_a refl (closed_block x.graph x.top x.place (one_in t g) one_stands) (closed_inner x.graph x.top x.place (one_in t g) one_stands) does_a s1 keeps h
+        arm_decides a (from_a t) (with_inner_block x.place (other_in t g)) (one_in t g) typed_a above_a spares_a refl (closed_block x.graph x.top x.place (one_in t g) one_stands) (closed_inner x.graph x.top x.place (one_in t g) one_stands) does_a s1 keeps h
     decides (Fails s1) keeps h =
-        arm_decides b (from_b t) (closed x.place (join_in t g)) (other_in t g) typed_b above_b spares_b refl (closed_block x.graph x.top x.place (other_in t g) other_stands) (closed_inner x.graph x.top x.place (other_in t g) other_stands) does_b s1 keeps h
+        arm_decides b (from_b t) (with_inner_block x.place (join_in t g)) (other_in t g) typed_b above_b spares_b refl (closed_block x.graph x.top x.place (other_in t g) other_stands) (closed_inner x.graph x.top x.place (other_in t g) other_stands) does_b s1 keeps h
     decides (NoTest e s1) keeps h = ended_result x g (Name t) t all_written (test_in t g).ops (test_in t g).end l w e s1 h
 
   -- the code where a value is chosen, and where nothing is
@@ -137,9 +137,9 @@ module _ (x : Setting) (calls : Calls) (low : ScalarsFirst x) (c a b : RvalueTre
       let at = behind_move (not void) t in
       let at_a = pick (names_in x) at (laid (names_in x) c UseTested at).top in let at_b = pick (names_in x) at (laid (names_in x) a (arm_use void t) at_a).top in
       let m = leaf g (arm_value void t) in
-      let y = code_in x b at_b (arm_goal void t (ending (Jump (label_of x.top m)) (closed x.place m))) in
-      let z = code_in x a at_a (arm_goal void t (ending (Jump (label_of x.top m)) (closed x.place y))) in
-      code_in x c at (Either (label_of x.top z) (label_of x.top y) (closed x.place z))
+      let y = code_in x b at_b (arm_goal void t (ending (Jump (label_of x.top m)) (with_inner_block x.place m))) in
+      let z = code_in x a at_a (arm_goal void t (ending (Jump (label_of x.top m)) (with_inner_block x.place y))) in
+      code_in x c at (Either (label_of x.top z) (label_of x.top y) (with_inner_block x.place z))
 
   abbrev laid_by : Bool → ℕ → Laid
   laid_by void t =
@@ -149,5 +149,5 @@ module _ (x : Setting) (calls : Calls) (low : ScalarsFirst x) (c a b : RvalueTre
   pub conditional_does : Does x calls (Conditional c a b)
   conditional_does t g s l w size st sound fits aims =
       subst (λ void. Stands x.graph x.top (choice_by void t g).inner → Result x g (laid_by void t).value t all_written (choice_by void t g).ops (choice_by void t g).end l w (evaluate calls (depth_in x) (Conditional c a b) s)) (sym whole)
-      (λ st'. decides t g s l w size st' sound fits (tested (evaluate calls (depth_in x) c s)) (keeps_tested x.program x.begun s.memory (kind_of x.program x.tree c) (evaluate calls (depth_in x) c s) (typed_c s sound))
-      (does_c (t + 1) (Either (label_of x.top (one_in t g)) (label_of x.top (other_in t g)) (closed x.place (one_in t g))) s l w (omega (arith, size)) st' sound fits tt)) st
+      (λ st'. decides t g s l w size st' sound fits (condition_tested (evaluate calls (depth_in x) c s)) (keeps_tested x.program x.begun s.memory (kind_of x.program x.tree c) (evaluate calls (depth_in x) c s) (typed_c s sound))
+      (does_c (t + 1) (Either (label_of x.top (one_in t g)) (label_of x.top (other_in t g)) (with_inner_block x.place (one_in t g))) s l w (omega (arith, size)) st' sound fits tt)) st

@@ -4,12 +4,12 @@ use Rattle.std.specs.Prelude.{◌==◌, if◌then◌else◌, int_le, nat_le, nat
 use Rattle.std.proofs.lemmas.Bool.{leb-true, eqb-true}
 use Rattle.std.proofs.lemmas.Bool.Decides.{nat_tests}
 use Rattle.std.proofs.lemmas.Int.{ints}
-use Rattle.word_base.specs.Types.{holds, least, greatest, converted, number_of, bits_of, modulo, int_type, unsigned_type, short_type, signed_char_type}
+use Rattle.word_base.specs.Types.{holds, least_number, greatest, converted, number_of_bits, bits_of, modulo, int_type, unsigned_type, short_type, signed_char_type}
 use Rattle.word_base.specs.WordOperations.{truncated, sign_extended}
 use Rattle.c_tree.specs.declared.types.IntegerType.{IntegerType}
 use Rattle.c_tree.specs.declared.types.IntegerType.TheVariants.{Char, SignedChar, UnsignedChar, Short, UnsignedShort, Int, UnsignedInt, Long, UnsignedLong}
 use Rattle.c_type_rules.specs.Integers.{integer, wrapped}
-use Rattle.graph_build_names.specs.Conversions.{word_of, is_narrow, is_within, keeps_bits}
+use Rattle.graph_build_names.specs.Conversions.{unsigned_bits, is_narrow, is_within, keeps_bits}
 use Rattle.graph_build_steps.specs.Rules.{truncation_to}
 use Rattle.graph_build_runs.proofs.Words.{both_true, word_unsigned}
 
@@ -24,9 +24,9 @@ int_le_trans (negsuc a) (negsuc b) (negsuc c) h k = let x : b ≤ a = leb-true b
 -- a number of a type is one of a type that has all its numbers
 within_holds : (t u : IntegerType) (z : ℤ) → is_within t u ≡ true → holds (integer t) z ≡ true → holds (integer u) z ≡ true
 within_holds t u z w h =
-    let a = both_true (int_le (least (integer u)) (least (integer t))) (int_le (greatest (integer t)) (greatest (integer u))) w in
-    let b = both_true (int_le (least (integer t)) z) (int_le z (greatest (integer t))) h in
-    both (int_le (least (integer u)) z) (int_le z (greatest (integer u))) (int_le_trans (least (integer u)) (least (integer t)) z a.0 b.0) (int_le_trans z (greatest (integer t)) (greatest (integer u)) b.1 a.1)
+    let a = both_true (int_le (least_number (integer u)) (least_number (integer t))) (int_le (greatest (integer t)) (greatest (integer u))) w in
+    let b = both_true (int_le (least_number (integer t)) z) (int_le z (greatest (integer t))) h in
+    both (int_le (least_number (integer u)) z) (int_le z (greatest (integer u))) (int_le_trans (least_number (integer u)) (least_number (integer t)) z a.0 b.0) (int_le_trans z (greatest (integer t)) (greatest (integer u)) b.1 a.1)
   where
     both : (a b : Bool) → a ≡ true → b ≡ true → a && b ≡ true
     both true b ha hb = hb
@@ -70,27 +70,27 @@ kept_number Long z w h = cc
 kept_number UnsignedLong z w h = cc
 
 -- a number converted to 32 bits with a sign has the same word
-word_int : (z : ℤ) → word_of (converted int_type z) ≡ word_of z
-word_int z = go (nat_le 2147483648 (word_of z)) refl
+word_int : (z : ℤ) → unsigned_bits (converted int_type z) ≡ unsigned_bits z
+word_int z = go (nat_le 2147483648 (unsigned_bits z)) refl
   where
-    below : (z : ℤ) → word_of z < 4294967296
+    below : (z : ℤ) → unsigned_bits z < 4294967296
     below (pos n) = omega arith
     below (negsuc n) = omega arith
 
-    high : (k : ℕ) → 2147483648 ≤ k → k < 4294967296 → (y : ℤ) → pos k -ℤ pos 4294967296 ≡ y → word_of y ≡ k
+    high : (k : ℕ) → 2147483648 ≤ k → k < 4294967296 → (y : ℤ) → pos k -ℤ pos 4294967296 ≡ y → unsigned_bits y ≡ k
     high k le lt (pos n) e = absurd (omega (arith, ints, le, lt, e))
     high k le lt (negsuc n) e = omega (arith, ints, le, lt, e)
 
-    go : (b : Bool) → nat_le 2147483648 (word_of z) ≡ b → word_of (converted int_type z) ≡ word_of z
+    go : (b : Bool) → nat_le 2147483648 (unsigned_bits z) ≡ b → unsigned_bits (converted int_type z) ≡ unsigned_bits z
     go true e =
         let lt = below z in
-        ap (λ b. word_of (if b then pos (word_of z) -ℤ pos 4294967296 else pos (word_of z))) e ∙ high (word_of z) (leb-true 2147483648 (word_of z) e) lt (pos (word_of z) -ℤ pos 4294967296) refl
+        ap (λ b. unsigned_bits (if b then pos (unsigned_bits z) -ℤ pos 4294967296 else pos (unsigned_bits z))) e ∙ high (unsigned_bits z) (leb-true 2147483648 (unsigned_bits z) e) lt (pos (unsigned_bits z) -ℤ pos 4294967296) refl
     go false e =
         let lt = below z in
-        let small : word_of z % 4294967296 ≡ word_of z = omega (arith, lt) in
-        ap (λ b. word_of (if b then pos (word_of z) -ℤ pos 4294967296 else pos (word_of z))) e ∙ small
+        let small : unsigned_bits z % 4294967296 ≡ unsigned_bits z = omega (arith, lt) in
+        ap (λ b. unsigned_bits (if b then pos (unsigned_bits z) -ℤ pos 4294967296 else pos (unsigned_bits z))) e ∙ small
 
-wide_word : (u : IntegerType) (z : ℤ) → is_narrow u ≡ false → word_of (wrapped u z) ≡ word_of z
+wide_word : (u : IntegerType) (z : ℤ) → is_narrow u ≡ false → unsigned_bits (wrapped u z) ≡ unsigned_bits z
 wide_word Char z w = cc
 wide_word SignedChar z w = cc
 wide_word UnsignedChar z w = cc
@@ -102,20 +102,20 @@ wide_word Long z w = word_int z
 wide_word UnsignedLong z w = word_unsigned z
 
 -- A conversion that keeps bits changes no word of a number of its type.
-pub kept_word : (t u : IntegerType) (z : ℤ) → keeps_bits t u ≡ true → holds (integer t) z ≡ true → word_of (wrapped u z) ≡ word_of z
+pub kept_word : (t u : IntegerType) (z : ℤ) → keeps_bits t u ≡ true → holds (integer t) z ≡ true → unsigned_bits (wrapped u z) ≡ unsigned_bits z
 kept_word t u z k h = go (is_narrow u) refl k
   where
-    go : (b : Bool) → is_narrow u ≡ b → not b || is_within t u ≡ true → word_of (wrapped u z) ≡ word_of z
-    go true e k = ap word_of (kept_number u z e (within_holds t u z k h))
+    go : (b : Bool) → is_narrow u ≡ b → not b || is_within t u ≡ true → unsigned_bits (wrapped u z) ≡ unsigned_bits z
+    go true e k = ap unsigned_bits (kept_number u z e (within_holds t u z k h))
     go false e k = wide_word u z e
 
 -- the word of a number below 0, by its bits
-below_zero : (range k : ℕ) → k < range → range ≤ 4294967296 → (y : ℤ) → pos k -ℤ pos range ≡ y → word_of y ≡ k + (4294967296 - range)
+below_zero : (range k : ℕ) → k < range → range ≤ 4294967296 → (y : ℤ) → pos k -ℤ pos range ≡ y → unsigned_bits y ≡ k + (4294967296 - range)
 below_zero range k lt le (pos n) e = absurd (omega (arith, ints, le, lt, e))
 below_zero range k lt le (negsuc n) e = omega (arith, ints, le, lt, e)
 
 -- a truncation to a type with a sign
-signed_truncation : (low range half : ℕ) → low < range → range ≤ 4294967296 → half ≡ range / 2 → (b : Bool) → nat_le half low ≡ b → sign_extended low range ≡ word_of (if b then pos low -ℤ pos range else pos low)
+signed_truncation : (low range half : ℕ) → low < range → range ≤ 4294967296 → half ≡ range / 2 → (b : Bool) → nat_le half low ≡ b → sign_extended low range ≡ unsigned_bits (if b then pos low -ℤ pos range else pos low)
 signed_truncation low range half lt le halved true e =
     let above = leb-true half low e in
     let no : nat_lt low (range / 2) ≡ false = grind (arith, nat_tests, above, halved) in
@@ -126,11 +126,11 @@ signed_truncation low range half lt le halved false e =
     let small : low ≡ low % 4294967296 = omega (arith, lt, le) in
     ap (λ c. if c then low else low + (4294967296 - range)) yes ∙ small
 
-byte_bits : (z : ℤ) → word_of z % 256 ≡ modulo 256 z
+byte_bits : (z : ℤ) → unsigned_bits z % 256 ≡ modulo 256 z
 byte_bits (pos n) = omega arith
 byte_bits (negsuc n) = omega arith
 
-half_bits : (z : ℤ) → word_of z % 65536 ≡ modulo 65536 z
+half_bits : (z : ℤ) → unsigned_bits z % 65536 ≡ modulo 65536 z
 half_bits (pos n) = omega arith
 half_bits (negsuc n) = omega arith
 
@@ -143,7 +143,7 @@ half_below (pos n) = omega arith
 half_below (negsuc n) = omega arith
 
 -- What a truncation to a narrow type leaves of a word is the word of the converted number.
-pub truncated_word : (u : IntegerType) (z : ℤ) → is_narrow u ≡ true → truncated (truncation_to u) (word_of z) ≡ word_of (wrapped u z)
+pub truncated_word : (u : IntegerType) (z : ℤ) → is_narrow u ≡ true → truncated (truncation_to u) (unsigned_bits z) ≡ unsigned_bits (wrapped u z)
 unfolding truncated
 truncated_word Char z w = let lt = byte_below z in byte_bits z ∙ omega (arith, lt)
 truncated_word UnsignedChar z w = let lt = byte_below z in byte_bits z ∙ omega (arith, lt)
@@ -160,29 +160,29 @@ truncated_word Long z w = cc
 truncated_word UnsignedLong z w = cc
 
 -- a number and its word are converted alike
-pub converted_word : (u : IntegerType) (z : ℤ) → wrapped u z ≡ wrapped u (pos (word_of z))
-converted_word Char z = ap (number_of (integer Char)) (sym (byte_bits z))
-converted_word UnsignedChar z = ap (number_of (integer Char)) (sym (byte_bits z))
-converted_word SignedChar z = ap (number_of (integer SignedChar)) (sym (byte_bits z))
-converted_word Short z = ap (number_of (integer Short)) (sym (half_bits z))
-converted_word UnsignedShort z = ap (number_of (integer UnsignedShort)) (sym (half_bits z))
-converted_word Int z = ap (number_of (integer Int)) (whole z)
+pub converted_word : (u : IntegerType) (z : ℤ) → wrapped u z ≡ wrapped u (pos (unsigned_bits z))
+converted_word Char z = ap (number_of_bits (integer Char)) (sym (byte_bits z))
+converted_word UnsignedChar z = ap (number_of_bits (integer Char)) (sym (byte_bits z))
+converted_word SignedChar z = ap (number_of_bits (integer SignedChar)) (sym (byte_bits z))
+converted_word Short z = ap (number_of_bits (integer Short)) (sym (half_bits z))
+converted_word UnsignedShort z = ap (number_of_bits (integer UnsignedShort)) (sym (half_bits z))
+converted_word Int z = ap (number_of_bits (integer Int)) (whole z)
   where
-    whole : (z : ℤ) → word_of z ≡ word_of z % 4294967296
+    whole : (z : ℤ) → unsigned_bits z ≡ unsigned_bits z % 4294967296
     whole (pos n) = omega arith
     whole (negsuc n) = omega arith
-converted_word UnsignedInt z = ap (number_of (integer UnsignedInt)) (whole z)
+converted_word UnsignedInt z = ap (number_of_bits (integer UnsignedInt)) (whole z)
   where
-    whole : (z : ℤ) → word_of z ≡ word_of z % 4294967296
+    whole : (z : ℤ) → unsigned_bits z ≡ unsigned_bits z % 4294967296
     whole (pos n) = omega arith
     whole (negsuc n) = omega arith
-converted_word Long z = ap (number_of (integer Int)) (whole z)
+converted_word Long z = ap (number_of_bits (integer Int)) (whole z)
   where
-    whole : (z : ℤ) → word_of z ≡ word_of z % 4294967296
+    whole : (z : ℤ) → unsigned_bits z ≡ unsigned_bits z % 4294967296
     whole (pos n) = omega arith
     whole (negsuc n) = omega arith
-converted_word UnsignedLong z = ap (number_of (integer UnsignedInt)) (whole z)
+converted_word UnsignedLong z = ap (number_of_bits (integer UnsignedInt)) (whole z)
   where
-    whole : (z : ℤ) → word_of z ≡ word_of z % 4294967296
+    whole : (z : ℤ) → unsigned_bits z ≡ unsigned_bits z % 4294967296
     whole (pos n) = omega arith
     whole (negsuc n) = omega arith

@@ -15,7 +15,7 @@ use Rattle.c_meaning_values.specs.declared.value.Value.TheVariants as source
 use Rattle.c_meaning_steps.specs.declared.event.Ending.TheVariants as ending
 use Rattle.c_meaning_values.specs.Memory.{Memory}
 use Rattle.c_meaning_values.specs.Operations.{convert}
-use Rattle.c_meaning_steps.specs.States.{State, Evaluated, Gives, Leaves, Ends, given, mapped, tested}
+use Rattle.c_meaning_steps.specs.States.{State, Evaluated, Gives, Leaves, Ends, value_or_undefined, mapped, condition_tested}
 use Rattle.c_meaning.specs.Expressions.{Calls, evaluate}
 use Rattle.graph_core.specs.declared.value.Value.{Value}
 use Rattle.graph_core.specs.declared.value.Value.TheVariants.{Number}
@@ -23,13 +23,13 @@ use Rattle.graph_core.specs.Graphs as unit
 use Rattle.graph_core.specs.Graphs.{Operand, Name, Truncate, Instruction, End}
 use Rattle.graph_core.specs.Runs.{Goes, step, value}
 use Rattle.graph_core.specs.Values.{truncate}
-use Rattle.graph_build_names.specs.Conversions.{word_of, is_narrow, is_within, keeps_bits, is_kept_constant}
+use Rattle.graph_build_names.specs.Conversions.{unsigned_bits, is_narrow, is_within, keeps_bits, is_kept_constant}
 use Rattle.graph_build_layout.specs.declared.laid.Use.TheVariants.{Anywhere}
 use Rattle.graph_build_names.specs.Names.{pick}
 use Rattle.graph_build_layout.specs.Laid.{Laid, as_value, converted_laid, standing, operation_laid}
 use Rattle.graph_build_layout.specs.Layout.{laid}
 use Rattle.graph_build_steps.specs.Rules.{truncation_to}
-use Rattle.graph_build_steps.specs.Drafts.{Made, Goal, To, Unused, Either, before, leaf, target, follow, valued, operated, tested as tested_code}
+use Rattle.graph_build_steps.specs.Drafts.{Made, Goal, To, Unused, Either, instruction_before, leaf, target, follow, valued, operated, tested as tested_code}
 use Rattle.graph_build_runs.specs.Correspondence.{SameValue}
 use Rattle.graph_build_runs.proofs.Words.{InWord, in_word}
 use Rattle.graph_build_runs.proofs.Converting.{kept_word, truncated_word, converted_word}
@@ -46,7 +46,7 @@ use Rattle.graph_build_runs.proofs.Arithmetic.{pick_between}
 
 -- an instruction writes a name, and there is no value
 pub left_operated : (x : Setting) (g : Goal) (own t : ℕ) (f : ℕ → Bool) (i : ℕ → Instruction) (given_word : Value) (a : Operand) (s : State) (l : Local) (w : World) → ScalarsFirst x → t ≤ own → size_in x ≤ own → Fits x None s l w → Writes x i given_word l w
-    → Result x g a t f (before (i (target g own)) (follow g own)).ops (before (i (target g own)) (follow g own)).end l w (Leaves s)
+    → Result x g a t f (instruction_before (i (target g own)) (follow g own)).ops (instruction_before (i (target g own)) (follow g own)).end l w (Leaves s)
 left_operated x (To None m) own t f i given_word a s l w low le size fits writes =
     record { local = set_name l own given_word; world = w; leads = goes (writes own m.ops m.end) stays; fits = fits_temporary x s l w own given_word low fits size; kept = λ y lt nw nf. put_elsewhere l.names own y given_word (less_other y own (omega (arith, lt, le))); later = others_refl w.memory }
 left_operated x (To (Some k) m) own t f i given_word a s l w low le size fits writes =
@@ -54,14 +54,14 @@ left_operated x (To (Some k) m) own t f i given_word a s l w low le size fits wr
 left_operated x (Unused m) own t f i given_word a s l w low le size fits writes =
     record { local = set_name l own given_word; world = w; leads = goes (writes own m.ops m.end) stays; fits = fits_temporary x s l w own given_word low fits size; kept = λ y lt nw nf. put_elsewhere l.names own y given_word (less_other y own (omega (arith, lt, le))); later = others_refl w.memory }
 left_operated x (Either one other inner) own t f i given_word a s l w low le size fits writes =
-    stuck_now x None (before (i own) (follow (Either one other inner) own)).ops (before (i own) (follow (Either one other inner) own)).end s l w fits
+    stuck_now x None (instruction_before (i own) (follow (Either one other inner) own)).ops (instruction_before (i own) (follow (Either one other inner) own)).end s l w fits
 
 -- The value of an expression, if it has one, becomes another.
 pub mapped_then : (x : Setting) (g : Goal) (m : Made) (a a1 : Operand) (t : ℕ) (f : ℕ → Bool) (ops : List Instruction) (end : End) (l : Local) (w : World) (r : Evaluated) (change : source-value.Value → Option source-value.Value) → ToR x None m a1 t f ops end l w r
-    → ((v : source-value.Value) (s : State) → r ≡ Gives v s → (h : Valued x None m a1 t f ops end l w v s) → Result x g a t f m.ops m.end h.reached.local h.reached.world (given (change v) s))
+    → ((v : source-value.Value) (s : State) → r ≡ Gives v s → (h : Valued x None m a1 t f ops end l w v s) → Result x g a t f m.ops m.end h.reached.local h.reached.world (value_or_undefined (change v) s))
     → ((s : State) → (h : Reached x None t f l w (to_made x ops end l w m) s) → Result x g a t f m.ops m.end h.local h.world (Leaves s)) → Result x g a t f ops end l w (mapped r change)
 mapped_then x g m a a1 t f ops end l w (Gives v s) change h go_on left =
-    result_after x t t f f ops m.ops end m.end l h.reached.local w h.reached.world h.reached.leads (λ y lt nf. (lt, nf, h.reached.kept y lt refl nf)) h.reached.later g a (given (change v) s) (go_on v s refl h)
+    result_after x t t f f ops m.ops end m.end l h.reached.local w h.reached.world h.reached.leads (λ y lt nf. (lt, nf, h.reached.kept y lt refl nf)) h.reached.later g a (value_or_undefined (change v) s) (go_on v s refl h)
 mapped_then x g m a a1 t f ops end l w (Leaves s) change h go_on left =
     result_after x t t f f ops m.ops end m.end l h.local w h.world h.leads (λ y lt nf. (lt, nf, h.kept y lt refl nf)) h.later g a (Leaves s) (left s h)
 mapped_then x g m a a1 t f ops end l w (Ends e s) change h go_on left = ended_result x g a t f ops end l w e s h
@@ -88,8 +88,8 @@ module _ (x : Setting) (calls : Calls) (low : ScalarsFirst x) (from ty : Integer
     kept_unused m before_memory (Ends c s) k h = h
 
   -- a value of a number that is converted, in its place
-  converts_number : (g : Goal) (a : Operand) (t : ℕ) (f : ℕ → Bool) (m : Made) (s : State) (l : Local) (w : World) → ((z : ℤ) → holds (integer from) z ≡ true → value x.unit.statics l.names (value_in x e t) ≡ Number (word_of z) → Result x g a t f m.ops m.end l w (Gives (source.Number (wrapped ty z)) s))
-      → (v : source-value.Value) → HasKind s.memory (Of (Integer from)) v → SameValue x.program s.memory w.memory v (value x.unit.statics l.names (value_in x e t)) → Result x g a t f m.ops m.end l w (given (convert ty v) s)
+  converts_number : (g : Goal) (a : Operand) (t : ℕ) (f : ℕ → Bool) (m : Made) (s : State) (l : Local) (w : World) → ((z : ℤ) → holds (integer from) z ≡ true → value x.unit.statics l.names (value_in x e t) ≡ Number (unsigned_bits z) → Result x g a t f m.ops m.end l w (Gives (source.Number (wrapped ty z)) s))
+      → (v : source-value.Value) → HasKind s.memory (Of (Integer from)) v → SameValue x.program s.memory w.memory v (value x.unit.statics l.names (value_in x e t)) → Result x g a t f m.ops m.end l w (value_or_undefined (convert ty v) s)
   converts_number g a t f m s l w go_on (source.Number z) is same = go_on z is same
   converts_number g a t f m s l w go_on source.Null is same = absurd is
   converts_number g a t f m s l w go_on (source.Pointer n o) is same = absurd is
@@ -125,15 +125,15 @@ module _ (x : Setting) (calls : Calls) (low : ScalarsFirst x) (from ty : Integer
   stands_by t b = if b then value_in x e t else Name (pick (names_in x) t (laid (names_in x) e Anywhere t).next)
 
   -- a constant whose word stays
-  constant_stays : (a : Operand) (z : ℤ) (l : Local) → is_kept_constant ty a ≡ true → value x.unit.statics l.names a ≡ Number (word_of z) → value x.unit.statics l.names a ≡ Number (word_of (wrapped ty z))
+  constant_stays : (a : Operand) (z : ℤ) (l : Local) → is_kept_constant ty a ≡ true → value x.unit.statics l.names a ≡ Number (unsigned_bits z) → value x.unit.statics l.names a ≡ Number (unsigned_bits (wrapped ty z))
   constant_stays (unit.Constant k) z l is same =
-      let word : k ≡ word_of z = cc in
-      let kept = eqb-true (word_of (wrapped ty (pos k))) k is in
-      ap Number (sym kept ∙ ap (λ j. word_of (wrapped ty (pos j))) word ∙ ap word_of (sym (converted_word ty z)))
+      let word : k ≡ unsigned_bits z = cc in
+      let kept = eqb-true (unsigned_bits (wrapped ty (pos k))) k is in
+      ap Number (sym kept ∙ ap (λ j. unsigned_bits (wrapped ty (pos j))) word ∙ ap unsigned_bits (sym (converted_word ty z)))
   constant_stays (Name y) z l is same = cc
   constant_stays (unit.StaticAddress o k) z l is same = cc
 
-  changes : is_narrow ty ≡ true → (t : ℕ) (g : Goal) (s : State) (l : Local) (w : World) → size_in x ≤ t → Fits x None s l w → (z : ℤ) → value x.unit.statics l.names (value_in x e t) ≡ Number (word_of z) → (b : Bool) → is_kept_constant ty (value_in x e t) ≡ b
+  changes : is_narrow ty ≡ true → (t : ℕ) (g : Goal) (s : State) (l : Local) (w : World) → size_in x ≤ t → Fits x None s l w → (z : ℤ) → value x.unit.statics l.names (value_in x e t) ≡ Number (unsigned_bits z) → (b : Bool) → is_kept_constant ty (value_in x e t) ≡ b
       → Result x g (stands_by t b) t (written_by x e) (last_by t g b).ops (last_by t g b).end l w (Gives (source.Number (wrapped ty z)) s)
   changes narrow t g s l w size fits z same true is = leaf_done x g (value_in x e t) t (written_by x e) (source.Number (wrapped ty z)) s l w fits (constant_stays (value_in x e t) z l is same) (in_ty z)
   changes narrow t g s l w size fits z same false is =

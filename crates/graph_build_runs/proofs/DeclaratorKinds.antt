@@ -12,13 +12,13 @@ use Rattle.c_tree.specs.TypedExpressions.{RvalueTree, Convert}
 use Rattle.c_tree.specs.TypedStatements.{InitialTree, Zero, Scalar as scalar-initial, Elements, Literal, DeclaredTree}
 use Rattle.c_tree.specs.Programs.{AutomaticTree, LiteralTree}
 use Rattle.c_type_rules.specs.Integers.{scalar_size as type_size}
-use Rattle.c_type_rules.specs.Types.{loaded}
+use Rattle.c_type_rules.specs.Types.{loaded_type}
 use Rattle.c_type_laws.specs.Kind.{Kind}
 use Rattle.c_type_laws.specs.Kinds.{is_of, is_typed, is_integer}
 use Rattle.c_type_laws.specs.Expressions.{kind_of}
 use Rattle.c_type_laws.specs.Statements.{same_spot, literal_fits, are_elements, initialises, declares_as, is_declared}
 use Rattle.c_meaning_values.specs.Memory.{Memory as SourceMemory}
-use Rattle.c_meaning_values.specs.Types.{element_of}
+use Rattle.c_meaning_values.specs.Types.{element_scalar}
 use Rattle.graph_build_names.specs.Names.{scalar_of, object_of}
 use Rattle.graph_build_statements.specs.Reached.{bare}
 use Rattle.graph_build_runs.proofs.Leads.{names_in}
@@ -59,21 +59,21 @@ module _ (k : Activity) (law : Lawful k) (out : (place : ℕ) (began : SourceMem
   kind e = kind_of k.setting.program k.setting.tree e
 
   -- an element works without its conversion
-  bare_works : (place : ℕ) (sc : Scalar) (e : RvalueTree) → is_of (kind e) (loaded sc) ≡ true → LaidAt k e → Works k place (bare e)
+  bare_works : (place : ℕ) (sc : Scalar) (e : RvalueTree) → is_of (kind e) (loaded_type sc) ≡ true → LaidAt k e → Works k place (bare e)
   bare_works place sc e fits laid = elim (bare_cases e) [
-    | inl found ↦ subst (λ q. Works k place (bare q)) (sym found.2) (stripped found.0 found.1 (subst (λ q. is_of (kind q) (loaded sc) ≡ true) found.2 fits) (subst (LaidAt k) found.2 laid))
-    | inr same ↦ subst (Works k place) (sym same) (works_of k law out small good place e (typed_of (kind e) (loaded sc) fits) laid)
+    | inl found ↦ subst (λ q. Works k place (bare q)) (sym found.2) (stripped found.0 found.1 (subst (λ q. is_of (kind q) (loaded_type sc) ≡ true) found.2 fits) (subst (LaidAt k) found.2 laid))
+    | inr same ↦ subst (Works k place) (sym same) (works_of k law out small good place e (typed_of (kind e) (loaded_type sc) fits) laid)
   ]
     where
-      stripped : (t : IntegerType) (b : RvalueTree) → is_of (kind (Convert t b)) (loaded sc) ≡ true → LaidAt k (Convert t b) → Works k place b
+      stripped : (t : IntegerType) (b : RvalueTree) → is_of (kind (Convert t b)) (loaded_type sc) ≡ true → LaidAt k (Convert t b) → Works k place b
       stripped t b fits laid =
-          let whole = converted_fits (is_integer (kind b)) (Integer t) (loaded sc) fits in
+          let whole = converted_fits (is_integer (kind b)) (Integer t) (loaded_type sc) fits in
           let c = any_integer (kind b) whole.0 in
           works_of k law out small good place b (subst (λ z. is_typed z ≡ true) (sym c.1) refl) laid
 
   elements_work : (place : ℕ) (sc : Scalar) (all : List RvalueTree) → are_elements k.setting.program k.setting.tree sc all ≡ true → LaidAll k all → ElementsWork k place sc all
   elements_work place sc [] h laid = tt
-  elements_work place sc (e ∷ more) h laid = let c = two_true (is_of (kind e) (loaded sc)) (are_elements k.setting.program k.setting.tree sc more) h in (bare_works place sc e c.0 laid.0, c.0, elements_work place sc more c.1 laid.1)
+  elements_work place sc (e ∷ more) h laid = let c = two_true (is_of (kind e) (loaded_type sc)) (are_elements k.setting.program k.setting.tree sc more) h in (bare_works place sc e c.0 laid.0, c.0, elements_work place sc more c.1 laid.1)
 
   -- a declarator of a variable
   module _ (d : DeclaredTree) (stands : DeclaratorStands k d) (a : AutomaticTree) (is : slice_get k.setting.program.automatics d.variable ≡ Some a) where
@@ -83,8 +83,8 @@ module _ (k : Activity) (law : Lawful k) (out : (place : ℕ) (began : SourceMem
     abbrev Initialises : ObjectType → InitialTree → Type 0
     Initialises of i = initialises k.setting.program k.setting.tree of i ≡ true
 
-    fits_in : (of : ObjectType) (e : RvalueTree) → a.of ≡ of → is_of (kind e) (loaded (element_of of)) ≡ true → is_of (kind e) (loaded (element_of a.of)) ≡ true
-    fits_in of e one h = subst (λ s. is_of (kind e) (loaded (element_of s)) ≡ true) (sym one) h
+    fits_in : (of : ObjectType) (e : RvalueTree) → a.of ≡ of → is_of (kind e) (loaded_type (element_scalar of)) ≡ true → is_of (kind e) (loaded_type (element_scalar a.of)) ≡ true
+    fits_in of e one h = subst (λ s. is_of (kind e) (loaded_type (element_scalar s)) ≡ true) (sym one) h
 
     laid_in : (i : InitialTree) → d.initial ≡ i → LaidInitial k i
     laid_in i e = subst (LaidInitial k) e stands.laid
@@ -93,7 +93,7 @@ module _ (k : Activity) (law : Lawful k) (out : (place : ℕ) (began : SourceMem
     by_name : (j : ℕ) → scalar_of (names_in k.setting) d.variable ≡ Some j → (of : ObjectType) → a.of ≡ of → (i : InitialTree) → d.initial ≡ i → Initialises of i → DeclaratorDoes k d
     by_name j named (of-object.Scalar sc) one Zero init h = named_zero k law d a is j named init
     by_name j named (of-object.Scalar sc) one (scalar-initial e) init h =
-        named_initialised k law d a is j e named init (works_of k law out small good place e (typed_of (kind e) (loaded sc) h) (laid_in (scalar-initial e) init)) (fits_in (of-object.Scalar sc) e one h)
+        named_initialised k law d a is j e named init (works_of k law out small good place e (typed_of (kind e) (loaded_type sc) h) (laid_in (scalar-initial e) init)) (fits_in (of-object.Scalar sc) e one h)
         (λ began. assigned_apart (placed k place began) law.low (record { one = law.apart.one; outside = law.apart.outside; single = law.apart.single }) d.variable j named a is sc one e h)
     by_name j named (of-object.Scalar sc) one (Elements all) init h = cc
     by_name j named (of-object.Scalar sc) one (Literal m) init h = cc
@@ -106,7 +106,7 @@ module _ (k : Activity) (law : Lawful k) (out : (place : ℕ) (began : SourceMem
     by_object : (j : ℕ) → scalar_of (names_in k.setting) d.variable ≡ None → object_of (names_in k.setting) d.variable ≡ Some j → a.in_memory ≡ true → (of : ObjectType) → a.of ≡ of → (i : InitialTree) → d.initial ≡ i → Initialises of i → DeclaratorDoes k d
     by_object j nowhere named inside (of-object.Scalar sc) one Zero init h = kept_zero k law d a is j sc nowhere named inside one init
     by_object j nowhere named inside (of-object.Scalar sc) one (scalar-initial e) init h =
-        kept_initialised k law d a is j sc nowhere named inside one e init (works_of k law out small good place e (typed_of (kind e) (loaded sc) h) (laid_in (scalar-initial e) init)) (fits_in (of-object.Scalar sc) e one h)
+        kept_initialised k law d a is j sc nowhere named inside one e init (works_of k law out small good place e (typed_of (kind e) (loaded_type sc) h) (laid_in (scalar-initial e) init)) (fits_in (of-object.Scalar sc) e one h)
     by_object j nowhere named inside (of-object.Scalar sc) one (Elements all) init h = cc
     by_object j nowhere named inside (of-object.Scalar sc) one (Literal m) init h = cc
     by_object j nowhere named inside (of-object.Array sc n) one Zero init h = array_zero k law d a is j sc n nowhere named inside one (stands.arrays a sc n is one).1 init

@@ -10,17 +10,17 @@ use Rattle.c_tree.specs.declared.object_type.ObjectType.TheVariants as of-object
 use Rattle.c_tree.specs.TypedExpressions.{RvalueTree}
 use Rattle.c_tree.specs.TypedStatements.{DeclaredTree, Zero, Scalar as scalar-initial}
 use Rattle.c_tree.specs.Programs.{AutomaticTree}
-use Rattle.c_type_rules.specs.Integers.{size as integer_bytes, scalar_size as type_size}
-use Rattle.c_type_rules.specs.Types.{loaded}
+use Rattle.c_type_rules.specs.Integers.{integer_size as integer_bytes, scalar_size as type_size}
+use Rattle.c_type_rules.specs.Types.{loaded_type}
 use Rattle.c_type_laws.specs.Kinds.{is_of}
 use Rattle.c_type_laws.specs.Expressions.{kind_of}
 use Rattle.c_meaning_values.specs.Memory.{Memory as SourceMemory}
-use Rattle.c_meaning_values.specs.Types.{element_of, count_of, scalar_size, size_by_stars}
+use Rattle.c_meaning_values.specs.Types.{element_scalar, value_count, scalar_size, size_by_stars}
 use Rattle.c_meaning.specs.Activations as activations
 use Rattle.c_meaning.specs.Statements.{declare_with}
 use Rattle.graph_core.specs.Graphs as unit
 use Rattle.graph_build_names.specs.Names.{scalar_of, object_of}
-use Rattle.graph_build_steps.specs.Drafts.{before}
+use Rattle.graph_build_steps.specs.Drafts.{instruction_before}
 use Rattle.graph_build_steps.specs.Steps.{or_zero}
 use Rattle.graph_build_statements.specs.Coding.{going}
 use Rattle.graph_build_statements.specs.Declaring.{object_type_of, cleared, declare_single, declare_array, declare_kept, declare_scalar, declare_as}
@@ -38,7 +38,7 @@ use Rattle.graph_build_runs.proofs.Forming.{DeclaratorDoes}
 
 module _ (k : Activity) (law : Lawful k) (d : DeclaredTree) (a : AutomaticTree) (is : slice_get k.setting.program.automatics d.variable ≡ Some a) where
   -- A scalar that is kept in a name, with its initializer,
-  pub named_initialised : (j : ℕ) (e : RvalueTree) → scalar_of (names_in k.setting) d.variable ≡ Some j → d.initial ≡ scalar-initial e → Works k (place_at k d.spot.at) e → is_of (kind_of k.setting.program k.setting.tree e) (loaded (element_of a.of)) ≡ true
+  pub named_initialised : (j : ℕ) (e : RvalueTree) → scalar_of (names_in k.setting) d.variable ≡ Some j → d.initial ≡ scalar-initial e → Works k (place_at k d.spot.at) e → is_of (kind_of k.setting.program k.setting.tree e) (loaded_type (element_scalar a.of)) ≡ true
       → ((began : SourceMemory) → Apart (placed k (place_at k d.spot.at) began) j e) → DeclaratorDoes k d
   named_initialised j e named init works fits apart scope low w le b =
       let b1 = subst (λ o. Begins k scope d.spot.at (λ t i. declare_as (coding_in k) o d t (going (coding_in k) w.next i))) named b in
@@ -66,13 +66,13 @@ module _ (k : Activity) (law : Lawful k) (d : DeclaredTree) (a : AutomaticTree) 
         let typed : object_type_of k.setting.program d.variable ≡ of-object.Scalar sc = ap (λ r. option_map_or (λ (q : AutomaticTree). q.of) r (of-object.Array (record { base = Char; stars = 0 }) 0)) is ∙ one in
         subst (λ of. Begins k scope d.spot.at (λ t i. declare_kept (coding_in k) d.spot.at j of d.initial t (going (coding_in k) next i))) typed b2
 
-    kept_of : sc ≡ element_of a.of
-    kept_of = sym (ap element_of one)
+    kept_of : sc ≡ element_scalar a.of
+    kept_of = sym (ap element_scalar one)
 
-    kept_single : count_of a.of ≡ 1
-    kept_single = ap count_of one
+    kept_single : value_count a.of ≡ 1
+    kept_single = ap value_count one
 
-    pub kept_initialised : (e : RvalueTree) → d.initial ≡ scalar-initial e → Works k (place_at k d.spot.at) e → is_of (kind_of k.setting.program k.setting.tree e) (loaded (element_of a.of)) ≡ true → DeclaratorDoes k d
+    pub kept_initialised : (e : RvalueTree) → d.initial ≡ scalar-initial e → Works k (place_at k d.spot.at) e → is_of (kind_of k.setting.program k.setting.tree e) (loaded_type (element_scalar a.of)) ≡ true → DeclaratorDoes k d
     kept_initialised e init works fits scope low w le b =
         let b1 = kept_begins scope w.next b in
         let b2 = subst (λ q. Begins k scope d.spot.at (λ t i. declare_single (coding_in k) d.spot.at j sc q t (going (coding_in k) w.next i))) init b1 in
@@ -140,11 +140,11 @@ array_zero k law d a is j sc n nowhere named inside array enough init scope low 
     let b4 = subst (λ q. Begins k scope d.spot.at (λ t i. declare_array (coding_in k) d.spot.at j sc (type_size sc * n) q t (going (coding_in k) w.next i))) init b3 in
     let bytes : type_size sc * n ≡ n * scalar_size sc = ap (λ x. x * n) (type_sizes sc.base sc.stars) ∙ swapped (scalar_size sc) n in
     let b5 = subst (λ x. Begins k scope d.spot.at (λ t i. cleared j x 0 (going (coding_in k) w.next i))) bytes b4 in
-    let b6 = subst (λ c. Begins k scope d.spot.at (λ t i. if c then going (coding_in k) w.next i else before (unit.Zero j ((n * scalar_size sc + 3) / 4)) (going (coding_in k) w.next i))) (some_words n (scalar_size sc) enough (some_size sc.base sc.stars)) b5 in
-    let counts : count_of a.of ≡ n = ap count_of array in
-    let elements : element_of a.of ≡ sc = ap element_of array in
-    let b7 = subst (λ x. Begins k scope d.spot.at (λ t i. before (unit.Zero j ((x * scalar_size sc + 3) / 4)) (going (coding_in k) w.next i))) (sym counts) b6 in
-    let b8 = subst (λ s. Begins k scope d.spot.at (λ t i. before (unit.Zero j ((count_of a.of * scalar_size s + 3) / 4)) (going (coding_in k) w.next i))) (sym elements) b7 in (
+    let b6 = subst (λ c. Begins k scope d.spot.at (λ t i. if c then going (coding_in k) w.next i else instruction_before (unit.Zero j ((n * scalar_size sc + 3) / 4)) (going (coding_in k) w.next i))) (some_words n (scalar_size sc) enough (some_size sc.base sc.stars)) b5 in
+    let counts : value_count a.of ≡ n = ap value_count array in
+    let elements : element_scalar a.of ≡ sc = ap element_scalar array in
+    let b7 = subst (λ x. Begins k scope d.spot.at (λ t i. instruction_before (unit.Zero j ((x * scalar_size sc + 3) / 4)) (going (coding_in k) w.next i))) (sym counts) b6 in
+    let b8 = subst (λ s. Begins k scope d.spot.at (λ t i. instruction_before (unit.Zero j ((value_count a.of * scalar_size s + 3) / 4)) (going (coding_in k) w.next i))) (sym elements) b7 in (
       subst (λ q. GoesOn k low (d.variable + 1) (d.variable ∷ []) w scope (Some d.spot.at) (λ s. activations.at (here_in k) d.spot s (declare_with k.calls (here_in k) d.spot d.variable q))) (sym init) (cleared_goes k law d.variable j a is named inside scope low w d.spot le b8),
       subst (λ q. KeepsOn k low (d.variable + 1) (d.variable ∷ []) scope (λ s. activations.at (here_in k) d.spot s (declare_with k.calls (here_in k) d.spot d.variable q))) (sym init) (zero_keeps k scope low d.spot b.here d.variable a is le),
     )

@@ -8,12 +8,12 @@ use Rattle.word_base.specs.Owners.{Variable}
 use Rattle.c_tree.specs.TypedExpressions.{RvalueTree}
 use Rattle.c_tree.specs.TypedStatements.{Zero, Scalar as scalar-initial}
 use Rattle.c_tree.specs.Programs.{AutomaticTree, ProgramTree}
-use Rattle.c_type_rules.specs.Types.{loaded}
+use Rattle.c_type_rules.specs.Types.{loaded_type}
 use Rattle.c_type_laws.specs.Kinds.{is_of}
 use Rattle.c_type_laws.specs.Expressions.{kind_of}
 use Rattle.c_meaning_values.specs.declared.value.Value as source-value
 use Rattle.c_meaning_values.specs.declared.value.Phase.TheVariants.{Initialising, Live, Ended}
-use Rattle.c_meaning_values.specs.Types.{element_of, count_of, zero_of, zero_by_stars}
+use Rattle.c_meaning_values.specs.Types.{element_scalar, value_count, zero_of, zero_by_stars}
 use Rattle.c_meaning_values.specs.Memory.{Object as SourceObject, Memory as SourceMemory, set_value, begun as begun_in}
 use Rattle.c_meaning_steps.specs.States.{State, Outcome, Next, on_value}
 use Rattle.c_meaning.specs.Activations as activations
@@ -23,9 +23,9 @@ use Rattle.graph_core.specs.declared.value.Value.TheVariants.{Number}
 use Rattle.graph_core.specs.declared.value.Shadow.TheVariants.{Known}
 use Rattle.graph_core.specs.Graphs as unit
 use Rattle.graph_core.specs.Memory.{Memory}
-use Rattle.graph_core.specs.Runs.{Configuration, Event, Goes, Wild, step, put}
+use Rattle.graph_core.specs.Runs.{Configuration, Event, Goes, Wild, step, with_value_at}
 use Rattle.graph_build_names.specs.Names.{scalar_of}
-use Rattle.graph_build_steps.specs.Drafts.{To, before, note}
+use Rattle.graph_build_steps.specs.Drafts.{To, instruction_before, note}
 use Rattle.graph_build_statements.specs.Coding.{begun, going, coded}
 use Rattle.graph_build_runs.specs.Typed.{IsOf}
 use Rattle.graph_build_runs.specs.Correspondence.{SameValue, IsInMemory}
@@ -50,7 +50,7 @@ length_set xs n a = length-set xs n a
 
 -- The object of a scalar has taken its first value, and lives.
 module _ (k : Activity) (v : ℕ) (s : State) (n : ℕ) (o : SourceObject) (at : slice_get s.memory n ≡ Some o) (owner : o.owner ≡ Variable v (depth_in k.setting)) (alive : o.phase ≢ Ended) (u : source-value.Value)
-    (sound : Sound k.setting.program s.memory s) (is : IsOf s.memory (loaded o.element) u) where
+    (sound : Sound k.setting.program s.memory s) (is : IsOf s.memory (loaded_type o.element) u) where
   abbrev pub taken : SourceObject
   taken = record o { values = slice_set o.values 0 u; phase = Live }
 
@@ -74,7 +74,7 @@ module _ (k : Activity) (v : ℕ) (s : State) (n : ℕ) (o : SourceObject) (at :
 
 -- It is kept in a name.
 module _ (k : Activity) (law : Lawful k) (v j : ℕ) (named : scalar_of (names_in k.setting) v ≡ Some j) (s : State) (n : ℕ) (o : SourceObject) (at : slice_get s.memory n ≡ Some o) (owner : o.owner ≡ Variable v (depth_in k.setting)) (alive : o.phase ≢ Ended) (u : source-value.Value)
-    (sound : Sound k.setting.program s.memory s) (is : IsOf s.memory (loaded o.element) u) where
+    (sound : Sound k.setting.program s.memory s) (is : IsOf s.memory (loaded_type o.element) u) where
   one_value : length o.values ≡ 1
   one_value = let a = subst (λ q. IsDeclared k.setting.program q o) owner (sound.declared n o at) in a.3 ∙ law.apart.single v j a.0 named a.1
 
@@ -83,7 +83,7 @@ module _ (k : Activity) (law : Lawful k) (v j : ℕ) (named : scalar_of (names_i
       → Leads k.setting.unit c es (before_in k place (note j (going (coding_in k) next inner)).ops (note j (going (coding_in k) next inner)).end l w) w.seen → Arrives k c es low high (v ∷ []) s.memory next (record s { memory = after k v s n o at owner alive u sound is })
   noted_after c es low high next inner place l w fits same leads =
       let m = going (coding_in k) next inner in
-      let l2 : Local = record l { shadows = put l.shadows j (Known (l.names j)) } in
+      let l2 : Local = record l { shadows = with_value_at l.shadows j (Known (l.names j)) } in
       let noting : step k.setting.unit (before_in k place (note j m).ops (note j m).end l w) ≡ Goes (before_in k place m.ops m.end l2 w) =
       ap (λ b. if b then Wild else Goes (before_in k place m.ops m.end l2 w)) (known_value k.setting.program s.memory w.memory u (l.names j) same) in
       record {
@@ -115,7 +115,7 @@ scalar_nowhere k law v j depth named inside = let no = law.apart.outside v j ins
 
 module _ (k : Activity) (law : Lawful k) (scope : List ℕ) (low : ℕ) (w : Ways) (spot : Spot) (v j : ℕ) (a : AutomaticTree) (is : slice_get k.setting.program.automatics v ≡ Some a) (named : scalar_of (names_in k.setting) v ≡ Some j) (le : low ≤ v) where
   -- A scalar with its initializer.
-  pub initialised_goes : (e : RvalueTree) → Works k (place_at k spot.at) e → is_of (kind_of k.setting.program k.setting.tree e) (loaded (element_of a.of)) ≡ true → ((began : SourceMemory) → Apart (placed k (place_at k spot.at) began) j e)
+  pub initialised_goes : (e : RvalueTree) → Works k (place_at k spot.at) e → is_of (kind_of k.setting.program k.setting.tree e) (loaded_type (element_scalar a.of)) ≡ true → ((began : SourceMemory) → Apart (placed k (place_at k spot.at) began) j e)
       → Begins k scope spot.at (λ t i. coded (coding_in k) spot.at e t (To (Some j) (note j (going (coding_in k) w.next i))))
       → GoesOn k low (v + 1) (v ∷ []) w scope (Some spot.at) (λ s. activations.at (here_in k) spot s (declare_with k.calls (here_in k) spot v (scalar-initial e)))
   initialised_goes e works fits_type apart b =
@@ -136,7 +136,7 @@ module _ (k : Activity) (law : Lawful k) (scope : List ℕ) (low : ℕ) (w : Way
       (λ val s2 l2 u2 leads2 sound2 fits2 since same kind.
       (let o = since.later (length s.memory) (new_in k v a is Initialising) (last_is s.memory (new_in k v a is Initialising)) in
       let alive : o.object.phase ≢ Ended = λ over. initialising_open (o.phase.open_before over) in
-      let typed : IsOf s2.memory (loaded o.object.element) val = subst (λ q. IsOf s2.memory (loaded q) val) (sym o.element) (kind_is_of s2.memory (kind_of k.setting.program k.setting.tree e) (loaded (element_of a.of)) val fits_type kind) in
+      let typed : IsOf s2.memory (loaded_type o.object.element) val = subst (λ q. IsOf s2.memory (loaded_type q) val) (sym o.element) (kind_is_of s2.memory (kind_of k.setting.program k.setting.tree e) (loaded_type (element_scalar a.of)) val fits_type kind) in
       subst (λ z. Arrives k c es low (v + 1) (v ∷ []) s2.memory w.next (record s2 { memory = z })) (sym (begun_after k v s2 (length s.memory) o.object o.is o.owner alive val sound2 typed))
       (noted_after k law v j named s2 (length s.memory) o.object o.is o.owner alive val sound2 typed c es low (v + 1) w.next b.inner (place_at k spot.at) l2 u2 fits2 same leads2)))))))
     where
@@ -144,36 +144,36 @@ module _ (k : Activity) (law : Lawful k) (scope : List ℕ) (low : ℕ) (w : Way
       initialising_open h = cc
 
   -- A scalar without one is zero.
-  pub zero_goes : Begins k scope spot.at (λ t i. before (unit.Move j (unit.Constant 0)) (note j (going (coding_in k) w.next i))) → GoesOn k low (v + 1) (v ∷ []) w scope (Some spot.at) (λ s. activations.at (here_in k) spot s (declare_with k.calls (here_in k) spot v Zero))
+  pub zero_goes : Begins k scope spot.at (λ t i. instruction_before (unit.Move j (unit.Constant 0)) (note j (going (coding_in k) w.next i))) → GoesOn k low (v + 1) (v ∷ []) w scope (Some spot.at) (λ s. activations.at (here_in k) spot s (declare_with k.calls (here_in k) spot v Zero))
   zero_goes b =
       let m = note j (going (coding_in k) w.next b.inner) in
-      place_begins k law scope spot (before (unit.Move j (unit.Constant 0)) m) b.block b.here low (v + 1) (v ∷ []) w (declare_with k.calls (here_in k) spot v Zero)
+      place_begins k law scope spot (instruction_before (unit.Move j (unit.Constant 0)) m) b.block b.here low (v + 1) (v ∷ []) w (declare_with k.calls (here_in k) spot v Zero)
       (λ c es l u s leads sound fits h ready.
       (let o = new_in k v a is Initialising in
       let memory = with_new k v a is Initialising s.memory in
       let s1 : State = record s { memory = memory } in
       let frames = frames_length k.setting.program k.setting.unit s.memory k.frames k.setting.waiting h.frames in
-      let zero_is = zero_of (element_of a.of) in
+      let zero_is = zero_of (element_scalar a.of) in
       let sound1 = sound_made k v a is Initialising (λ young. law.apart.single v j a named is) s low le h.under sound in
       let fits1 = fits_made k v a s l u fits (λ inside. scalar_nowhere k law v j (depth_in k.setting) named inside) in
       let l1 = set_name l j (Number 0) in
       let fits2 = fits_wanted k.setting s1 l u j (Number 0) fits1 in
-      let same : SameValue k.setting.program memory u.memory zero_is (l1.names j) = subst (SameValue k.setting.program memory u.memory zero_is) (sym (put_here l.names j (Number 0))) (zero_same k.setting.program memory u.memory (element_of a.of).stars) in
-      let typed = zero_typed memory (element_of a.of).base (element_of a.of).stars in
+      let same : SameValue k.setting.program memory u.memory zero_is (l1.names j) = subst (SameValue k.setting.program memory u.memory zero_is) (sym (put_here l.names j (Number 0))) (zero_same k.setting.program memory u.memory (element_scalar a.of).stars) in
+      let typed = zero_typed memory (element_scalar a.of).base (element_scalar a.of).stars in
       let alive : o.phase ≢ Ended = λ over. initialising_open over in
       let moved = then_leads leads (goes refl stays) in
       let r = noted_after k law v j named s1 (length s.memory) o (last_is s.memory o) refl alive zero_is sound1 typed c es low (v + 1) w.next b.inner (place_at k spot.at) l1 u fits2 same moved in
       subst (λ z. Runs k c es low (v + 1) (v ∷ []) s.memory w (Next z)) (sym (made_is k v a is Live s frames))
       (runs_since k c es low (v + 1) low (v + 1) (v ∷ []) s.memory memory w (Next (record s { memory = with_new k v a is Live s.memory })) (omega arith) (omega arith) (grown_made k v a is Initialising s.memory low le)
       (subst (λ z. Arrives k c es low (v + 1) (v ∷ []) memory w.next (record s { memory = z }))
-      (set_last s.memory o (record o { values = slice_set o.values 0 zero_is; phase = Live }) ∙ ap (λ vs. s.memory ++ record o { values = vs; phase = Live } ∷ []) (same_first (count_of a.of) zero_is)) r))))
+      (set_last s.memory o (record o { values = slice_set o.values 0 zero_is; phase = Live }) ∙ ap (λ vs. s.memory ++ record o { values = vs; phase = Live } ∷ []) (same_first (value_count a.of) zero_is)) r))))
     where
       initialising_open : {A : Type 0} → Initialising ≡ Ended → A
       initialising_open h = cc
 
 -- What a program's run keeps is kept by declarators of scalars.
 module _ (k : Activity) (scope : List ℕ) (low : ℕ) (spot : Spot) (here : PlaceIs k scope spot.at) (v : ℕ) (a : AutomaticTree) (is : slice_get k.setting.program.automatics v ≡ Some a) (le : low ≤ v) where
-  pub initialised_keeps : count_of a.of ≡ 1 → (e : RvalueTree) → Works k (place_at k spot.at) e → is_of (kind_of k.setting.program k.setting.tree e) (loaded (element_of a.of)) ≡ true → KeepsOn k low (v + 1) (v ∷ []) scope (λ s. activations.at (here_in k) spot s (declare_with k.calls (here_in k) spot v (scalar-initial e)))
+  pub initialised_keeps : value_count a.of ≡ 1 → (e : RvalueTree) → Works k (place_at k spot.at) e → is_of (kind_of k.setting.program k.setting.tree e) (loaded_type (element_scalar a.of)) ≡ true → KeepsOn k low (v + 1) (v ∷ []) scope (λ s. activations.at (here_in k) spot s (declare_with k.calls (here_in k) spot v (scalar-initial e)))
   initialised_keeps single e works fits_type =
       place_kept k scope spot here low (v + 1) (v ∷ []) (declare_with k.calls (here_in k) spot v (scalar-initial e))
       (λ s sound h ready.
@@ -187,7 +187,7 @@ module _ (k : Activity) (scope : List ℕ) (low : ℕ) (spot : Spot) (here : Pla
       (λ val s2 sound2 since kind.
       (let o = since.later (length s.memory) (new_in k v a is Initialising) (last_is s.memory (new_in k v a is Initialising)) in
       let alive : o.object.phase ≢ Ended = λ over. initialising_open (o.phase.open_before over) in
-      let typed : IsOf s2.memory (loaded o.object.element) val = subst (λ q. IsOf s2.memory (loaded q) val) (sym o.element) (kind_is_of s2.memory (kind_of k.setting.program k.setting.tree e) (loaded (element_of a.of)) val fits_type kind) in
+      let typed : IsOf s2.memory (loaded_type o.object.element) val = subst (λ q. IsOf s2.memory (loaded_type q) val) (sym o.element) (kind_is_of s2.memory (kind_of k.setting.program k.setting.tree e) (loaded_type (element_scalar a.of)) val fits_type kind) in
       subst (λ z. Stays k low (v + 1) (v ∷ []) s2.memory (record s2 { memory = z })) (sym (begun_after k v s2 (length s.memory) o.object o.is o.owner alive val sound2 typed))
       (record {
         sound = sound_after k v s2 (length s.memory) o.object o.is o.owner alive val sound2 typed;

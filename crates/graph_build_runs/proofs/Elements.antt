@@ -11,7 +11,7 @@ use Rattle.c_tree.specs.declared.types.IntegerType.TheVariants.{Char, SignedChar
 use Rattle.c_tree.specs.declared.object_type.Scalar.{Scalar}
 use Rattle.c_tree.specs.Programs.{ProgramTree}
 use Rattle.c_type_rules.specs.Integers.{integer}
-use Rattle.c_type_rules.specs.Types.{loaded}
+use Rattle.c_type_rules.specs.Types.{loaded_type}
 use Rattle.c_meaning_values.specs.declared.value.Value as source-value
 use Rattle.c_meaning_values.specs.declared.value.Value.TheVariants as source
 use Rattle.c_meaning_values.specs.Types.{scalar_size, size_by_stars}
@@ -22,7 +22,7 @@ use Rattle.graph_core.specs.declared.instruction.Element.{Element}
 use Rattle.graph_core.specs.declared.instruction.Element.TheVariants.{Unsigned8, Signed8, Unsigned16, Signed16, Word}
 use Rattle.graph_core.specs.Memory.{Object, Memory, index_in}
 use Rattle.graph_core.specs.Values.{size_of, as_element}
-use Rattle.graph_build_names.specs.Conversions.{word_of}
+use Rattle.graph_build_names.specs.Conversions.{unsigned_bits}
 use Rattle.graph_build_steps.specs.Rules.{element_of}
 use Rattle.graph_build_runs.specs.Typed.{IsOf}
 use Rattle.graph_build_runs.specs.Correspondence.{SameValue}
@@ -90,12 +90,12 @@ reaches sc q k offset lives element at within =
     ap (λ b. if b then Some (offset / size_of (element_of sc)) else None) all ∙ ap Some quotient
 
 -- what a narrow element keeps of the word of a number of its type
-unsigned8 : (z : ℤ) → holds (integer Char) z ≡ true → truncated truncation.Unsigned8 (word_of z) ≡ word_of z
+unsigned8 : (z : ℤ) → holds (integer Char) z ≡ true → truncated truncation.Unsigned8 (unsigned_bits z) ≡ unsigned_bits z
 unfolding truncated
 unsigned8 (pos n) h = let le : n ≤ 255 = leb-true n 255 (both_true (int_le (pos 0) (pos n)) (int_le (pos n) (pos 255)) h).1 in omega arith
 unsigned8 (negsuc n) h = cc
 
-unsigned16 : (z : ℤ) → holds (integer UnsignedShort) z ≡ true → truncated truncation.Unsigned16 (word_of z) ≡ word_of z
+unsigned16 : (z : ℤ) → holds (integer UnsignedShort) z ≡ true → truncated truncation.Unsigned16 (unsigned_bits z) ≡ unsigned_bits z
 unfolding truncated
 unsigned16 (pos n) h = let le : n ≤ 65535 = leb-true n 65535 (both_true (int_le (pos 0) (pos n)) (int_le (pos n) (pos 65535)) h).1 in omega arith
 unsigned16 (negsuc n) h = cc
@@ -103,7 +103,7 @@ unsigned16 (negsuc n) h = cc
 low_half : (low range : ℕ) (b : Bool) → nat_lt low (range / 2) ≡ b → sign_extended low range ≡ (if b then low else low + (4294967296 - range))
 low_half low range b e = ap (λ c. if c then low else low + (4294967296 - range)) e
 
-signed8 : (z : ℤ) → holds (integer SignedChar) z ≡ true → truncated truncation.Signed8 (word_of z) ≡ word_of z
+signed8 : (z : ℤ) → holds (integer SignedChar) z ≡ true → truncated truncation.Signed8 (unsigned_bits z) ≡ unsigned_bits z
 unfolding truncated
 signed8 (pos n) h =
     let le : n ≤ 127 = leb-true n 127 h in
@@ -113,12 +113,12 @@ signed8 (pos n) h =
     low_half (n % 4294967296 % 256) 256 true e ∙ is
 signed8 (negsuc n) h =
     let le : n ≤ 127 = leb-true n 127 (both_true (int_le (negsuc 127) (negsuc n)) true h).0 in
-    let high : 128 ≤ word_of (negsuc n) % 256 = omega arith in
-    let e : nat_lt (word_of (negsuc n) % 256) (256 / 2) ≡ false = grind (arith, nat_tests, high) in
-    let is : word_of (negsuc n) % 256 + (4294967296 - 256) ≡ word_of (negsuc n) = omega arith in
-    low_half (word_of (negsuc n) % 256) 256 false e ∙ is
+    let high : 128 ≤ unsigned_bits (negsuc n) % 256 = omega arith in
+    let e : nat_lt (unsigned_bits (negsuc n) % 256) (256 / 2) ≡ false = grind (arith, nat_tests, high) in
+    let is : unsigned_bits (negsuc n) % 256 + (4294967296 - 256) ≡ unsigned_bits (negsuc n) = omega arith in
+    low_half (unsigned_bits (negsuc n) % 256) 256 false e ∙ is
 
-signed16 : (z : ℤ) → holds (integer Short) z ≡ true → truncated truncation.Signed16 (word_of z) ≡ word_of z
+signed16 : (z : ℤ) → holds (integer Short) z ≡ true → truncated truncation.Signed16 (unsigned_bits z) ≡ unsigned_bits z
 unfolding truncated
 signed16 (pos n) h =
     let le : n ≤ 32767 = leb-true n 32767 h in
@@ -128,12 +128,12 @@ signed16 (pos n) h =
     low_half (n % 4294967296 % 65536) 65536 true e ∙ is
 signed16 (negsuc n) h =
     let le : n ≤ 32767 = leb-true n 32767 (both_true (int_le (negsuc 32767) (negsuc n)) true h).0 in
-    let high : 32768 ≤ word_of (negsuc n) % 65536 = omega arith in
-    let e : nat_lt (word_of (negsuc n) % 65536) (65536 / 2) ≡ false = grind (arith, nat_tests, high) in
-    let is : word_of (negsuc n) % 65536 + (4294967296 - 65536) ≡ word_of (negsuc n) = omega arith in
-    low_half (word_of (negsuc n) % 65536) 65536 false e ∙ is
+    let high : 32768 ≤ unsigned_bits (negsuc n) % 65536 = omega arith in
+    let e : nat_lt (unsigned_bits (negsuc n) % 65536) (65536 / 2) ≡ false = grind (arith, nat_tests, high) in
+    let is : unsigned_bits (negsuc n) % 65536 + (4294967296 - 65536) ≡ unsigned_bits (negsuc n) = omega arith in
+    low_half (unsigned_bits (negsuc n) % 65536) 65536 false e ∙ is
 
-number_kept : (t : IntegerType) (z : ℤ) → holds (integer t) z ≡ true → as_element (element_of (record { base = t; stars = 0 })) (Number (word_of z)) ≡ Number (word_of z)
+number_kept : (t : IntegerType) (z : ℤ) → holds (integer t) z ≡ true → as_element (element_of (record { base = t; stars = 0 })) (Number (unsigned_bits z)) ≡ Number (unsigned_bits z)
 number_kept Char z h = ap Number (unsigned8 z h)
 number_kept SignedChar z h = ap Number (signed8 z h)
 number_kept UnsignedChar z h = ap Number (unsigned8 z h)
@@ -144,7 +144,7 @@ number_kept UnsignedInt z h = refl
 number_kept Long z h = refl
 number_kept UnsignedLong z h = refl
 
-kept_by : (p : ProgramTree) (memory : SourceMemory) (others : Memory) (base : IntegerType) (stars : ℕ) (v : source-value.Value) (w : Value) → IsOf memory (loaded (record { base = base; stars = stars })) v → SameValue p memory others v w
+kept_by : (p : ProgramTree) (memory : SourceMemory) (others : Memory) (base : IntegerType) (stars : ℕ) (v : source-value.Value) (w : Value) → IsOf memory (loaded_type (record { base = base; stars = stars })) v → SameValue p memory others v w
     → as_element (element_of (record { base = base; stars = stars })) w ≡ w
 kept_by p memory others base zero (source.Number z) w is same = ap (as_element (element_of (record { base = base; stars = 0 }))) same ∙ number_kept base z is ∙ sym same
 kept_by p memory others base zero source.Null w is same = absurd is
@@ -152,5 +152,5 @@ kept_by p memory others base zero (source.Pointer n offset) w is same = absurd i
 kept_by p memory others base (suc stars) v w is same = ap (λ e. as_element e w) (word_element base stars)
 
 -- An element keeps a value of its type.
-pub element_keeps : (p : ProgramTree) (memory : SourceMemory) (others : Memory) (sc : Scalar) (v : source-value.Value) (w : Value) → IsOf memory (loaded sc) v → SameValue p memory others v w → as_element (element_of sc) w ≡ w
+pub element_keeps : (p : ProgramTree) (memory : SourceMemory) (others : Memory) (sc : Scalar) (v : source-value.Value) (w : Value) → IsOf memory (loaded_type sc) v → SameValue p memory others v w → as_element (element_of sc) w ≡ w
 element_keeps p memory others sc v w is same = kept_by p memory others sc.base sc.stars v w is same

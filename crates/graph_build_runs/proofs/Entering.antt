@@ -20,7 +20,7 @@ use Rattle.graph_core.specs.Graphs as unit
 use Rattle.graph_core.specs.Graphs.{Graph, UnitForm, Operand, Instruction, End, Marker, Binding as UnitBinding}
 use Rattle.graph_core.specs.Memory.{Memory}
 use Rattle.graph_core.specs.Values.{is_odd}
-use Rattle.graph_core.specs.Runs.{Activation, Configuration, Event, Goes, Shows, Stop, Wild, TooDeep, Ends as StepEnds, goes_if, enter, begun, step, frame, put, value, bind_names, bind_objects, with_objects}
+use Rattle.graph_core.specs.Runs.{Activation, Configuration, Event, Goes, Shows, Stop, Wild, TooDeep, Ends as StepEnds, goes_if, enter, begun, step, frame, with_value_at, value, bind_names, bind_objects, with_objects}
 use Rattle.graph_build_names.specs.Names.{scalar_of}
 use Rattle.graph_build_steps.specs.Drafts.{Made}
 use Rattle.graph_build_statements.specs.Coding.{going}
@@ -57,8 +57,8 @@ notes_lead k place m w number names wants (suc count) first shadows known es =
     by rest None e = rest shadows
     by rest (Some x) e =
         let inner = noting (names_in k.setting) (numbers_from (first + 1) count) m in
-        let to = before_in k place inner.ops inner.end (record { block = number; names = names; shadows = put shadows x (Known (names x)); wants = wants }) w in
-        goes (ap (λ b. if b then Wild else Goes to) (known first x (omega arith) (omega arith) e)) (rest (put shadows x (Known (names x))))
+        let to = before_in k place inner.ops inner.end (record { block = number; names = names; shadows = with_value_at shadows x (Known (names x)); wants = wants }) w in
+        goes (ap (λ b. if b then Wild else Goes to) (known first x (omega arith) (omega arith) e)) (rest (with_value_at shadows x (Known (names x))))
 
 -- An activation begins with a configuration: the run comes to the body.
 module _ (k : Activity) (law : Lawful k) (same_depth : length k.frames ≡ length k.setting.waiting) (entry : EntryStands k.setting.program k.setting.tree k.setting.graph k.setting.again k.setting.top) (s : State) (others : Memory) (begins : k.setting.first ≡ length others)

@@ -6,13 +6,13 @@ use Rattle.std.proofs.lemmas.Option.{slice_get-map, slice_get_within}
 use Rattle.std.proofs.lemmas.List.{length-replicate}
 use Rattle.word_base.specs.Owners.{Variable}
 use Rattle.c_tree.specs.Programs.{AutomaticTree, TypedFunctionTree, ProgramTree}
-use Rattle.c_type_rules.specs.Types.{loaded}
+use Rattle.c_type_rules.specs.Types.{loaded_type}
 use Rattle.c_flow.specs.Flow.{start_of_all, ways_of_body}
 use Rattle.c_type_laws.specs.Kinds.{types_of}
 use Rattle.c_places.specs.Places.{places_of_program, numbers_from, parameters_of}
 use Rattle.c_meaning_values.specs.declared.value.Value as source-value
 use Rattle.c_meaning_values.specs.declared.value.Phase.TheVariants.{Live, Ended}
-use Rattle.c_meaning_values.specs.Types.{element_of, count_of, zero_of}
+use Rattle.c_meaning_values.specs.Types.{element_scalar, value_count, zero_of}
 use Rattle.c_meaning_values.specs.Memory.{Object as SourceObject, Memory as SourceMemory}
 use Rattle.c_meaning_steps.specs.States.{State}
 use Rattle.c_meaning.specs.Calls.{bind}
@@ -26,7 +26,7 @@ use Rattle.graph_core.specs.Graphs as unit
 use Rattle.graph_core.specs.Graphs.{Graph, UnitForm, Marker, Binding}
 use Rattle.graph_core.specs.Memory.{Object, Memory, new_object}
 use Rattle.graph_core.specs.Values.{is_odd}
-use Rattle.graph_core.specs.Runs.{Activation, Event, put, bind_names, bind_objects, with_objects}
+use Rattle.graph_core.specs.Runs.{Activation, Event, with_value_at, bind_names, bind_objects, with_objects}
 use Rattle.graph_build_names.specs.Names.{Names, names_of, scalar_of, object_of}
 use Rattle.graph_build_steps.specs.Rules as rule
 use Rattle.graph_build_steps.specs.Drafts.{Made, note}
@@ -70,8 +70,8 @@ pub record IsObjectOf (p : ProgramTree) (g : Graph) (v j : ℕ) (a : AutomaticTr
   pub object : MemoryObject
   pub is : slice_get g.objects j ≡ Some object
   pub variable : object.var.0 ≡ variable_of p v
-  pub element : object.element ≡ rule.element_of (element_of a.of)
-  pub count : object.count ≡ count_of a.of
+  pub element : object.element ≡ rule.element_of (element_scalar a.of)
+  pub count : object.count ≡ value_count a.of
 
 -- What is asked of a graph where its function begins: its first block is the entry's, with its marker, the notes of its parameters and the jump to the body; what its parameters are bound to,
 -- and its objects, are those of the function's variables; and parameters are variables of the function of one value each.
@@ -83,12 +83,12 @@ pub record EntryStands (p : ProgramTree) (tree : TypedFunctionTree) (g : Graph) 
   pub owners : (i j : ℕ) (m n : MemoryObject) → slice_get g.objects i ≡ Some m → slice_get g.objects j ≡ Some n → m.var.0 ≡ n.var.0 → i ≡ j
   pub among : tree.parameters ≤ tree.variables
   pub enough : tree.parameters ≤ length (drop tree.first_variable p.automatics)
-  pub single : (v : ℕ) (a : AutomaticTree) → tree.first_variable ≤ v → v < tree.first_variable + tree.parameters → slice_get p.automatics v ≡ Some a → count_of a.of ≡ 1
+  pub single : (v : ℕ) (a : AutomaticTree) → tree.first_variable ≤ v → v < tree.first_variable + tree.parameters → slice_get p.automatics v ≡ Some a → value_count a.of ≡ 1
 
 -- the shadows behind the notes
 abbrev pub noted_as : Option ℕ → (names : ℕ → Value) → (shadows : ℕ → Shadow) → ℕ → Shadow
 noted_as None names shadows = shadows
-noted_as (Some x) names shadows = put shadows x (Known (names x))
+noted_as (Some x) names shadows = with_value_at shadows x (Known (names x))
 
 abbrev pub noted_by : Names → (names : ℕ → Value) → List ℕ → (shadows : ℕ → Shadow) → ℕ → Shadow
 noted_by n names [] shadows = shadows
@@ -101,7 +101,7 @@ noted_stays n names x (v ∷ more) shadows h = noted_stays n names x more (noted
     by : (o : Option ℕ) → noted_as o names shadows x ≡ Known (names x)
     by None = h
     by (Some k) = elim (cases_eq x k) [
-      | inl e ↦ ap (λ y. put shadows y (Known (names y)) x) (sym e) ∙ put_here shadows x (Known (names x))
+      | inl e ↦ ap (λ y. with_value_at shadows y (Known (names y)) x) (sym e) ∙ put_here shadows x (Known (names x))
       | inr ne ↦ put_elsewhere shadows k x (Known (names k)) (other_number x k ne) ∙ h
     ]
 
@@ -261,13 +261,13 @@ module _ (k : Activity) (law : Lawful k) (same_depth : length k.frames ≡ lengt
         let a = argument_of new.index new.within in
         let value_is : a.value ≡ new.value = some_same (sym a.found ∙ new.found) in
         let is : slice_get P.automatics v ≡ Some new.tree = ap (slice_get P.automatics) (sym same_variable) ∙ new.is in
-        let single : count_of new.tree.of ≡ 1 = law.apart.single v x new.tree named is in
+        let single : value_count new.tree.of ≡ 1 = law.apart.single v x new.tree named is in
         let names_is = named_value v x new.index named place new.within a.other a.there in
         let value = same_now new.value a.other later (subst (λ z. SameValue P s.memory others z a.other) value_is a.same) in
         let now = subst (SameValue P entered_source entered_memory new.value) (sym names_is) value in
         record {
           value = new.value;
-          holds = ap (λ q. q.values) new.object ∙ set_single (count_of new.tree.of) (zero_of (element_of new.tree.of)) new.value single;
+          holds = ap (λ q. q.values) new.object ∙ set_single (value_count new.tree.of) (zero_of (element_scalar new.tree.of)) new.value single;
           named = λ h. now;
           word = entered_names x;
           known = noted_at N entered_names x v named count low new.index place new.within (λ y. Gone);
@@ -302,18 +302,18 @@ module _ (k : Activity) (law : Lawful k) (same_depth : length k.frames ≡ lengt
       let r = argument_of new.index new.within in
       let value_is : r.value ≡ new.value = some_same (sym r.found ∙ new.found) in
       let tree_is : r.tree ≡ a = some_same (sym r.is ∙ ap (slice_get P.automatics) (sym new.at) ∙ new.is) in
-      let typed_value = subst (λ z. IsOf s.memory (loaded (element_of r.tree.of)) z) value_is r.typed in
-      let typed = subst (λ z. IsOf s.memory (loaded (element_of z.of)) new.value) tree_is typed_value in
+      let typed_value = subst (λ z. IsOf s.memory (loaded_type (element_scalar r.tree.of)) z) value_is r.typed in
+      let typed = subst (λ z. IsOf s.memory (loaded_type (element_scalar z.of)) new.value) tree_is typed_value in
       let same_value = subst (λ z. SameValue P s.memory others z r.other) value_is r.same in
       let single = entry.single v a le lt new.is in
-      let keeps = element_keeps P s.memory others (element_of a.of) new.value r.other typed same_value in
+      let keeps = element_keeps P s.memory others (element_scalar a.of) new.value r.other typed same_value in
       let q = new_object depth m.object in
       let size : length q.values ≡ 1 = length-replicate m.object.count Odd ∙ m.count ∙ single in
       let homes : (v2 : ℕ) → low ≤ v2 → v2 < low + count → scalar_of N v2 ≡ None → (j : ℕ) × (object_of N v2 ≡ Some j) = λ v2 le2 lt2 none2. (let b = argument_of (v2 - low) (omega (arith, le2, lt2)) in
       let place2 : low + (v2 - low) ≡ v2 = omega (arith, le2) in
       object_if_no_scalar P k.setting.tree k.setting.again v2 b.tree le2 (omega (arith, lt2, among)) (ap (slice_get P.automatics) (sym place2) ∙ b.is) none2) in
-      let filled = objects_at N low (low + count) homes (object_one P k.setting.tree k.setting.again) (length others) v home.0 home.1 none q (element_of a.of) refl m.element size r.other keeps low count new.index new.at new.within (omega arith) (omega arith) ws r.there made (new_there home.0 m.object m.is) in
-      let holds = set_single (count_of a.of) (zero_of (element_of a.of)) new.value single in
+      let filled = objects_at N low (low + count) homes (object_one P k.setting.tree k.setting.again) (length others) v home.0 home.1 none q (element_scalar a.of) refl m.element size r.other keeps low count new.index new.at new.within (omega arith) (omega arith) ws r.there made (new_there home.0 m.object m.is) in
+      let holds = set_single (value_count a.of) (zero_of (element_scalar a.of)) new.value single in
       subst (Placed P entered_source entered_memory) (sym new.object)
       (record {
         number = length others + home.0;
@@ -325,7 +325,7 @@ module _ (k : Activity) (law : Lawful k) (same_depth : length k.frames ≡ lengt
           element = filled.element ∙ m.element;
           count = ap length filled.values ∙ sym (ap length holds);
         };
-        values = λ live. subst (λ ys. SameValues P entered_source entered_memory (slice_set (replicate (count_of a.of) (zero_of (element_of a.of))) 0 new.value) ys) (sym filled.values)
+        values = λ live. subst (λ ys. SameValues P entered_source entered_memory (slice_set (replicate (value_count a.of) (zero_of (element_scalar a.of))) 0 new.value) ys) (sym filled.values)
             (subst (λ xs. SameValues P entered_source entered_memory xs (r.other ∷ [])) (sym holds) (same_now new.value r.other later same_value, tt));
       })
     where

@@ -6,15 +6,15 @@ use Rattle.c_tree.specs.TypedStatements as statement
 use Rattle.c_tree.specs.TypedStatements.{DeclaredTree, TypedStartTree, Nothing, Value, Declares, StepTree, InitialTree, Zero, Scalar, Elements, Literal, TypedStatementTree, Block, Declaration, Empty, Run, If, IfElse, While, DoWhile, For, Switch, Break, Continue, Return, TypedStatementTrees, case, default}
 use Rattle.debug_records.specs.declared.source.Spot.{Spot}
 use Rattle.c_places.specs.declared.flow.Exits.{Exits}
-use Rattle.c_places.specs.Flow.{onwards, nowhere, has_default, behind, either, exits_of, exits_of_all, reaches_end}
+use Rattle.c_places.specs.Flow.{onwards, nowhere, has_default, exits_behind, exits_of_arms, exits_of, exits_of_all, reaches_end}
 use Rattle.c_meaning_values.specs.declared.value.Value as source-value
 use Rattle.c_meaning_values.specs.declared.value.Value.TheVariants as source
 use Rattle.c_meaning_steps.specs.States.{State, Evaluated, Gives, Leaves, Ends, Tested, Holds, Fails, NoTest, choose, on_value, on_effect, Outcome, Next, Broken, Continued, Returned, Ended}
 use Rattle.c_meaning.specs.Activations.{Activation, Begun, on_begun, begin}
 use Rattle.c_meaning.specs.Activations as activations
-use Rattle.c_meaning.specs.Lifetimes.{closed}
+use Rattle.c_meaning.specs.Lifetimes.{lifetimes_ended}
 use Rattle.c_meaning.specs.Expressions.{Calls}
-use Rattle.c_meaning.specs.Statements.{then_do, after_body, after_switch, rounds, while_round, do_round, for_round, on_number, by_label, has_case, is_same_number, value_at, initialise_elements, declare_with, declare, declare_all, run, begin_loop, test_at, check, step, result, execute, execute_all, execute_case, execute_default}
+use Rattle.c_meaning.specs.Statements.{then_do, after_body, after_switch, rounds, while_round, do_round, for_round, on_number, by_label, has_case, is_same_number, value_at, initialise_elements, declare_with, declare, declare_all, expression_run, begin_loop, test_at, check, step, result, execute, execute_all, execute_case, execute_default}
 use Rattle.base_laws.proofs.Booleans.{or_right}
 
 -- An outcome is one of these exits; a value is handed back where some may be.
@@ -106,7 +106,7 @@ then_within values e (Returned None s) go h g = tt
 then_within values e (Returned (Some v) s) go h g = cc
 then_within values e (Ended c s) go h g = tt
 
-closed_within : (values : Bool) (e : Exits) (n : ℕ) (o : Outcome) → Within values e o → Within values e (closed n o)
+closed_within : (values : Bool) (e : Exits) (n : ℕ) (o : Outcome) → Within values e o → Within values e (lifetimes_ended n o)
 closed_within values e n (Next s) h = h
 closed_within values e n (Broken s) h = h
 closed_within values e n (Continued s) h = h
@@ -142,7 +142,7 @@ switch_within values e out (Ended c s) h = tt
 -- exits that are there stay
 all_breaks : (e : Exits) (all : TypedStatementTrees) → e.breaks ≡ true → (exits_of_all e all).breaks ≡ true
 all_breaks e statement.none h = h
-all_breaks e (statement.first s rest) h = all_breaks (behind e (exits_of s)) rest (by e.next)
+all_breaks e (statement.first s rest) h = all_breaks (exits_behind e (exits_of s)) rest (by e.next)
   where
     by : (b : Bool) → (if b then record { next = (exits_of s).next; breaks = e.breaks || (exits_of s).breaks; continues = e.continues || (exits_of s).continues } else e).breaks ≡ true
     by true = or_left e.breaks (exits_of s).breaks h
@@ -152,7 +152,7 @@ all_breaks e (default rest) h = all_breaks (record { next = true; breaks = e.bre
 
 all_continues : (e : Exits) (all : TypedStatementTrees) → e.continues ≡ true → (exits_of_all e all).continues ≡ true
 all_continues e statement.none h = h
-all_continues e (statement.first s rest) h = all_continues (behind e (exits_of s)) rest (by e.next)
+all_continues e (statement.first s rest) h = all_continues (exits_behind e (exits_of s)) rest (by e.next)
   where
     by : (b : Bool) → (if b then record { next = (exits_of s).next; breaks = e.breaks || (exits_of s).breaks; continues = e.continues || (exits_of s).continues } else e).continues ≡ true
     by true = or_left e.continues (exits_of s).continues h
@@ -178,7 +178,7 @@ module _ (calls : ℕ → Calls) (here : Activation) (values : Bool) where
   declares_onwards [] s = refl
   declares_onwards (d ∷ all) s = then_within false onwards (declare calls here d s) (declare_all calls here all) (declare_onwards d s) (declares_onwards all)
 
-  run_onwards : (spot : Spot) (e : RvalueTree) (s : State) → Onwards (run calls here spot e s)
+  run_onwards : (spot : Spot) (e : RvalueTree) (s : State) → Onwards (expression_run calls here spot e s)
   run_onwards spot e s = place_within false onwards here spot s _ (λ t. effect_within false onwards (value_at calls here spot e t) Next (λ z. refl))
 
   begin_onwards : (begin : TypedStartTree) (s : State) → Onwards (begin_loop calls here begin s)
@@ -214,7 +214,7 @@ module _ (calls : ℕ → Calls) (here : Activation) (values : Bool) where
 
   -- a statement, and those behind it
   follows : (e : Exits) → e.next ≡ true → (q : TypedStatementTree) (rest : TypedStatementTrees) (o : Outcome) → Within values (exits_of q) o → ((f : Exits) → f.next ≡ true → (t : State) → Within values (exits_of_all f rest) (execute_all calls here rest t))
-      → Within values (exits_of_all (behind e (exits_of q)) rest) (then_do o (execute_all calls here rest))
+      → Within values (exits_of_all (exits_behind e (exits_of q)) rest) (then_do o (execute_all calls here rest))
   follows e next q rest o h later = by_entry
     where
       by : (o : Outcome) → Within values (exits_of q) o → Within values (exits_of_all (record { next = (exits_of q).next; breaks = e.breaks || (exits_of q).breaks; continues = e.continues || (exits_of q).continues }) rest) (then_do o (execute_all calls here rest))
@@ -234,15 +234,15 @@ module _ (calls : ℕ → Calls) (here : Activation) (values : Bool) where
     within_exits (Block all) fit s = closed_within values (exits_of_all onwards all) (length s.memory) (execute_all calls here all s) (all_within onwards refl all fit s)
     within_exits (Declaration all) fit s = from_onwards values onwards refl (declare_all calls here all s) (declares_onwards all s)
     within_exits (Empty spot) fit s = place_within values onwards here spot s Next (λ t. refl)
-    within_exits (Run spot e) fit s = from_onwards values onwards refl (run calls here spot e s) (run_onwards spot e s)
+    within_exits (Run spot e) fit s = from_onwards values onwards refl (expression_run calls here spot e s) (run_onwards spot e s)
     within_exits (If spot c q) fit s =
         place_within values (exits_of (If spot c q)) here spot s _ (λ t. test_within values (exits_of (If spot c q)) (test_at calls here spot c t) (execute calls here q) Next
         (λ z. wider values (exits_of q) (exits_of (If spot c q)) (λ h. refl) (λ h. h) (λ h. h) (execute calls here q z) (within_exits q fit z)) (λ z. refl))
     within_exits (IfElse spot c q r) fit s =
         let a = exits_of q in let b = exits_of r in
-        place_within values (either a b) here spot s _ (λ t. test_within values (either a b) (test_at calls here spot c t) (execute calls here q) (execute calls here r)
-        (λ z. wider values a (either a b) (or_left a.next b.next) (or_left a.breaks b.breaks) (or_left a.continues b.continues) (execute calls here q z) (within_exits q fit.0 z))
-        (λ z. wider values b (either a b) (or_right a.next b.next) (or_right a.breaks b.breaks) (or_right a.continues b.continues) (execute calls here r z) (within_exits r fit.1 z)))
+        place_within values (exits_of_arms a b) here spot s _ (λ t. test_within values (exits_of_arms a b) (test_at calls here spot c t) (execute calls here q) (execute calls here r)
+        (λ z. wider values a (exits_of_arms a b) (or_left a.next b.next) (or_left a.breaks b.breaks) (or_left a.continues b.continues) (execute calls here q z) (within_exits q fit.0 z))
+        (λ z. wider values b (exits_of_arms a b) (or_right a.next b.next) (or_right a.breaks b.breaks) (or_right a.continues b.continues) (execute calls here r z) (within_exits r fit.1 z)))
     within_exits (While spot c q) fit s =
         rounds_within values onwards s.turns (while_round here spot (test_at calls here spot c) (execute calls here q))
         (λ again h t. place_within values onwards here spot t _ (λ u. test_within values onwards (test_at calls here spot c u) _ Next
@@ -288,7 +288,7 @@ module _ (calls : ℕ → Calls) (here : Activation) (values : Bool) where
     -- From the label of a number on,
     case_within : (e : Exits) (z : ℤ) (all : TypedStatementTrees) → AllReturnsFit values all → has_case z all ≡ true → (s : State) → Within values (exits_of_all e all) (execute_case calls here z all s)
     case_within e z statement.none fit has s = cc
-    case_within e z (statement.first q rest) fit has s = case_within (behind e (exits_of q)) z rest fit.1 has s
+    case_within e z (statement.first q rest) fit has s = case_within (exits_behind e (exits_of q)) z rest fit.1 has s
     case_within e z (case j rest) fit has s = by (is_same_number z j) has (λ t. all_within (record { next = true; breaks = e.breaks; continues = e.continues }) refl rest fit t) (λ h t. case_within (record { next = true; breaks = e.breaks; continues = e.continues }) z rest fit h t)
       where
         by : (same : Bool) → same || has_case z rest ≡ true → ((t : State) → Within values (exits_of_all (record { next = true; breaks = e.breaks; continues = e.continues }) rest) (execute_all calls here rest t))
@@ -301,7 +301,7 @@ module _ (calls : ℕ → Calls) (here : Activation) (values : Bool) where
     -- and from `default` on.
     default_within : (e : Exits) (all : TypedStatementTrees) → AllReturnsFit values all → has_default all ≡ true → (s : State) → Within values (exits_of_all e all) (execute_default calls here all s)
     default_within e statement.none fit has s = cc
-    default_within e (statement.first q rest) fit has s = default_within (behind e (exits_of q)) rest fit.1 has s
+    default_within e (statement.first q rest) fit has s = default_within (exits_behind e (exits_of q)) rest fit.1 has s
     default_within e (case z rest) fit has s = default_within (record { next = true; breaks = e.breaks; continues = e.continues }) rest fit has s
     default_within e (default rest) fit has s = all_within (record { next = true; breaks = e.breaks; continues = e.continues }) refl rest fit s
 

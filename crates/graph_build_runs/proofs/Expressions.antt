@@ -24,7 +24,7 @@ use Rattle.c_tree.specs.TypedExpressions.{RvalueTree, LvalueTree, ArgumentTrees,
 use Rattle.c_tree.specs.Programs.{AutomaticTree, StaticTree, LiteralTree}
 use Rattle.c_type_rules.specs.Constants.{calculated}
 use Rattle.c_type_rules.specs.Integers.{integer, object_size}
-use Rattle.c_type_rules.specs.Types.{loaded}
+use Rattle.c_type_rules.specs.Types.{loaded_type}
 use Rattle.c_type_rules.specs.ValueTypes.{object_type, results_of, type_of, given_by, integer_in, is_void, is_pointer}
 use Rattle.c_type_laws.specs.Kind.{Of}
 use Rattle.c_type_laws.specs.Kinds.{is_promoted, is_of}
@@ -32,10 +32,10 @@ use Rattle.c_type_laws.specs.Expressions.{kind_of}
 use Rattle.c_meaning_values.specs.declared.value.Value as source-value
 use Rattle.c_meaning_values.specs.declared.value.Value.TheVariants as source
 use Rattle.c_meaning_values.specs.Memory.{Memory as SourceMemory}
-use Rattle.c_meaning_values.specs.Operations.{arithmetic, moved_by, operator_of}
-use Rattle.c_meaning_steps.specs.States.{State, Evaluated, Gives, Leaves, Ends, given, Listed, Lists, NoList, listed, fronted, on_list}
+use Rattle.c_meaning_values.specs.Operations.{arithmetic, moved_by_elements, operator_of}
+use Rattle.c_meaning_steps.specs.States.{State, Evaluated, Gives, Leaves, Ends, value_or_undefined, Listed, Lists, NoList, argument_listed, fronted, on_list}
 use Rattle.c_meaning.specs.Expressions.{Calls, evaluate, evaluate_all, call}
-use Rattle.c_meaning_steps.specs.Steps.{next_byte, updated as updated_value}
+use Rattle.c_meaning_steps.specs.Steps.{next_byte, updated_value}
 use Rattle.graph_core.specs.declared.instruction.Element.TheVariants.{Word}
 use Rattle.graph_build_layout.specs.declared.laid.Use.{Use}
 use Rattle.graph_build_layout.specs.declared.laid.Use.TheVariants.{Anywhere, In, Nothing, Tested}
@@ -122,8 +122,8 @@ mutual
   pub data Coded (x : Setting) (calls : Calls) : RvalueTree → Type 0 where
     constant : {z : ℤ} {t : IntegerType} → holds (integer t) z ≡ true → Coded x calls (Constant z t)
     null : Coded x calls Null
-    scalar : {sc : Scalar} {v : ℕ} {of : ObjectType} → ScalarVariable x v of sc → kind_of x.program x.tree (Load sc (Named (object.Automatic v) of)) ≡ Of (loaded sc) → Coded x calls (Load sc (Named (object.Automatic v) of))
-    load : {sc : Scalar} {lv : LvalueTree} → object_type lv ≡ of-object.Scalar sc → kind_of x.program x.tree (Load sc lv) ≡ Of (loaded sc) → CodedPlace x calls lv → Coded x calls (Load sc lv)
+    scalar : {sc : Scalar} {v : ℕ} {of : ObjectType} → ScalarVariable x v of sc → kind_of x.program x.tree (Load sc (Named (object.Automatic v) of)) ≡ Of (loaded_type sc) → Coded x calls (Load sc (Named (object.Automatic v) of))
+    load : {sc : Scalar} {lv : LvalueTree} → object_type lv ≡ of-object.Scalar sc → kind_of x.program x.tree (Load sc lv) ≡ Of (loaded_type sc) → CodedPlace x calls lv → Coded x calls (Load sc lv)
     decay : {lv : LvalueTree} {element : Scalar} {count : ℕ} → object_type lv ≡ of-object.Array element count → kind_of x.program x.tree (Decay lv) ≡ Of (Pointer (of-object.Scalar element)) → CodedPlace x calls lv → Coded x calls (Decay lv)
     address : {lv : LvalueTree} → kind_of x.program x.tree (AddressOf lv) ≡ Of (Pointer (object_type lv)) → CodedPlace x calls lv → Coded x calls (AddressOf lv)
     convert : {ty from : IntegerType} {e : RvalueTree} → kind_of x.program x.tree (Convert ty e) ≡ Of (Integer ty) → kind_of x.program x.tree e ≡ Of (Integer from) → integer_in (type_of (names_in x).results e) ≡ from → Coded x calls e → Coded x calls (Convert ty e)
@@ -147,21 +147,21 @@ mutual
         → ((memory : SourceMemory) (v : source-value.Value) → HasKind memory (kind_of x.program x.tree b) v → HasKind memory (kind_of x.program x.tree (Conditional c a b)) v) → Coded x calls c → Coded x calls a → Coded x calls b → Coded x calls (Conditional c a b)
     nothing_chosen : {c a b : RvalueTree} → is_void (type_of (names_in x).results a) ≡ true → IsNothing x a → IsNothing x b → Coded x calls c → Coded x calls a → Coded x calls b → Coded x calls (Conditional c a b)
     sequence : {a b : RvalueTree} → kind_of x.program x.tree (Comma a b) ≡ kind_of x.program x.tree b → Coded x calls a → Coded x calls b → Coded x calls (Comma a b)
-    assigned : {sc : Scalar} {v : ℕ} {of : ObjectType} {e : RvalueTree} → (y : ScalarVariable x v of sc) → kind_of x.program x.tree (Assign sc (Named (object.Automatic v) of) e) ≡ Of (loaded sc) → is_of (kind_of x.program x.tree e) (loaded sc) ≡ true → Apart x y.name e → Coded x calls e
+    assigned : {sc : Scalar} {v : ℕ} {of : ObjectType} {e : RvalueTree} → (y : ScalarVariable x v of sc) → kind_of x.program x.tree (Assign sc (Named (object.Automatic v) of) e) ≡ Of (loaded_type sc) → is_of (kind_of x.program x.tree e) (loaded_type sc) ≡ true → Apart x y.name e → Coded x calls e
         → Coded x calls (Assign sc (Named (object.Automatic v) of) e)
-    stored : {sc : Scalar} {lv : LvalueTree} {e : RvalueTree} → object_type lv ≡ of-object.Scalar sc → kind_of x.program x.tree (Assign sc lv e) ≡ Of (loaded sc) → is_of (kind_of x.program x.tree e) (loaded sc) ≡ true → IsWhole x e → CodedPlace x calls lv → Coded x calls e → Coded x calls (Assign sc lv e)
+    stored : {sc : Scalar} {lv : LvalueTree} {e : RvalueTree} → object_type lv ≡ of-object.Scalar sc → kind_of x.program x.tree (Assign sc lv e) ≡ Of (loaded_type sc) → is_of (kind_of x.program x.tree e) (loaded_type sc) ≡ true → IsWhole x e → CodedPlace x calls lv → Coded x calls e → Coded x calls (Assign sc lv e)
     updated : {o : declared-arithmetic.Arithmetic} {ty t : IntegerType} {v : ℕ} {of : ObjectType} {e : RvalueTree} → is_promoted t ≡ true → ScalarVariable x v of (record { base = ty; stars = 0 }) → kind_of x.program x.tree (Update o ty t (Named (object.Automatic v) of) e) ≡ Of (Integer ty) → IsRightBy x o t e → Coded x calls e
         → Coded x calls (Update o ty t (Named (object.Automatic v) of) e)
     updated_there : {o : declared-arithmetic.Arithmetic} {ty t : IntegerType} {lv : LvalueTree} {e : RvalueTree} → is_promoted t ≡ true → object_type lv ≡ of-object.Scalar (record { base = ty; stars = 0 }) → kind_of x.program x.tree (Update o ty t lv e) ≡ Of (Integer ty) → IsRightBy x o t e → CodedPlace x calls lv → Coded x calls e
         → Coded x calls (Update o ty t lv e)
-    advanced : {d : Direction} {of : ObjectType} {sc : Scalar} {v : ℕ} {in_it : ObjectType} {e : RvalueTree} → ScalarVariable x v in_it sc → loaded sc ≡ Pointer of → kind_of x.program x.tree (UpdatePointer d of (Named (object.Automatic v) in_it) e) ≡ Of (Pointer of) → IsNumberBy x e → Coded x calls e
+    advanced : {d : Direction} {of : ObjectType} {sc : Scalar} {v : ℕ} {in_it : ObjectType} {e : RvalueTree} → ScalarVariable x v in_it sc → loaded_type sc ≡ Pointer of → kind_of x.program x.tree (UpdatePointer d of (Named (object.Automatic v) in_it) e) ≡ Of (Pointer of) → IsNumberBy x e → Coded x calls e
         → Coded x calls (UpdatePointer d of (Named (object.Automatic v) in_it) e)
-    advanced_there : {d : Direction} {of : ObjectType} {sc : Scalar} {lv : LvalueTree} {e : RvalueTree} → object_type lv ≡ of-object.Scalar sc → loaded sc ≡ Pointer of → rule.element_of sc ≡ Word → kind_of x.program x.tree (UpdatePointer d of lv e) ≡ Of (Pointer of) → IsNumberBy x e → CodedPlace x calls lv → Coded x calls e
+    advanced_there : {d : Direction} {of : ObjectType} {sc : Scalar} {lv : LvalueTree} {e : RvalueTree} → object_type lv ≡ of-object.Scalar sc → loaded_type sc ≡ Pointer of → rule.element_of sc ≡ Word → kind_of x.program x.tree (UpdatePointer d of lv e) ≡ Of (Pointer of) → IsNumberBy x e → CodedPlace x calls lv → Coded x calls e
         → Coded x calls (UpdatePointer d of lv e)
     stepped : {d : Direction} {g : Given} {ty t : IntegerType} {v : ℕ} {of : ObjectType} → is_promoted t ≡ true → ScalarVariable x v of (record { base = ty; stars = 0 }) → kind_of x.program x.tree (Step d g ty t (Named (object.Automatic v) of)) ≡ Of (Integer ty) → Coded x calls (Step d g ty t (Named (object.Automatic v) of))
     stepped_there : {d : Direction} {g : Given} {ty t : IntegerType} {lv : LvalueTree} → is_promoted t ≡ true → object_type lv ≡ of-object.Scalar (record { base = ty; stars = 0 }) → kind_of x.program x.tree (Step d g ty t lv) ≡ Of (Integer ty) → CodedPlace x calls lv → Coded x calls (Step d g ty t lv)
-    walked : {d : Direction} {g : Given} {of : ObjectType} {sc : Scalar} {v : ℕ} {in_it : ObjectType} → ScalarVariable x v in_it sc → loaded sc ≡ Pointer of → kind_of x.program x.tree (StepPointer d g of (Named (object.Automatic v) in_it)) ≡ Of (Pointer of) → Coded x calls (StepPointer d g of (Named (object.Automatic v) in_it))
-    walked_there : {d : Direction} {g : Given} {of : ObjectType} {sc : Scalar} {lv : LvalueTree} → object_type lv ≡ of-object.Scalar sc → loaded sc ≡ Pointer of → rule.element_of sc ≡ Word → kind_of x.program x.tree (StepPointer d g of lv) ≡ Of (Pointer of) → CodedPlace x calls lv → Coded x calls (StepPointer d g of lv)
+    walked : {d : Direction} {g : Given} {of : ObjectType} {sc : Scalar} {v : ℕ} {in_it : ObjectType} → ScalarVariable x v in_it sc → loaded_type sc ≡ Pointer of → kind_of x.program x.tree (StepPointer d g of (Named (object.Automatic v) in_it)) ≡ Of (Pointer of) → Coded x calls (StepPointer d g of (Named (object.Automatic v) in_it))
+    walked_there : {d : Direction} {g : Given} {of : ObjectType} {sc : Scalar} {lv : LvalueTree} → object_type lv ≡ of-object.Scalar sc → loaded_type sc ≡ Pointer of → rule.element_of sc ≡ Word → kind_of x.program x.tree (StepPointer d g of lv) ≡ Of (Pointer of) → CodedPlace x calls lv → Coded x calls (StepPointer d g of lv)
     called : {f : ℕ} {types : List ValueType} {all : ArgumentTrees} → kind_of x.program x.tree (Call (callee.Function f) all) ≡ Of (given_by (results_of x.program.functions) (callee.Function f)) → is_void (given_by (names_in x).results (callee.Function f)) ≡ false → CallKeeps x calls (callee.Function f) types → CallsOk x calls f types
         → CodedAll x calls types all → Coded x calls (Call (callee.Function f) all)
     run : {f : ℕ} {types : List ValueType} {all : ArgumentTrees} → kind_of x.program x.tree (Call (callee.Function f) all) ≡ Of (given_by (results_of x.program.functions) (callee.Function f)) → is_void (given_by (names_in x).results (callee.Function f)) ≡ true
@@ -203,13 +203,13 @@ operated_of : (x : Setting) (calls : Calls) (o : declared-arithmetic.Arithmetic)
     → Typed x calls a → Typed x calls b → Typed x calls (Arithmetic o t a b)
 operated_of x calls o t a b promoted kind kind_a right typed_a typed_b s sound =
     subst (λ k. Keeps x.program x.begun s.memory k (evaluate calls (depth_in x) (Arithmetic o t a b) s)) (sym kind)
-    (both_typed x calls a b (Of (Integer t)) (λ v w s1. given (arithmetic o t v w) s1) typed_a typed_b (λ v w s1 sound1 ka kb. gives v w s1 sound1 (subst (λ k. HasKind s1.memory k v) kind_a ka) (right s1.memory w kb)) s sound)
+    (both_typed x calls a b (Of (Integer t)) (λ v w s1. value_or_undefined (arithmetic o t v w) s1) typed_a typed_b (λ v w s1 sound1 ka kb. gives v w s1 sound1 (subst (λ k. HasKind s1.memory k v) kind_a ka) (right s1.memory w kb)) s sound)
   where
-    by_number : (p q : ℤ) (s1 : State) → Sound x.program x.begun s1 → holds (integer t) p ≡ true → IsRight o t q → (r : Option ℤ) → calculated o t p q ≡ r → Keeps x.program x.begun s1.memory (Of (Integer t)) (given (option_map source.Number r) s1)
+    by_number : (p q : ℤ) (s1 : State) → Sound x.program x.begun s1 → holds (integer t) p ≡ true → IsRight o t q → (r : Option ℤ) → calculated o t p q ≡ r → Keeps x.program x.begun s1.memory (Of (Integer t)) (value_or_undefined (option_map source.Number r) s1)
     by_number p q s1 sound1 hp hq None e = tt
     by_number p q s1 sound1 hp hq (Some z) e = record { sound = sound1; later = later_refl s1.memory; is = remains o t promoted p q z hp hq e }
 
-    gives : (v w : source-value.Value) (s1 : State) → Sound x.program x.begun s1 → IsOf s1.memory (Integer t) v → IsRightValue o t w → Keeps x.program x.begun s1.memory (Of (Integer t)) (given (arithmetic o t v w) s1)
+    gives : (v w : source-value.Value) (s1 : State) → Sound x.program x.begun s1 → IsOf s1.memory (Integer t) v → IsRightValue o t w → Keeps x.program x.begun s1.memory (Of (Integer t)) (value_or_undefined (arithmetic o t v w) s1)
     gives (source.Number p) (source.Number q) s1 sound1 hp hq = by_number p q s1 sound1 hp hq (calculated o t p q) refl
     gives (source.Number p) source.Null s1 sound1 hp hq = absurd hq
     gives (source.Number p) (source.Pointer n k) s1 sound1 hp hq = absurd hq
@@ -231,7 +231,7 @@ first_typed x calls t types e rest fits typed_e typed_rest s sound = by (evaluat
     }
     behind v s1 gave (NoList c s2) h = tt
 
-    by : (r : Evaluated) → Keeps x.program x.begun s.memory (kind_of x.program x.tree e) r → KeepsList x.program x.begun s.memory (t ∷ types) (listed r (λ v s1. fronted v (evaluate_all calls (depth_in x) rest s1)))
+    by : (r : Evaluated) → Keeps x.program x.begun s.memory (kind_of x.program x.tree e) r → KeepsList x.program x.begun s.memory (t ∷ types) (argument_listed r (λ v s1. fronted v (evaluate_all calls (depth_in x) rest s1)))
     by (Gives v s1) gave = behind v s1 gave (evaluate_all calls (depth_in x) rest s1) (typed_rest s1 gave.sound)
     by (Leaves s1) gave = tt
     by (Ends c s1) gave = tt
@@ -350,10 +350,10 @@ module _ (x : Setting) (calls : Calls) (low : ScalarsFirst x) (apart : ScalarsAp
         (integer_changes x o ty t promoted (computes o t promoted) (remains o t promoted)) refl e (coded_typed c) right s sound))
     coded_typed (advanced {d = d} {of = of} {sc = sc} {v = v} {in_it = in_it} {e = e} y type_is kind number c) = λ s sound.
         (subst (λ k. Keeps x.program x.begun s.memory k (evaluate calls (depth_in x) (UpdatePointer d of (Named (object.Automatic v) in_it) e) s)) (sym kind)
-        (updated_keeps x calls sc (Named (object.Automatic v) in_it) y.one (variable_typed x calls v in_it y.fits) (change.Pointer d (object_size of)) (Pointer of) IsNumber (λ memory a b. moved_by memory d of a b) (pointer_changes x d of small) type_is e (coded_typed c) number s sound))
+        (updated_keeps x calls sc (Named (object.Automatic v) in_it) y.one (variable_typed x calls v in_it y.fits) (change.Pointer d (object_size of)) (Pointer of) IsNumber (λ memory a b. moved_by_elements memory d of a b) (pointer_changes x d of small) type_is e (coded_typed c) number s sound))
     coded_typed (advanced_there {d = d} {of = of} {sc = sc} {lv = lv} {e = e} one_of type_is word kind number p c) = λ s sound.
         (subst (λ k. Keeps x.program x.begun s.memory k (evaluate calls (depth_in x) (UpdatePointer d of lv e) s)) (sym kind)
-        (updated_keeps x calls sc lv one_of (place_typed p) (change.Pointer d (object_size of)) (Pointer of) IsNumber (λ memory a b. moved_by memory d of a b) (pointer_changes x d of small) type_is e (coded_typed c) number s sound))
+        (updated_keeps x calls sc lv one_of (place_typed p) (change.Pointer d (object_size of)) (Pointer of) IsNumber (λ memory a b. moved_by_elements memory d of a b) (pointer_changes x d of small) type_is e (coded_typed c) number s sound))
     coded_typed (stepped {d = d} {g = g} {ty = ty} {t = t} {v = v} {of = of} promoted y kind) = λ s sound.
         (subst (λ k. Keeps x.program x.begun s.memory k (evaluate calls (depth_in x) (Step d g ty t (Named (object.Automatic v) of)) s)) (sym kind)
         (stepped_keeps x calls (record { base = ty; stars = 0 }) (Named (object.Automatic v) of) y.one (variable_typed x calls v of y.fits) (change.Integer (steps_by d) ty t) (Integer ty) (IsRightValue (steps_by d) t) (λ memory a b. updated_value (operator_of d) ty t a b)
@@ -363,10 +363,10 @@ module _ (x : Setting) (calls : Calls) (low : ScalarsFirst x) (apart : ScalarsAp
         (stepped_keeps x calls (record { base = ty; stars = 0 }) lv of (place_typed p) (change.Integer (steps_by d) ty t) (Integer ty) (IsRightValue (steps_by d) t) (λ memory a b. updated_value (operator_of d) ty t a b) (step_changes x d ty t promoted) refl g (one_right d t promoted) s sound))
     coded_typed (walked {d = d} {g = g} {of = of} {sc = sc} {v = v} {in_it = in_it} y type_is kind) = λ s sound.
         (subst (λ k. Keeps x.program x.begun s.memory k (evaluate calls (depth_in x) (StepPointer d g of (Named (object.Automatic v) in_it)) s)) (sym kind)
-        (stepped_keeps x calls sc (Named (object.Automatic v) in_it) y.one (variable_typed x calls v in_it y.fits) (change.Pointer d (object_size of)) (Pointer of) IsNumber (λ memory a b. moved_by memory d of a b) (pointer_changes x d of small) type_is g tt s sound))
+        (stepped_keeps x calls sc (Named (object.Automatic v) in_it) y.one (variable_typed x calls v in_it y.fits) (change.Pointer d (object_size of)) (Pointer of) IsNumber (λ memory a b. moved_by_elements memory d of a b) (pointer_changes x d of small) type_is g tt s sound))
     coded_typed (walked_there {d = d} {g = g} {of = of} {sc = sc} {lv = lv} one_of type_is word kind p) = λ s sound.
         (subst (λ k. Keeps x.program x.begun s.memory k (evaluate calls (depth_in x) (StepPointer d g of lv) s)) (sym kind)
-        (stepped_keeps x calls sc lv one_of (place_typed p) (change.Pointer d (object_size of)) (Pointer of) IsNumber (λ memory a b. moved_by memory d of a b) (pointer_changes x d of small) type_is g tt s sound))
+        (stepped_keeps x calls sc lv one_of (place_typed p) (change.Pointer d (object_size of)) (Pointer of) IsNumber (λ memory a b. moved_by_elements memory d of a b) (pointer_changes x d of small) type_is g tt s sound))
     coded_typed (called {f = f} {types = types} {all = all} kind whole keeps ok c) = call_typed x calls (callee.Function f) types all kind keeps (all_typed c)
     coded_typed (run {f = f} {types = types} {all = all} kind void nothing keeps ok c) = call_typed x calls (callee.Function f) types all kind keeps (all_typed c)
     coded_typed (got kind) = call_typed x calls callee.Getchar [] none kind (byte_keeps x calls) (none_typed x calls)

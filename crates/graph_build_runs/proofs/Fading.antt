@@ -7,7 +7,7 @@ use Rattle.c_tree.specs.declared.object_type.ObjectType.{ObjectType}
 use Rattle.c_tree.specs.declared.object_type.ValueType.{ValueType}
 use Rattle.c_tree.specs.declared.object_type.ValueType.TheVariants.{Void, Integer, Pointer}
 use Rattle.c_tree.specs.Programs.{ProgramTree}
-use Rattle.c_type_rules.specs.Types.{loaded}
+use Rattle.c_type_rules.specs.Types.{loaded_type}
 use Rattle.c_meaning_values.specs.declared.value.Value as source-value
 use Rattle.c_meaning_values.specs.declared.value.Value.TheVariants as source
 use Rattle.c_meaning_values.specs.declared.value.Phase.TheVariants.{Initialising, Live, Ended}
@@ -147,8 +147,8 @@ declared_ended p (Variable k d) o c = (c.0, c.1, c.2, c.3)
 pub sound_closed : (p : ProgramTree) (began : SourceMemory) (s : State) (n : ℕ) → Sound p began s → Sound p (ended_from n s.memory) (ending_from n s)
 sound_closed p began s n h = record {
   typed = λ i z at. elim (was_or_ended s.memory n i z at) [
-    | inl both ↦ all_faded p s.memory n [] (loaded z.element) z.values (h.typed i z both.1)
-    | inr both ↦ subst (λ q. AllByRecursion (IsOf (ended_from n s.memory) (loaded q.element)) q.values) (sym both.2) (all_faded p s.memory n [] (loaded both.0.element) both.0.values (h.typed i both.0 both.1))
+    | inl both ↦ all_faded p s.memory n [] (loaded_type z.element) z.values (h.typed i z both.1)
+    | inr both ↦ subst (λ q. AllByRecursion (IsOf (ended_from n s.memory) (loaded_type q.element)) q.values) (sym both.2) (all_faded p s.memory n [] (loaded_type both.0.element) both.0.values (h.typed i both.0 both.1))
   ];
   differ = λ i j z q at_i at_j alive_i alive_j same. h.differ i j z q (was i z at_i alive_i) (was j q at_j alive_j) alive_i alive_j same;
   declared = λ i z at. elim (was_or_ended s.memory n i z at) [

@@ -7,7 +7,7 @@ use Rattle.c_type_laws.specs.Kinds.{is_scalar}
 use Rattle.c_type_laws.specs.Expressions.{kind_of}
 use Rattle.c_type_laws.specs.Statements.{tested_type, is_label, is_switch, may_stand, is_declared, are_declared, is_start, is_step, is_condition, is_statement, are_statements}
 use Rattle.c_meaning_values.specs.Memory.{Memory as SourceMemory}
-use Rattle.c_flow.specs.Flow.{start}
+use Rattle.c_flow.specs.Flow.{start_place}
 use Rattle.graph_build_runs.proofs.Moving.{AreSmall}
 use Rattle.graph_build_runs.proofs.Shapes.{two_true, three_true, four_true}
 use Rattle.graph_build_runs.proofs.Coding.{LaidOut}
@@ -39,7 +39,7 @@ abbrev mutual
   StatementStands k low (If spot e s) = LaidAt k e × IsPlain s × StatementStands k low s
   StatementStands k low (IfElse spot e s r) = LaidAt k e × IsPlain s × IsPlain r × StatementStands k low s × StatementStands k low r
   StatementStands k low (While spot e s) = LaidAt k e × IsPlain s × StatementStands k low s
-  StatementStands k low (DoWhile s spot e) = LaidAt k e × IsPlain s × StatementStands k low s × There k (start s (Some spot.at))
+  StatementStands k low (DoWhile s spot e) = LaidAt k e × IsPlain s × StatementStands k low s × There k (start_place s (Some spot.at))
   StatementStands k low (For begin spot e p s) = StartStands k low begin × LaidIn k e × StepFits k p × IsPlain s × StatementStands k (behind_start low begin) s
   StatementStands k low (Switch spot e all) = LaidAt k e × ArePlain all × StatementsStand k low all
   StatementStands k low (Break spot) = Unit {0}

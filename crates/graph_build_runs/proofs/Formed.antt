@@ -11,7 +11,7 @@ use Rattle.c_type_laws.specs.Statements.{tested_type}
 use Rattle.c_places.specs.Places.{brought, brought_by_start}
 use Rattle.c_meaning.specs.Statements.{declare}
 use Rattle.c_flow.specs.declared.edge.Ways.{Ways}
-use Rattle.c_flow.specs.Flow.{start, start_of_declarators, round_of, within_loop, within_switch, before as with_rest}
+use Rattle.c_flow.specs.Flow.{start_place, start_of_declarators, round_of, within_loop, within_switch, ways_before as with_rest}
 use Rattle.graph_core.specs.Graphs.{Return as Returning}
 use Rattle.graph_build_layout.specs.declared.laid.Use.TheVariants.{Anywhere}
 use Rattle.graph_build_layout.specs.Layout.{laid}
@@ -79,19 +79,19 @@ mutual
     declaration : {w : Ways} {scope : List ℕ} {low : ℕ} {all : List DeclaredTree} → DeclaresAll k w scope low all → Formed k w scope low (Declaration all)
     empty : {w : Ways} {scope : List ℕ} {low : ℕ} {spot : Spot} → Begins k scope spot.at (λ t i. going (coding_in k) w.next i) → Formed k w scope low (Empty spot)
     runs : {w : Ways} {scope : List ℕ} {low : ℕ} {spot : Spot} {e : RvalueTree} → Works k (place_at k spot.at) e → Begins k scope spot.at (λ t i. coded (coding_in k) spot.at e t (Unused (going (coding_in k) w.next i))) → Formed k w scope low (Run spot e)
-    chosen : {w : Ways} {scope : List ℕ} {low : ℕ} {spot : Spot} {e : RvalueTree} {s : TypedStatementTree} → Works k (place_at k spot.at) e → Begins k scope spot.at (λ t i. branching (coding_in k) spot.at e t (start s w.next) w.next i) → IsPlain s → Formed k w scope low s
+    chosen : {w : Ways} {scope : List ℕ} {low : ℕ} {spot : Spot} {e : RvalueTree} {s : TypedStatementTree} → Works k (place_at k spot.at) e → Begins k scope spot.at (λ t i. branching (coding_in k) spot.at e t (start_place s w.next) w.next i) → IsPlain s → Formed k w scope low s
         → Formed k w scope low (If spot e s)
-    either : {w : Ways} {scope : List ℕ} {low : ℕ} {spot : Spot} {e : RvalueTree} {s r : TypedStatementTree} → Works k (place_at k spot.at) e → Begins k scope spot.at (λ t i. branching (coding_in k) spot.at e t (start s w.next) (start r w.next) i) → IsPlain s → IsPlain r → Formed k w scope low s
+    either : {w : Ways} {scope : List ℕ} {low : ℕ} {spot : Spot} {e : RvalueTree} {s r : TypedStatementTree} → Works k (place_at k spot.at) e → Begins k scope spot.at (λ t i. branching (coding_in k) spot.at e t (start_place s w.next) (start_place r w.next) i) → IsPlain s → IsPlain r → Formed k w scope low s
         → Formed k w scope low r → Formed k w scope low (IfElse spot e s r)
-    while_loop : {w : Ways} {scope : List ℕ} {low : ℕ} {spot : Spot} {e : RvalueTree} {s : TypedStatementTree} → Works k (place_at k spot.at) e → Begins k scope spot.at (λ t i. branching (coding_in k) spot.at e t (start s (Some spot.at)) w.next i) → IsPlain s
+    while_loop : {w : Ways} {scope : List ℕ} {low : ℕ} {spot : Spot} {e : RvalueTree} {s : TypedStatementTree} → Works k (place_at k spot.at) e → Begins k scope spot.at (λ t i. branching (coding_in k) spot.at e t (start_place s (Some spot.at)) w.next i) → IsPlain s
         → Formed k (within_loop spot.at w) scope low s → Formed k w scope low (While spot e s)
-    do_loop : {w : Ways} {scope : List ℕ} {low : ℕ} {spot : Spot} {e : RvalueTree} {s : TypedStatementTree} → There k (start s (Some spot.at)) → Works k (place_at k spot.at) e → Begins k scope spot.at (λ t i. branching (coding_in k) spot.at e t (start s (Some spot.at)) w.next i) → IsPlain s
+    do_loop : {w : Ways} {scope : List ℕ} {low : ℕ} {spot : Spot} {e : RvalueTree} {s : TypedStatementTree} → There k (start_place s (Some spot.at)) → Works k (place_at k spot.at) e → Begins k scope spot.at (λ t i. branching (coding_in k) spot.at e t (start_place s (Some spot.at)) w.next i) → IsPlain s
         → Formed k (within_loop spot.at w) scope low s → Formed k w scope low (DoWhile s spot e)
     for_loop : {w : Ways} {scope : List ℕ} {low : ℕ} {begin : TypedStartTree} {spot : Spot} {e : RvalueTree} {p : Option StepTree} {s : TypedStatementTree} → FormedStart k w spot.at scope low begin → Works k (place_at k spot.at) e
-        → Begins k (scope ++ brought_by_start begin) spot.at (λ t i. branching (coding_in k) spot.at e t (start s (Some (round_of p spot.at))) w.next i) → FormedStep k spot.at (scope ++ brought_by_start begin) p → IsPlain s
+        → Begins k (scope ++ brought_by_start begin) spot.at (λ t i. branching (coding_in k) spot.at e t (start_place s (Some (round_of p spot.at))) w.next i) → FormedStep k spot.at (scope ++ brought_by_start begin) p → IsPlain s
         → Formed k (within_loop (round_of p spot.at) w) (scope ++ brought_by_start begin) (behind_start low begin) s → Formed k w scope low (For begin spot (Some e) p s)
     endless_loop : {w : Ways} {scope : List ℕ} {low : ℕ} {begin : TypedStartTree} {spot : Spot} {p : Option StepTree} {s : TypedStatementTree} → FormedStart k w spot.at scope low begin
-        → Begins k (scope ++ brought_by_start begin) spot.at (λ t i. going (coding_in k) (start s (Some (round_of p spot.at))) i) → FormedStep k spot.at (scope ++ brought_by_start begin) p → IsPlain s
+        → Begins k (scope ++ brought_by_start begin) spot.at (λ t i. going (coding_in k) (start_place s (Some (round_of p spot.at))) i) → FormedStep k spot.at (scope ++ brought_by_start begin) p → IsPlain s
         → Formed k (within_loop (round_of p spot.at) w) (scope ++ brought_by_start begin) (behind_start low begin) s → Formed k w scope low (For begin spot None p s)
     switch : {w : Ways} {scope : List ℕ} {low : ℕ} {spot : Spot} {e : RvalueTree} {all : TypedStatementTrees} {t : IntegerType} → tested_type (kind_of k.setting.program k.setting.tree e) ≡ Some t → AreLabels t all → Works k (place_at k spot.at) e
         → Begins k scope spot.at (λ free i. coded (coding_in k) spot.at e free (To None (tests (coding_in k) spot.at (laid (names_in k.setting) e Anywhere (begun (coding_in k) free)).value all w.next (default_start all w.next) i))) → ArePlain all

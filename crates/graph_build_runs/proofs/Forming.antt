@@ -17,7 +17,7 @@ use Rattle.c_places.specs.Places.{Place, stop, brought, brought_by_start, places
 use Rattle.c_meaning_values.specs.Memory.{Memory as SourceMemory}
 use Rattle.c_meaning.specs.Statements.{declare}
 use Rattle.c_flow.specs.declared.edge.Ways.{Ways}
-use Rattle.c_flow.specs.Flow.{start, start_of_declarators, round_of, within_loop, within_switch, before as with_rest}
+use Rattle.c_flow.specs.Flow.{start_place, start_of_declarators, round_of, within_loop, within_switch, ways_before as with_rest}
 use Rattle.graph_core.specs.Graphs as unit
 use Rattle.graph_core.specs.Graphs.{Operand, Instruction, Automatic, Store, Marker, Return as Returning}
 use Rattle.graph_build_layout.specs.declared.laid.Use.{Use}
@@ -27,7 +27,7 @@ use Rattle.graph_build_layout.specs.Layout.{laid}
 use Rattle.graph_build_names.specs.Names.{scalar_of, object_of, pick}
 use Rattle.graph_build_steps.specs.Rules.{element_of}
 use Rattle.graph_build_steps.specs.Steps.{or_zero}
-use Rattle.graph_build_steps.specs.Drafts.{Made, Goal, To, Unused, Either, ending, before, note}
+use Rattle.graph_build_steps.specs.Drafts.{Made, Goal, To, Unused, Either, ending, instruction_before, note}
 use Rattle.graph_build_statements.specs.Coding.{Part, begun, going, label_for, with_end, placed_at, coded as coded_at, branching}
 use Rattle.graph_build_statements.specs.Reached.{reached, initial_reached, declared_reached, start_reached, condition_reached, step_reached, result_reached, statement_reached, statements_reached, bare}
 use Rattle.graph_build_statements.specs.Declaring.{declare as declared_made, add_declared, object_type_of, words_of, cleared, store_elements, copied_words, declare_kept, declare_scalar, declare_as}
@@ -117,7 +117,7 @@ abbrev mutual
   StatementFits k low (If spot e s) = LaidAt k e × IsPlain s × StatementFits k low s
   StatementFits k low (IfElse spot e s r) = LaidAt k e × IsPlain s × IsPlain r × StatementFits k low s × StatementFits k low r
   StatementFits k low (While spot e s) = LaidAt k e × IsPlain s × StatementFits k low s
-  StatementFits k low (DoWhile s spot e) = LaidAt k e × IsPlain s × StatementFits k low s × There k (start s (Some spot.at))
+  StatementFits k low (DoWhile s spot e) = LaidAt k e × IsPlain s × StatementFits k low s × There k (start_place s (Some spot.at))
   StatementFits k low (For begin spot e p s) = StartFits k low begin × LaidIn k e × StepFits k p × IsPlain s × StatementFits k (behind_start low begin) s
   StatementFits k low (Switch spot e all) = LaidAt k e × ArePlain all × StatementsFit k low all
   StatementFits k low (Break spot) = Unit {0}
@@ -242,7 +242,7 @@ module _ (k : Activity) (law : Lawful k) (out : (place : ℕ) (began : SourceMem
   cleared_front : (object bytes covered : ℕ) (m : Made) → Stands k.setting.graph k.setting.top (cleared object bytes covered m).inner → Stands k.setting.graph k.setting.top m.inner
   cleared_front object bytes covered m = by (nat_le (words_of bytes) covered)
     where
-      by : (b : Bool) → Stands k.setting.graph k.setting.top (if b then m else before (unit.Zero object (words_of bytes)) m).inner → Stands k.setting.graph k.setting.top m.inner
+      by : (b : Bool) → Stands k.setting.graph k.setting.top (if b then m else instruction_before (unit.Zero object (words_of bytes)) m).inner → Stands k.setting.graph k.setting.top m.inner
       by true h = h
       by false h = h
 
@@ -252,11 +252,11 @@ module _ (k : Activity) (law : Lawful k) (out : (place : ℕ) (began : SourceMem
       let next = pick (names_in k.setting) t (laid (names_in k.setting) (bare e) Anywhere t).top in
       let rest = store_elements (coding_in k) at s object (index + 1) more next m in
       elements_front at s object (index + 1) more next m
-      (grows (names_in k.setting) (place_at k at) k.setting.top k.setting.graph (bare e) t (To None (before (Store (element_of s) (Automatic object (index * scalar_size s)) (laid (names_in k.setting) (bare e) Anywhere t).value) rest)) h)
+      (grows (names_in k.setting) (place_at k at) k.setting.top k.setting.graph (bare e) t (To None (instruction_before (Store (element_of s) (Automatic object (index * scalar_size s)) (laid (names_in k.setting) (bare e) Anywhere t).value) rest)) h)
 
   kept_front : (at object : ℕ) (of : ObjectType) (i : InitialTree) (t : ℕ) (m : Made) → Stands k.setting.graph k.setting.top (declare_kept (coding_in k) at object of i t m).inner → Stands k.setting.graph k.setting.top m.inner
   kept_front at object (of-object.Scalar s) Zero t m h = h
-  kept_front at object (of-object.Scalar s) (scalar-initial e) t m h = code_front at e t (To None (before (Store (element_of s) (Automatic object 0) (laid (names_in k.setting) e Anywhere (begun (coding_in k) t)).value) m)) h
+  kept_front at object (of-object.Scalar s) (scalar-initial e) t m h = code_front at e t (To None (instruction_before (Store (element_of s) (Automatic object 0) (laid (names_in k.setting) e Anywhere (begun (coding_in k) t)).value) m)) h
   kept_front at object (of-object.Scalar s) (Elements all) t m h = cleared_front object (scalar_size s) 0 m h
   kept_front at object (of-object.Scalar s) (Literal n) t m h = cleared_front object (scalar_size s) 0 m h
   kept_front at object (of-object.Array s count) Zero t m h = cleared_front object (scalar_size s * count) 0 m h
@@ -264,7 +264,7 @@ module _ (k : Activity) (law : Lawful k) (out : (place : ℕ) (began : SourceMem
   kept_front at object (of-object.Array s count) (Elements all) t m h =
       let rest = store_elements (coding_in k) at s object 0 all (begun (coding_in k) t) m in elements_front at s object 0 all (begun (coding_in k) t) m (cleared_front object (scalar_size s * count) 0 rest h)
   kept_front at object (of-object.Array s count) (Literal n) t m h =
-      let words = copied_words (coding_in k) n (scalar_size s * count) in cleared_front object (scalar_size s * count) words (before (unit.CopyWords object n words) m) h
+      let words = copied_words (coding_in k) n (scalar_size s * count) in cleared_front object (scalar_size s * count) words (instruction_before (unit.CopyWords object n words) m) h
 
   named_front : (at x : ℕ) (i : InitialTree) (t : ℕ) (m : Made) → Stands k.setting.graph k.setting.top (declare_scalar (coding_in k) at x i t m).inner → Stands k.setting.graph k.setting.top m.inner
   named_front at x Zero t m h = h
@@ -316,7 +316,7 @@ module _ (k : Activity) (law : Lawful k) (out : (place : ℕ) (began : SourceMem
     formed b c w scope (If spot e s) t low part le typed places fit h =
         let ok = two_true (is_scalar (K e)) (is_statement k.setting.program k.setting.tree b c s) typed in
         let n = reached (coding_in k) e Tested t in
-        let r = branching_stands scope spot.at e t (start s w.next) w.next (add (coding_in k) s n w part) le places.0 h in
+        let r = branching_stands scope spot.at e t (start_place s w.next) w.next (add (coding_in k) s n w part) le places.0 h in
         let q = formed b c w scope s n low part (later e Tested t le) ok.1 places.1 fit.2 r.1 in
         (chosen (works_of (place_at k spot.at) e (scalar_typed (K e) ok.0) fit.0) r.0 fit.1 q.0, q.1)
     formed b c w scope (IfElse spot e s r) t low part le typed places fit h =
@@ -325,14 +325,14 @@ module _ (k : Activity) (law : Lawful k) (out : (place : ℕ) (began : SourceMem
         let m = statement_reached (coding_in k) s n in
         let front = places_front k (places_of k.setting.function scope s) (places_of k.setting.function scope r) places.1 in
         let back = places_back k (places_of k.setting.function scope s) (places_of k.setting.function scope r) places.1 in
-        let branch = branching_stands scope spot.at e t (start s w.next) (start r w.next) (add (coding_in k) s n w (add (coding_in k) r m w part)) le places.0 h in
+        let branch = branching_stands scope spot.at e t (start_place s w.next) (start_place r w.next) (add (coding_in k) s n w (add (coding_in k) r m w part)) le places.0 h in
         let one = formed b c w scope s n low (add (coding_in k) r m w part) (later e Tested t le) ok.1 front fit.3 branch.1 in
         let other = formed b c w scope r m low part (later_statement s n (later e Tested t le)) ok.2 back fit.4 one.1 in
         (either (works_of (place_at k spot.at) e (scalar_typed (K e) ok.0) fit.0) branch.0 fit.1 fit.2 one.0 other.0, other.1)
     formed b c w scope (While spot e s) t low part le typed places fit h =
         let ok = two_true (is_scalar (K e)) (is_statement k.setting.program k.setting.tree true true s) typed in
         let n = reached (coding_in k) e Tested t in
-        let r = branching_stands scope spot.at e t (start s (Some spot.at)) w.next (add (coding_in k) s n (within_loop spot.at w) part) le places.0 h in
+        let r = branching_stands scope spot.at e t (start_place s (Some spot.at)) w.next (add (coding_in k) s n (within_loop spot.at w) part) le places.0 h in
         let q = formed true true (within_loop spot.at w) scope s n low part (later e Tested t le) ok.1 places.1 fit.2 r.1 in
         (while_loop (works_of (place_at k spot.at) e (scalar_typed (K e) ok.0) fit.0) r.0 fit.1 q.0, q.1)
     formed b c w scope (DoWhile s spot e) t low part le typed places fit h =
@@ -340,8 +340,8 @@ module _ (k : Activity) (law : Lawful k) (out : (place : ℕ) (began : SourceMem
         let n = statement_reached (coding_in k) s t in
         let front = places_front k (places_of k.setting.function scope s) (stop k.setting.function scope spot ∷ []) places in
         let back = places_back k (places_of k.setting.function scope s) (stop k.setting.function scope spot ∷ []) places in
-        let q = formed true true (within_loop spot.at w) scope s t low (add_branching (coding_in k) spot.at e n (start s (Some spot.at)) w.next part) le ok.1 front fit.2 h in
-        let r = branching_stands scope spot.at e n (start s (Some spot.at)) w.next part (later_statement s t le) back.0 q.1 in
+        let q = formed true true (within_loop spot.at w) scope s t low (add_branching (coding_in k) spot.at e n (start_place s (Some spot.at)) w.next part) le ok.1 front fit.2 h in
+        let r = branching_stands scope spot.at e n (start_place s (Some spot.at)) w.next part (later_statement s t le) back.0 q.1 in
         (do_loop fit.3 (works_of (place_at k spot.at) e (scalar_typed (K e) ok.0) fit.0) r.0 fit.1 q.0, r.1)
     formed b c w scope (For begin spot (Some e) p s) t low part le typed places fit h =
         let ok = four_true (is_start k.setting.program k.setting.tree begin) (is_scalar (K e)) (is_step k.setting.program k.setting.tree p) (is_statement k.setting.program k.setting.tree true true s) typed in
@@ -361,8 +361,8 @@ module _ (k : Activity) (law : Lawful k) (out : (place : ℕ) (began : SourceMem
         let le_m = later e Tested n le_n in
         let body_made = add (coding_in k) s m (within_loop round w) part in
         let step_made = add_step (coding_in k) p o spot.at body_made in
-        let f = start_formed w scope begin spot.at t low (add_branching (coding_in k) spot.at e n (start s (Some round)) w.next step_made) le ok.0 start_part fit.0 h in
-        let r = branching_stands inside spot.at e n (start s (Some round)) w.next step_made le_n head_part.0 f.1 in
+        let f = start_formed w scope begin spot.at t low (add_branching (coding_in k) spot.at e n (start_place s (Some round)) w.next step_made) le ok.0 start_part fit.0 h in
+        let r = branching_stands inside spot.at e n (start_place s (Some round)) w.next step_made le_n head_part.0 f.1 in
         let g = step_formed inside p spot.at o body_made (later_statement s m le_m) ok.2 (places_back k head steps both_parts) fit.2 r.1 in
         let q = formed true true (within_loop round w) inside s m (behind_start low begin) part le_m ok.3 (places_back k (head ++ steps) body places) fit.4 g.1 in
         (for_loop f.0 (works_of (place_at k spot.at) e (scalar_typed (K e) ok.1) fit.1) r.0 g.0 fit.3 q.0, q.1)
@@ -380,7 +380,7 @@ module _ (k : Activity) (law : Lawful k) (out : (place : ℕ) (began : SourceMem
         let le_n = later_start begin t le in
         let body_made = add (coding_in k) s n (within_loop round w) part in
         let step_made = add_step (coding_in k) p o spot.at body_made in
-        let r = going_stands inside spot.at t (start s (Some round)) (add_start (coding_in k) begin t spot.at step_made) le (place_wider k scope (brought_by_start begin) spot.at first_part.0) h in
+        let r = going_stands inside spot.at t (start_place s (Some round)) (add_start (coding_in k) begin t spot.at step_made) le (place_wider k scope (brought_by_start begin) spot.at first_part.0) h in
         let f = start_formed w scope begin spot.at t low step_made le ok.0 first_part.1 fit.0 r.1 in
         let g = step_formed inside p spot.at o body_made (later_statement s n le_n) ok.2 (places_back k head steps both_parts) fit.2 f.1 in
         let q = formed true true (within_loop round w) inside s n (behind_start low begin) part le_n ok.3 (places_back k (head ++ steps) body places) fit.4 g.1 in

@@ -2,7 +2,7 @@
 use Rattle.std.proofs.Common.{◌≡◌, ℕ, ◌+◌, ◌<◌, ◌≤◌, Option, Some, None, Bool, true, false, slice_get, refl, sym, ap, ◌∙◌, subst, arith, ℤ, ◌+ℤ◌, ◌-ℤ◌}
 use Rattle.std.specs.Prelude.{if◌then◌else◌, option_map}
 use Rattle.word_base.specs.Types.{holds, in_range, converted}
-use Rattle.word_base.specs.Operations.{kept}
+use Rattle.word_base.specs.Operations.{result_of_type}
 use Rattle.c_tree.specs.declared.types.IntegerType.{IntegerType}
 use Rattle.c_tree.specs.declared.types.IntegerType.TheVariants.{Int}
 use Rattle.c_tree.specs.declared.object_type.Scalar.{Scalar}
@@ -17,7 +17,7 @@ use Rattle.c_tree.specs.TypedExpressions.{RvalueTree, Constant, Null, Load, Arit
 use Rattle.c_tree.specs.Programs.{AutomaticTree, ProgramTree}
 use Rattle.c_type_rules.specs.Constants.{calculated}
 use Rattle.c_type_rules.specs.Integers.{integer}
-use Rattle.c_type_rules.specs.Types.{loaded}
+use Rattle.c_type_rules.specs.Types.{loaded_type}
 use Rattle.c_type_laws.specs.Kind.{Of}
 use Rattle.c_type_laws.specs.Kinds.{is_promoted, is_of}
 use Rattle.c_type_laws.specs.Expressions.{kind_of}
@@ -25,7 +25,7 @@ use Rattle.c_meaning_values.specs.declared.value.Value.{Value}
 use Rattle.c_meaning_values.specs.declared.value.Value.TheVariants as source
 use Rattle.c_meaning_values.specs.Memory.{Memory}
 use Rattle.c_meaning_values.specs.Operations.{arithmetic}
-use Rattle.c_meaning_steps.specs.States.{State, Evaluated, given}
+use Rattle.c_meaning_steps.specs.States.{State, Evaluated, value_or_undefined}
 use Rattle.c_meaning.specs.Expressions.{Calls, evaluate}
 use Rattle.graph_build_layout.specs.declared.laid.Use.{Use}
 use Rattle.graph_build_layout.specs.declared.laid.Use.TheVariants.{Anywhere, Nothing, Tested}
@@ -51,7 +51,7 @@ use Rattle.graph_build_runs.proofs.Meant.{variable_typed, load_of, assign_of, bo
 use Rattle.graph_build_runs.proofs.Wrapping.{wrapped_holds}
 
 -- a number that is kept in a type is one of the type
-pub kept_holds : (t : IntegerType) (y z : ℤ) → kept (integer t) y ≡ Some z → holds (integer t) z ≡ true
+pub kept_holds : (t : IntegerType) (y z : ℤ) → result_of_type (integer t) y ≡ Some z → holds (integer t) z ≡ true
 kept_holds t y z h = go (integer t).is_signed h
   where
     go : (b : Bool) → (if b then in_range (integer t) y else Some (converted (integer t) y)) ≡ Some z → holds (integer t) z ≡ true
@@ -65,13 +65,13 @@ Stays o t = (a b z : ℤ) → calculated o t a b ≡ Some z → holds (integer t
 pub arithmetic_of : (x : Setting) (calls : Calls) (o : declared-arithmetic.Arithmetic) (t : IntegerType) (a b : RvalueTree) → Stays o t → kind_of x.program x.tree (Arithmetic o t a b) ≡ Of (Integer t) → Typed x calls a → Typed x calls b → Typed x calls (Arithmetic o t a b)
 arithmetic_of x calls o t a b stays kind typed_a typed_b s sound =
     subst (λ k. Keeps x.program x.begun s.memory k (evaluate calls (depth_in x) (Arithmetic o t a b) s)) (sym kind)
-    (both_typed x calls a b (Of (Integer t)) (λ v w s1. given (arithmetic o t v w) s1) typed_a typed_b (λ v w s1 sound1 ka kb. gives v w s1 sound1) s sound)
+    (both_typed x calls a b (Of (Integer t)) (λ v w s1. value_or_undefined (arithmetic o t v w) s1) typed_a typed_b (λ v w s1 sound1 ka kb. gives v w s1 sound1) s sound)
   where
-    by_number : (p q : ℤ) (s1 : State) → Sound x.program x.begun s1 → (r : Option ℤ) → calculated o t p q ≡ r → Keeps x.program x.begun s1.memory (Of (Integer t)) (given (option_map source.Number r) s1)
+    by_number : (p q : ℤ) (s1 : State) → Sound x.program x.begun s1 → (r : Option ℤ) → calculated o t p q ≡ r → Keeps x.program x.begun s1.memory (Of (Integer t)) (value_or_undefined (option_map source.Number r) s1)
     by_number p q s1 sound1 None e = tt
     by_number p q s1 sound1 (Some z) e = record { sound = sound1; later = later_refl s1.memory; is = stays p q z e }
 
-    gives : (v w : Value) (s1 : State) → Sound x.program x.begun s1 → Keeps x.program x.begun s1.memory (Of (Integer t)) (given (arithmetic o t v w) s1)
+    gives : (v w : Value) (s1 : State) → Sound x.program x.begun s1 → Keeps x.program x.begun s1.memory (Of (Integer t)) (value_or_undefined (arithmetic o t v w) s1)
     gives (source.Number p) (source.Number q) s1 sound1 = by_number p q s1 sound1 (calculated o t p q) refl
     gives (source.Number p) source.Null s1 sound1 = tt
     gives (source.Number p) (source.Pointer n k) s1 sound1 = tt
@@ -82,7 +82,7 @@ arithmetic_of x calls o t a b stays kind typed_a typed_b s sound =
 pub data Covered (x : Setting) : RvalueTree → Type 0 where
   constant : {z : ℤ} {t : IntegerType} → holds (integer t) z ≡ true → Covered x (Constant z t)
   null : Covered x Null
-  scalar : {sc : Scalar} {v : ℕ} {of : ObjectType} → (k : ℕ) → scalar_of (names_in x) v ≡ Some k → kind_of x.program x.tree (Load sc (Named (object.Automatic v) of)) ≡ Of (loaded sc) → of ≡ of-object.Scalar sc
+  scalar : {sc : Scalar} {v : ℕ} {of : ObjectType} → (k : ℕ) → scalar_of (names_in x) v ≡ Some k → kind_of x.program x.tree (Load sc (Named (object.Automatic v) of)) ≡ Of (loaded_type sc) → of ≡ of-object.Scalar sc
       → ((a : AutomaticTree) → slice_get x.program.automatics v ≡ Some a → a.of ≡ of) → Covered x (Load sc (Named (object.Automatic v) of))
   sum : {t : IntegerType} {a b : RvalueTree} → is_promoted t ≡ true → kind_of x.program x.tree (Arithmetic arithmetic-is.Add t a b) ≡ Of (Integer t) → kind_of x.program x.tree a ≡ Of (Integer t) → kind_of x.program x.tree b ≡ Of (Integer t)
       → Covered x a → Covered x b → Covered x (Arithmetic arithmetic-is.Add t a b)
@@ -94,8 +94,8 @@ pub data Covered (x : Setting) : RvalueTree → Type 0 where
   disjunction : {a b : RvalueTree} → kind_of x.program x.tree (Or a b) ≡ Of (Integer Int) → Covered x a → Covered x b → Covered x (Or a b)
   sequence : {a b : RvalueTree} → kind_of x.program x.tree (Comma a b) ≡ kind_of x.program x.tree b → Covered x a → Covered x b → Covered x (Comma a b)
   discarded : {e : RvalueTree} → Covered x e → Covered x (Discard e)
-  assigned : {sc : Scalar} {v : ℕ} {of : ObjectType} {e : RvalueTree} → (k : ℕ) → scalar_of (names_in x) v ≡ Some k → kind_of x.program x.tree (Assign sc (Named (object.Automatic v) of) e) ≡ Of (loaded sc) → of ≡ of-object.Scalar sc
-      → ((a : AutomaticTree) → slice_get x.program.automatics v ≡ Some a → a.of ≡ of) → is_of (kind_of x.program x.tree e) (loaded sc) ≡ true → Apart x k e → Covered x e → Covered x (Assign sc (Named (object.Automatic v) of) e)
+  assigned : {sc : Scalar} {v : ℕ} {of : ObjectType} {e : RvalueTree} → (k : ℕ) → scalar_of (names_in x) v ≡ Some k → kind_of x.program x.tree (Assign sc (Named (object.Automatic v) of) e) ≡ Of (loaded_type sc) → of ≡ of-object.Scalar sc
+      → ((a : AutomaticTree) → slice_get x.program.automatics v ≡ Some a → a.of ≡ of) → is_of (kind_of x.program x.tree e) (loaded_type sc) ≡ true → Apart x k e → Covered x e → Covered x (Assign sc (Named (object.Automatic v) of) e)
 
 module _ (x : Setting) (calls : Calls) (low : ScalarsFirst x) (apart : ScalarsApart x) where
   low_of : (e : RvalueTree) → Low x e

@@ -10,7 +10,7 @@ use Rattle.c_type_rules.specs.Integers.{object_size}
 use Rattle.c_type_rules.specs.ValueTypes.{type_of, given_by, integer_in, is_void}
 use Rattle.graph_core.specs.Graphs as unit
 use Rattle.graph_core.specs.Graphs.{Operand, Name, StaticAddress, At}
-use Rattle.graph_build_names.specs.Conversions.{word_of, keeps_bits, is_narrow, is_kept_constant}
+use Rattle.graph_build_names.specs.Conversions.{unsigned_bits, keeps_bits, is_narrow, is_kept_constant}
 use Rattle.graph_build_names.specs.Operands.{is_two, is_two_pointers}
 use Rattle.graph_build_names.specs.Scales.{is_scaled}
 use Rattle.graph_build_layout.specs.declared.laid.Use.{Use}
@@ -167,7 +167,7 @@ module _ (n : Names) (size : ℕ) (low : (v k : ℕ) → scalar_of n v ≡ Some 
   mutual
     -- Values stand in no older temporary.
     pub fresh : (e : RvalueTree) (u : Use) → NotIn u → (t : ℕ) → size ≤ t → IsFresh size t (laid n e u t).value
-    fresh (Constant z ty) u no_in t le = standing_fresh u no_in t t _ (word_fresh t (word_of z))
+    fresh (Constant z ty) u no_in t le = standing_fresh u no_in t t _ (word_fresh t (unsigned_bits z))
     fresh Null u no_in t le = standing_fresh u no_in t t _ (word_fresh t 0)
     fresh (Load s l) u no_in t le = loaded_fresh u no_in l (scalar_named n l) t (place_laid n l t) refl (place_lays n size low l t le).next
     fresh (Decay l) u no_in t le = address_is_fresh l u no_in t le

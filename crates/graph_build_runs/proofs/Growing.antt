@@ -28,12 +28,12 @@ use Rattle.graph_build_names.specs.Writes.{writes, writes_any, is_moved, is_loca
 use Rattle.graph_build_layout.specs.Laid.{Laid, Pair, PlaceLaid, pair, behind_move, behind_own, use_for}
 use Rattle.graph_build_layout.specs.Layout.{laid, place_laid, passed_laid}
 use Rattle.graph_build_steps.specs.Rules.{element_of, steps_by, truncation_to, operation_for, move_by, callee_for}
-use Rattle.graph_build_steps.specs.Drafts.{Made, Goal, To, Unused, Either, use_of, before, ending, zero as zero_operand, leaf, target, follow, label_of, closed, forked, valued, operated, move_if, hold_location, stored, note, noted, keep_old, use_old, behind_old, used, called_by, scale, scaling, renew, compare_by, compare_pointers_by, compared, compared_pointers}
+use Rattle.graph_build_steps.specs.Drafts.{Made, Goal, To, Unused, Either, use_of, instruction_before, ending, zero as zero_operand, leaf, target, follow, label_of, with_inner_block, forked, valued, operated, move_if, hold_location, stored, note, noted, keep_old, use_old, behind_old, used, called_by, scale, scaling, renew, compare_by, compare_pointers_by, compared, compared_pointers}
 use Rattle.graph_build_steps.specs.declared.site.Two as declared-two
 use Rattle.graph_build_steps.specs.declared.site.Two.TheVariants as two
 use Rattle.graph_build_steps.specs.declared.change.Change as declared-change
 use Rattle.graph_build_steps.specs.declared.change.Change.TheVariants as change
-use Rattle.graph_build_steps.specs.Steps.{in_turn, signed, finished, arm_goal, arm_use, arm_value, assigned_memory, changed, renewed_scalar, renewed_memory, loaded_first, left_scalar, left_memory, updated, stepped, object_address, one_at, distance}
+use Rattle.graph_build_steps.specs.Steps.{in_turn, signed, finished, arm_goal, arm_use, arm_value, assigned_memory, changed, renewed_scalar, renewed_memory, loaded_first, left_scalar, left_memory, updated, stepped, object_address, one_at, element_distance}
 use Rattle.graph_build_code.specs.Code.{code, code_place, code_address, code_all}
 use Rattle.graph_build_runs.proofs.Standing.{Stands, inner_of, leaf_inner, follow_inner, hold_inner, closed_inner}
 
@@ -67,20 +67,20 @@ compare_pointers_inner comparison.GreaterEqual x t a b m = refl
 compare_pointers_inner comparison.Equal x t a b m = refl
 compare_pointers_inner comparison.NotEqual x t a b m = refl
 
-before_if : (b : Bool) (i : Instruction) (m : Made) → (if b then before i m else m).inner ≡ m.inner
+before_if : (b : Bool) (i : Instruction) (m : Made) → (if b then instruction_before i m else m).inner ≡ m.inner
 before_if true i m = refl
 before_if false i m = refl
 
 renew_inner : (ty : IntegerType) (x t : ℕ) (i : ℕ → Instruction) (m : Made) → (renew ty x t i m).inner ≡ m.inner
 renew_inner ty x t i m = by (is_narrow ty)
   where
-    by : (b : Bool) → (if b then before (i t) (before (unit.Truncate x (truncation_to ty) (unit.Name t)) m) else before (i x) m).inner ≡ m.inner
+    by : (b : Bool) → (if b then instruction_before (i t) (instruction_before (unit.Truncate x (truncation_to ty) (unit.Name t)) m) else instruction_before (i x) m).inner ≡ m.inner
     by true = refl
     by false = refl
 
 pub changed_inner : (c : declared-change.Change) (x t free : ℕ) (old by : Operand) (m : Made) → (changed c x t free old by m).inner ≡ m.inner
 changed_inner (change.Integer o ty v) x t free old by m = renew_inner ty x t (λ y. unit.Operate y (operation_for o v) old by) m
-changed_inner (change.Pointer d bytes) x t free old by m = before_if (is_scaled bytes by) (scaling (shift_of bytes) bytes free by) (before (unit.Operate x (move_by d) old (scaled bytes by free)) m)
+changed_inner (change.Pointer d bytes) x t free old by m = before_if (is_scaled bytes by) (scaling (shift_of bytes) bytes free by) (instruction_before (unit.Operate x (move_by d) old (scaled bytes by free)) m)
 
 module _ (n : Names) (place top : ℕ) (g : Graph) where
   abbrev St : List Block → Type 0
@@ -113,11 +113,11 @@ module _ (n : Names) (place top : ℕ) (g : Graph) where
   compared_pointers_grows (To want m) o t q h = st_by _ m.inner (compare_pointers_inner o _ _ q.left q.right m) h
   compared_pointers_grows (Unused m) o t q h = st_by _ m.inner (compare_pointers_inner o _ _ q.left q.right m) h
 
-  scaled_grows : (goal : Goal) (own : ℕ) (b : Bool) (i j : Instruction) → St (if b then before i (before j (follow goal own)) else before j (follow goal own)).inner → St (inner_of goal)
+  scaled_grows : (goal : Goal) (own : ℕ) (b : Bool) (i j : Instruction) → St (if b then instruction_before i (instruction_before j (follow goal own)) else instruction_before j (follow goal own)).inner → St (inner_of goal)
   scaled_grows goal own true i j h = follow_grows goal own h
   scaled_grows goal own false i j h = follow_grows goal own h
 
-  distance_grows : (goal : Goal) (own other : ℕ) (b : Bool) (i j k : Instruction) → St (if b then before i (follow goal own) else before j (before k (follow goal other))).inner → St (inner_of goal)
+  distance_grows : (goal : Goal) (own other : ℕ) (b : Bool) (i j k : Instruction) → St (if b then instruction_before i (follow goal own) else instruction_before j (instruction_before k (follow goal other))).inner → St (inner_of goal)
   distance_grows goal own other true i j k h = follow_grows goal own h
   distance_grows goal own other false i j k h = follow_grows goal other h
 
@@ -162,13 +162,13 @@ module _ (n : Names) (place top : ℕ) (g : Graph) where
 
   keep_old_grows : (u : Use) (x t : ℕ) (m : Made) → St (keep_old u x t m).inner → St m.inner
   keep_old_grows Nothing x t m h = h
-  keep_old_grows (In y) x t m h = by_way (y == x) (before (unit.Move t (unit.Name x)) m) (before (unit.Move y (unit.Name x)) m) m.inner (λ k. k) (λ k. k) h
+  keep_old_grows (In y) x t m h = by_way (y == x) (instruction_before (unit.Move t (unit.Name x)) m) (instruction_before (unit.Move y (unit.Name x)) m) m.inner (λ k. k) (λ k. k) h
   keep_old_grows Anywhere x t m h = h
   keep_old_grows Tested x t m h = h
 
   use_old_grows : (goal : Goal) (x t : ℕ) → St (use_old goal x t).inner → St (inner_of goal)
   use_old_grows (Unused k) x t h = h
-  use_old_grows (To (Some y) k) x t h = by_way (y == x) (before (unit.Move x (unit.Name t)) k) k k.inner (λ j. j) (λ j. j) h
+  use_old_grows (To (Some y) k) x t h = by_way (y == x) (instruction_before (unit.Move x (unit.Name t)) k) k k.inner (λ j. j) (λ j. j) h
   use_old_grows (To None k) x t h = h
   use_old_grows (Either one other inner) x t h = h
 
@@ -221,7 +221,7 @@ module _ (n : Names) (place top : ℕ) (g : Graph) where
       memory_grows goal q moved (element_of s) value (ge from (assigned_memory goal q moved (element_of s) value) (hold_grows moved q.next (operand_at q.location) m (gp (hold_location moved q.next q.location m) h)))
 
   both_grows : (b : ℕ → Goal → Made) → GrowsBy b → (from : ℕ) (goal : Goal) (own : ℕ) (one other : ℕ)
-      → St (closed place (b from (Either one other (forked place top goal own).inner))) → St (inner_of goal)
+      → St (with_inner_block place (b from (Either one other (forked place top goal own).inner))) → St (inner_of goal)
   both_grows b gb from goal own one other h = forked_grows goal own (gb from (Either one other (forked place top goal own).inner) (closed_inner g top place (b from (Either one other (forked place top goal own).inner)) h))
 
   -- two operands in turn, and what is made of them
@@ -269,26 +269,26 @@ module _ (n : Names) (place top : ℕ) (g : Graph) where
         let way = forked place top goal t in
         let from = pick n at (laid n a Tested at).top in
         let m = code n place top b from (Either way.one way.other way.inner) in
-        both_grows (code n place top b) (grows b) from goal t way.one way.other (grows a at (Either (label_of top m) way.other (closed place m)) h)
+        both_grows (code n place top b) (grows b) from goal t way.one way.other (grows a at (Either (label_of top m) way.other (with_inner_block place m)) h)
     grows (Or a b) t goal h =
         let at = behind_own (use_of goal) t in
         let way = forked place top goal t in
         let from = pick n at (laid n a Tested at).top in
         let m = code n place top b from (Either way.one way.other way.inner) in
-        both_grows (code n place top b) (grows b) from goal t way.one way.other (grows a at (Either way.one (label_of top m) (closed place m)) h)
+        both_grows (code n place top b) (grows b) from goal t way.one way.other (grows a at (Either way.one (label_of top m) (with_inner_block place m)) h)
     grows (Conditional c a b) t goal h =
         let void = is_void (type_of n.results a) in
         let at = behind_move (not void) t in
         let at_a = pick n at (laid n c Tested at).top in
         let at_b = pick n at (laid n a (arm_use void t) at_a).top in
         let m = leaf goal (arm_value void t) in
-        let my = ending (unit.Jump (label_of top m)) (closed place m) in
+        let my = ending (unit.Jump (label_of top m)) (with_inner_block place m) in
         let y = code n place top b at_b (arm_goal void t my) in
-        let mz = ending (unit.Jump (label_of top m)) (closed place y) in
+        let mz = ending (unit.Jump (label_of top m)) (with_inner_block place y) in
         let z = code n place top a at_a (arm_goal void t mz) in
-        let z_stands = closed_inner g top place z (grows c at (Either (label_of top z) (label_of top y) (closed place z)) h) in
-        let y_stands = closed_inner g top place y (st_by (inner_of (arm_goal void t mz)) (closed place y) (arm_inner void t mz) (grows a at_a (arm_goal void t mz) z_stands)) in
-        leaf_grows goal (arm_value void t) (closed_inner g top place m (st_by (inner_of (arm_goal void t my)) (closed place m) (arm_inner void t my) (grows b at_b (arm_goal void t my) y_stands)))
+        let z_stands = closed_inner g top place z (grows c at (Either (label_of top z) (label_of top y) (with_inner_block place z)) h) in
+        let y_stands = closed_inner g top place y (st_by (inner_of (arm_goal void t mz)) (with_inner_block place y) (arm_inner void t mz) (grows a at_a (arm_goal void t mz) z_stands)) in
+        leaf_grows goal (arm_value void t) (closed_inner g top place m (st_by (inner_of (arm_goal void t my)) (with_inner_block place m) (arm_inner void t my) (grows b at_b (arm_goal void t my) y_stands)))
     grows (Comma a b) t goal h = let k = pick n t (laid n a Nothing t).top in grows b k goal (grows a t (Unused (code n place top b k goal)) h)
     grows (Assign s l e) t goal h = assigned_grows s l e t goal (grows e) (grows_place l t) (scalar_named n l) h
     grows (Update o ty v l e) t goal h =

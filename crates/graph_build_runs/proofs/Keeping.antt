@@ -5,10 +5,10 @@ use Rattle.c_tree.specs.TypedExpressions.{RvalueTree}
 use Rattle.c_type_laws.specs.Expressions.{kind_of}
 use Rattle.c_meaning_values.specs.declared.value.Value as source-value
 use Rattle.c_meaning_values.specs.Memory.{Memory as SourceMemory, ended_from}
-use Rattle.c_meaning_steps.specs.States.{State, Evaluated, Gives, Leaves, Ends, Tested, Holds, Fails, NoTest, tested, choose, on_value, on_effect, Outcome, Next, Broken, Continued, Returned, Ended}
+use Rattle.c_meaning_steps.specs.States.{State, Evaluated, Gives, Leaves, Ends, Tested, Holds, Fails, NoTest, condition_tested, choose, on_value, on_effect, Outcome, Next, Broken, Continued, Returned, Ended}
 use Rattle.c_meaning.specs.Activations.{depth_of, stopped, on_begun}
 use Rattle.c_meaning.specs.Activations as activations
-use Rattle.c_meaning.specs.Lifetimes.{closed}
+use Rattle.c_meaning.specs.Lifetimes.{lifetimes_ended}
 use Rattle.c_meaning.specs.Expressions.{evaluate}
 use Rattle.c_meaning.specs.Statements.{then_do, after_body, after_switch}
 use Rattle.graph_build_runs.specs.Typed.{IsOf}
@@ -116,10 +116,10 @@ module _ (k : Activity) where
   returned_closed n s (Some v) h = of_faded k.setting.program s.memory n [] k.setting.tree.result v h
 
   -- a block
-  pub closed_kept : (low high : ℕ) (brought scope : List ℕ) (go : State → Outcome) → KeepsOn k low high brought scope go → KeepsOn k low low [] scope (λ s. closed (length s.memory) (go s))
+  pub closed_kept : (low high : ℕ) (brought scope : List ℕ) (go : State → Outcome) → KeepsOn k low high brought scope go → KeepsOn k low low [] scope (λ s. lifetimes_ended (length s.memory) (go s))
   closed_kept low high brought scope go does s sound h = by (go s) (does s sound h)
     where
-      by : (o : Outcome) → KeptBy k low high brought s.memory o → KeptBy k low low [] s.memory (closed (length s.memory) o)
+      by : (o : Outcome) → KeptBy k low high brought s.memory o → KeptBy k low low [] s.memory (lifetimes_ended (length s.memory) o)
       by (Next s2) r = stays_closed low high brought s.memory s2 r
       by (Broken s2) r = stays_closed low high [] s.memory s2 r
       by (Continued s2) r = stays_closed low high [] s.memory s2 r
@@ -169,11 +169,11 @@ module _ (k : Activity) (at : ℕ) (e : RvalueTree) (works : Works k (place_at k
   -- one that is tested
   pub test_kept : (if_so if_not : State → Outcome) → ((s2 : State) → Sound k.setting.program s2.memory s2 → Since s.memory s2.memory → KeptBy k low high brought s2.memory (if_so s2))
       → ((s2 : State) → Sound k.setting.program s2.memory s2 → Since s.memory s2.memory → KeptBy k low high brought s2.memory (if_not s2))
-      → KeptBy k low high brought s.memory (choose (tested (evaluate (k.calls (place_at k at)) (depth_of (here_in k)) e s)) if_so if_not)
+      → KeptBy k low high brought s.memory (choose (condition_tested (evaluate (k.calls (place_at k at)) (depth_of (here_in k)) e s)) if_so if_not)
   test_kept if_so if_not on off =
       let r = evaluate (k.calls (place_at k at)) (depth_in k.setting) e s in
-      subst (λ d. KeptBy k low high brought s.memory (choose (tested (evaluate (k.calls (place_at k at)) d e s)) if_so if_not)) depths
-      (by (tested r) (keeps_tested k.setting.program s.memory s.memory (kind_of k.setting.program k.setting.tree e) r ((works s.memory here).0 s sound)))
+      subst (λ d. KeptBy k low high brought s.memory (choose (condition_tested (evaluate (k.calls (place_at k at)) d e s)) if_so if_not)) depths
+      (by (condition_tested r) (keeps_tested k.setting.program s.memory s.memory (kind_of k.setting.program k.setting.tree e) r ((works s.memory here).0 s sound)))
     where
       by : (r : Tested) → KeepsTest k.setting.program s.memory s.memory r → KeptBy k low high brought s.memory (choose r if_so if_not)
       by (Holds s2) left = behind_since s2 (if_so s2) left.sound (on s2 (sound_now k.setting.program s.memory s2 left.sound) left.sound.since)

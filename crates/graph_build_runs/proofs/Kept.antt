@@ -5,7 +5,7 @@ use Rattle.word_base.specs.Owners.{Variable}
 use Rattle.c_tree.specs.Programs.{AutomaticTree, TypedFunctionTree, ProgramTree}
 use Rattle.c_meaning_values.specs.declared.value.Value as source-value
 use Rattle.c_meaning_values.specs.declared.value.Phase.TheVariants.{Initialising, Live, Ended}
-use Rattle.c_meaning_values.specs.Types.{element_of, count_of}
+use Rattle.c_meaning_values.specs.Types.{element_scalar, value_count}
 use Rattle.c_meaning_values.specs.Memory.{Object as SourceObject, Memory as SourceMemory}
 use Rattle.c_meaning_steps.specs.States.{State}
 use Rattle.graph_core.specs.declared.value.Value.{Value}
@@ -14,7 +14,7 @@ use Rattle.graph_core.specs.declared.value.Shadow.TheVariants.{Known}
 use Rattle.graph_core.specs.declared.value.Owner.TheVariants.{Static as UnitStatic, Automatic}
 use Rattle.graph_core.specs.Graphs.{StaticObject, UnitForm}
 use Rattle.graph_core.specs.Memory.{Object, Memory}
-use Rattle.graph_core.specs.Runs.{Activation, put}
+use Rattle.graph_core.specs.Runs.{Activation, with_value_at}
 use Rattle.graph_build_names.specs.Names.{Names, names_of, scalar_of, object_of}
 use Rattle.graph_build_steps.specs.Rules as rule
 use Rattle.event_runs.specs.Agreement.{Pairs}
@@ -63,8 +63,8 @@ pub record ObjectIs (p : ProgramTree) (others : Memory) (v depth n : ℕ) (a : A
   pub is : slice_get others n ≡ Some object
   pub owner : object.owner ≡ Automatic (variable_of p v) depth
   pub lives : object.live ≡ true
-  pub element : object.element ≡ rule.element_of (element_of a.of)
-  pub count : length object.values ≡ count_of a.of
+  pub element : object.element ≡ rule.element_of (element_scalar a.of)
+  pub count : length object.values ≡ value_count a.of
 
 -- An activation at a depth: its scalars are kept in names and shadows, and its objects stand in memory.
 pub record Own (p : ProgramTree) (n : Names) (want : Option ℕ) (memory : SourceMemory) (others : Memory) (depth first : ℕ) (names : ℕ → Value) (shadows : ℕ → Shadow) : Type 0 where
@@ -135,7 +135,7 @@ fits_in_block x want s l w number f = fits_local x want want s l (in_block numbe
 
 -- a name is written that is no scalar's, or the one that is excepted
 pub own_set : (p : ProgramTree) (n : Names) (want : Option ℕ) (memory : SourceMemory) (others : Memory) (depth first : ℕ) (names : ℕ → Value) (shadows : ℕ → Shadow) (j : ℕ) (w : Value) →
-    Own p n None memory others depth first names shadows → ((v k : ℕ) → scalar_of n v ≡ Some k → is_want want k ≡ false → k == j ≡ false) → Own p n want memory others depth first (put names j w) shadows
+    Own p n None memory others depth first names shadows → ((v k : ℕ) → scalar_of n v ≡ Some k → is_want want k ≡ false → k == j ≡ false) → Own p n want memory others depth first (with_value_at names j w) shadows
 own_set p n want memory others depth first names shadows j w own apart = record {
   scalars = λ v k m o is at owner live. (let c = own.scalars v k m o is at owner live in
       record {

@@ -11,7 +11,7 @@ use Rattle.c_places.specs.Places.{brought, brought_by_start, brought_by_body}
 use Rattle.c_meaning_values.specs.declared.value.Value.TheVariants as source
 use Rattle.c_meaning_steps.specs.States.{State, Outcome, Next, Broken, Continued, Returned, Holds, choose, on_value, on_effect}
 use Rattle.c_meaning.specs.Activations as activations
-use Rattle.c_meaning.specs.Statements.{declare, declare_all, begin_loop, run, result, step, value_at, test_at, rounds, loop, while_round, do_round, for_round, after_body, after_switch, then_do, on_number, has_case, is_same_number, by_label, execute, execute_all, execute_case, execute_default}
+use Rattle.c_meaning.specs.Statements.{declare, declare_all, begin_loop, expression_run, result, step, value_at, test_at, rounds, loop, while_round, do_round, for_round, after_body, after_switch, then_do, on_number, has_case, is_same_number, by_label, execute, execute_all, execute_case, execute_default}
 use Rattle.c_flow.specs.declared.edge.Ways.{Ways}
 use Rattle.graph_build_runs.proofs.Types.{kind_is_of}
 use Rattle.graph_build_runs.proofs.Activities.{Activity, here_in, place_at}
@@ -37,7 +37,7 @@ module _ (k : Activity) where
   next_keeps : (low : ℕ) (scope : List ℕ) → KeepsOn k low low [] scope Next
   next_keeps low scope s sound h = nothing_kept k low low s sound
 
-  run_keeps : (low : ℕ) (scope : List ℕ) (spot : Spot) (e : RvalueTree) → PlaceIs k scope spot.at → Works k (place_at k spot.at) e → KeepsOn k low low [] scope (run k.calls (here_in k) spot e)
+  run_keeps : (low : ℕ) (scope : List ℕ) (spot : Spot) (e : RvalueTree) → PlaceIs k scope spot.at → Works k (place_at k spot.at) e → KeepsOn k low low [] scope (expression_run k.calls (here_in k) spot e)
   run_keeps low scope spot e here works =
       place_kept k scope spot here low low [] (λ s. on_effect (value_at k.calls (here_in k) spot e s) Next) (λ s sound h now. effect_kept k spot.at e works s sound now low low [] Next (λ s2 sound2 since. nothing_kept k low low s2 sound2))
 

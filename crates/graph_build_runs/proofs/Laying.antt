@@ -12,7 +12,7 @@ use Rattle.c_type_rules.specs.Integers.{object_size}
 use Rattle.c_type_rules.specs.ValueTypes.{type_of, given_by, is_void, integer_in}
 use Rattle.graph_core.specs.Graphs as unit
 use Rattle.graph_core.specs.Graphs.{Operand, Name, Location}
-use Rattle.graph_build_names.specs.Conversions.{keeps_bits, is_narrow, is_kept_constant, word_of}
+use Rattle.graph_build_names.specs.Conversions.{keeps_bits, is_narrow, is_kept_constant, unsigned_bits}
 use Rattle.graph_build_names.specs.Operands.{is_two, is_two_pointers}
 use Rattle.graph_build_names.specs.Scales.{is_scaled}
 use Rattle.graph_build_layout.specs.declared.laid.Use.{Use}

@@ -8,7 +8,7 @@ use Rattle.c_tree.specs.TypedExpressions.{RvalueTree, LvalueTree, ArgumentTrees,
 use Rattle.c_type_rules.specs.Integers.{object_size}
 use Rattle.c_type_rules.specs.ValueTypes.{type_of, given_by, is_void, integer_in}
 use Rattle.graph_core.specs.Graphs as unit
-use Rattle.graph_build_names.specs.Conversions.{keeps_bits, is_narrow, word_of}
+use Rattle.graph_build_names.specs.Conversions.{keeps_bits, is_narrow, unsigned_bits}
 use Rattle.graph_build_names.specs.Operands.{is_two, is_two_pointers}
 use Rattle.graph_build_layout.specs.declared.laid.Use.{Use}
 use Rattle.graph_build_layout.specs.declared.laid.Use.TheVariants.{Anywhere, In, Nothing, Tested}
@@ -53,7 +53,7 @@ module _ (n : Names) (size : ℕ) (low : (v k : ℕ) → scalar_of n v ≡ Some 
 
   mutual
     pub lays : (e : RvalueTree) (u : Use) (t : ℕ) → size ≤ t → LaidLow u t (laid n e u t)
-    lays (Constant z ty) u t le = leaf_low n size low u (unit.Constant (word_of z)) t tt
+    lays (Constant z ty) u t le = leaf_low n size low u (unit.Constant (unsigned_bits z)) t tt
     lays Null u t le = leaf_low n size low u (unit.Constant 0) t tt
     lays (Load s l) u t le = loaded_low n size low u t l (place_laid n l t) (scalar_named n l) refl le (place_lays l t le)
     lays (Decay l) u t le = address_lays l u t le

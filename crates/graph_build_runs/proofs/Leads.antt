@@ -8,7 +8,7 @@ use Rattle.graph_core.specs.declared.value.Value.{Value}
 use Rattle.graph_core.specs.declared.value.Shadow.{Shadow}
 use Rattle.graph_core.specs.Graphs.{Instruction, End, Graph, UnitForm}
 use Rattle.graph_core.specs.Memory.{Memory}
-use Rattle.graph_core.specs.Runs.{Activation, Configuration, Event, Stepped, Goes, Shows, put, step}
+use Rattle.graph_core.specs.Runs.{Activation, Configuration, Event, Stepped, Goes, Shows, with_value_at, step}
 use Rattle.graph_build_names.specs.Names.{Names, names_of}
 pub use Rattle.base_laws.proofs.Numbers.{same_size as same_number}
 
@@ -54,7 +54,7 @@ pub record World : Type 0 where
   pub seen : List Event
 
 abbrev pub set_name : Local → ℕ → Value → Local
-set_name l k v = record l { names = put l.names k v }
+set_name l k v = record l { names = with_value_at l.names k v }
 
 -- an activation that has come to a block
 abbrev pub in_block : (number : ℕ) → Local → Local
@@ -89,10 +89,10 @@ then_leads stays q = q
 then_leads (goes s p) q = goes s (then_leads p q)
 then_leads (shows s p) q = shows s (then_leads p q)
 
-pub put_here : {A : Type 0} (f : ℕ → A) (k : ℕ) (v : A) → put f k v k ≡ v
+pub put_here : {A : Type 0} (f : ℕ → A) (k : ℕ) (v : A) → with_value_at f k v k ≡ v
 put_here f k v = ap (λ b. if b then v else f k) (same_number k)
 
-pub put_elsewhere : {A : Type 0} (f : ℕ → A) (k j : ℕ) (v : A) → j == k ≡ false → put f k v j ≡ f j
+pub put_elsewhere : {A : Type 0} (f : ℕ → A) (k j : ℕ) (v : A) → j == k ≡ false → with_value_at f k v j ≡ f j
 put_elsewhere f k j v h = ap (λ b. if b then v else f j) h
 
 pub less_other : (j k : ℕ) → j < k → j == k ≡ false

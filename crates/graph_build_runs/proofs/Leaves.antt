@@ -6,7 +6,7 @@ use Rattle.c_meaning_steps.specs.declared.event.Ending.{Ending}
 use Rattle.c_meaning_steps.specs.declared.event.Ending.TheVariants as ending
 use Rattle.c_meaning_values.specs.Memory.{is_usable}
 use Rattle.c_meaning_values.specs.Operations.{is_true}
-use Rattle.c_meaning_steps.specs.States.{State, Evaluated, Gives, Leaves, Ends, Tested, Holds, Fails, NoTest, tested_usable, by_truth, with, Both, both, second, on_both}
+use Rattle.c_meaning_steps.specs.States.{State, Evaluated, Gives, Leaves, Ends, Tested, Holds, Fails, NoTest, tested_usable, by_truth, with, Both, both_operands, second, on_both}
 use Rattle.graph_core.specs.declared.value.Value.{Value}
 use Rattle.graph_core.specs.declared.value.Value.TheVariants.{Number}
 use Rattle.graph_core.specs.declared.block.Comparison.TheVariants.{NotEqual}
@@ -14,7 +14,7 @@ use Rattle.graph_core.specs.Graphs.{Operand, Name, Constant, Instruction, End, B
 use Rattle.graph_core.specs.Memory.{is_live}
 use Rattle.graph_core.specs.Runs.{Configuration, Goes, step, value, entered, branched}
 use Rattle.graph_core.specs.Values.{holds}
-use Rattle.graph_build_steps.specs.Drafts.{Made, Goal, To, Unused, Either, before, leaf, target, follow}
+use Rattle.graph_build_steps.specs.Drafts.{Made, Goal, To, Unused, Either, instruction_before, leaf, target, follow}
 use Rattle.graph_build_runs.specs.Correspondence.{SameValue}
 use Rattle.graph_build_runs.proofs.Leads.{Setting, size_in, Local, World, set_name, at, Leads, stays, goes, then_leads, put_here, put_elsewhere, less_other}
 use Rattle.graph_build_runs.proofs.Later.{others_refl}
@@ -68,7 +68,7 @@ Writes x i given l w = (k : ℕ) (ops : List Instruction) (end : End) → step x
 -- a value that an instruction writes
 pub operated_done : (x : Setting) (g : Goal) (own t : ℕ) (f : ℕ → Bool) (i : ℕ → Instruction) (v : source-value.Value) (given : Value) (s : State) (l : Local) (w : World) → ScalarsFirst x → t ≤ own → size_in x ≤ own
     → Fits x None s l w → Writes x i given l w → SameValue x.program s.memory w.memory v given → HasWord v
-    → Result x g (Name own) t f (before (i (target g own)) (follow g own)).ops (before (i (target g own)) (follow g own)).end l w (Gives v s)
+    → Result x g (Name own) t f (instruction_before (i (target g own)) (follow g own)).ops (instruction_before (i (target g own)) (follow g own)).end l w (Gives v s)
 operated_done x (To None m) own t f i v given s l w low le size fits writes same word =
     record {
       reached = record {
@@ -115,7 +115,7 @@ second_with v (Gives w s) go = refl
 second_with v (Leaves s) go = refl
 second_with v (Ends e s) go = refl
 
-pub both_with : (r : Evaluated) (right : State → Evaluated) (go : source-value.Value → source-value.Value → State → Evaluated) → with r (λ v s. with (right s) (go v)) ≡ on_both (both r right) go
+pub both_with : (r : Evaluated) (right : State → Evaluated) (go : source-value.Value → source-value.Value → State → Evaluated) → with r (λ v s. with (right s) (go v)) ≡ on_both (both_operands r right) go
 both_with (Gives v s) right go = second_with v (right s) go
 both_with (Leaves s) right go = refl
 both_with (Ends e s) right go = refl
@@ -138,9 +138,9 @@ with_then x want g m a a1 t t1 t2 f f1 f2 ops end l w (Ends e s) next le1 le2 sp
 -- a value that two instructions write, the first one to a temporary
 pub two_done : (x : Setting) (g : Goal) (own temporary t : ℕ) (f : ℕ → Bool) (i j : ℕ → Instruction) (v : source-value.Value) (between given : Value) (s : State) (l : Local) (w : World) → ScalarsFirst x → t ≤ temporary → size_in x ≤ temporary → t ≤ own → size_in x ≤ own
     → Fits x None s l w → Writes x i between l w → Writes x j given (set_name l temporary between) w → SameValue x.program s.memory w.memory v given → HasWord v
-    → Result x g (Name own) t f (i temporary ∷ (before (j (target g own)) (follow g own)).ops) (before (j (target g own)) (follow g own)).end l w (Gives v s)
+    → Result x g (Name own) t f (i temporary ∷ (instruction_before (j (target g own)) (follow g own)).ops) (instruction_before (j (target g own)) (follow g own)).end l w (Gives v s)
 two_done x g own temporary t f i j v between given s l w low le1 size1 le2 size2 fits first next same word =
-    let m = before (j (target g own)) (follow g own) in
+    let m = instruction_before (j (target g own)) (follow g own) in
     result_after x t t f f (i temporary ∷ m.ops) m.ops m.end m.end l (set_name l temporary between) w w (goes (first temporary m.ops m.end) stays)
     (λ y lt nf. (lt, nf, put_elsewhere l.names temporary y between (less_other y temporary (omega (arith, lt, le1))))) (others_refl w.memory) g (Name own) (Gives v s)
     (operated_done x g own t f j v given s (set_name l temporary between) w low le2 size2 (fits_temporary x s l w temporary between low fits size1) next same word)

@@ -15,7 +15,7 @@ use Rattle.c_meaning_steps.specs.declared.event.Ending.TheVariants as ending
 use Rattle.c_meaning_values.specs.Memory.{Memory}
 use Rattle.c_meaning_steps.specs.States.{State, Event as SourceEvent, Put as SourcePut, seen, Evaluated, Gives, Leaves, Ends, Listed, Lists, NoList, on_list}
 use Rattle.c_meaning.specs.Expressions.{Calls, evaluate, evaluate_all, call, call_with_one}
-use Rattle.c_meaning_steps.specs.Steps.{next_byte, put, leave}
+use Rattle.c_meaning_steps.specs.Steps.{next_byte, byte_put, leave}
 use Rattle.graph_core.specs.declared.value.Value.{Value}
 use Rattle.graph_core.specs.declared.value.Value.TheVariants.{Number}
 use Rattle.graph_core.specs.declared.instruction.Callee as unit-callee
@@ -23,17 +23,17 @@ use Rattle.graph_core.specs.declared.instruction.Callee.TheVariants as unit-call
 use Rattle.graph_core.specs.Graphs as unit
 use Rattle.graph_core.specs.Graphs.{Operand, Name, Instruction, End}
 use Rattle.graph_core.specs.Memory.{Memory as UnitMemory}
-use Rattle.graph_core.specs.Runs.{Event, Put, Exited, Stepped, Goes, Shows, Ends as StepEnds, Wild, step, value, got, put_out, exited, first_of}
+use Rattle.graph_core.specs.Runs.{Event, Put, Exited, Stepped, Goes, Shows, Ends as StepEnds, Wild, step, value, got, put_out, exited, first_argument}
 use Rattle.graph_core.specs.Runs as run
 use Rattle.graph_core.specs.Values.{is_odd}
-use Rattle.graph_build_names.specs.Conversions.{word_of}
+use Rattle.graph_build_names.specs.Conversions.{unsigned_bits}
 use Rattle.graph_build_layout.specs.declared.laid.Use.TheVariants.{Anywhere}
 use Rattle.graph_build_names.specs.Names.{pick}
 use Rattle.graph_build_layout.specs.Laid.{called_laid}
 use Rattle.graph_build_layout.specs.Layout.{laid, passed_laid}
 use Rattle.graph_build_names.specs.Writes.{writes_any}
 use Rattle.graph_build_steps.specs.Rules.{callee_for}
-use Rattle.graph_build_steps.specs.Drafts.{Made, Goal, To, Unused, Either, before, leaf, zero as zero_operand, target, follow, called_by}
+use Rattle.graph_build_steps.specs.Drafts.{Made, Goal, To, Unused, Either, instruction_before, leaf, zero as zero_operand, target, follow, called_by}
 use Rattle.event_runs.specs.Agreement.{Pairs}
 use Rattle.graph_build_runs.specs.Stops.{IsStatus}
 use Rattle.graph_build_runs.specs.Correspondence.{SameValue, SameValues, SameEvent, AreBytes}
@@ -145,7 +145,7 @@ module _ (x : Setting) (all : List Operand) (l : Local) (w : World) (s : State) 
   }
 
 -- A byte is put out.
-pub putchar_effect : (x : Setting) (all : List Operand) (l : Local) (w : World) (s : State) (z : ℤ) → Fits x None s l w → map (value x.unit.statics l.names) all ≡ Number (word_of z) ∷ []
+pub putchar_effect : (x : Setting) (all : List Operand) (l : Local) (w : World) (s : State) (z : ℤ) → Fits x None s l w → map (value x.unit.statics l.names) all ≡ Number (unsigned_bits z) ∷ []
     → Effect x (λ k. unit.Call k unit-called.Putchar all) l w (source.Number (converted char_type z)) (seen (SourcePut (bits_of char_type z)) s)
 putchar_effect x all l w s z fits same = record {
   given = Number (bits_of char_type z);
@@ -168,11 +168,11 @@ putchar_effect x all l w s z fits same = record {
   later = others_refl w.memory;
 }
   where
-    low_byte : (z : ℤ) → word_of z % 256 ≡ bits_of char_type z
+    low_byte : (z : ℤ) → unsigned_bits z % 256 ≡ bits_of char_type z
     low_byte (pos n) = omega arith
     low_byte (negsuc n) = omega arith
 
-    byte_word : (z : ℤ) → bits_of char_type z ≡ word_of (converted char_type z)
+    byte_word : (z : ℤ) → bits_of char_type z ≡ unsigned_bits (converted char_type z)
     byte_word (pos n) = omega arith
     byte_word (negsuc n) = omega arith
 
@@ -183,15 +183,15 @@ putchar_effect x all l w s z fits same = record {
     steps : (target : Option ℕ) (ops : List Instruction) (end : End)
         → step x.unit (at x (unit.Call target unit-called.Putchar all ∷ ops) end l w) ≡ Shows (Put (bits_of char_type z)) (record (at x ops end l w) { here = run.take_wanted target (Number (bits_of char_type z)) (at x ops end l w).here })
     steps target ops end =
-        call_step x unit-called.Putchar target all ops end l w (ap (list_any is_odd) same) ∙ ap (λ vs. put_out (at x ops end l w) target (first_of vs)) same
+        call_step x unit-called.Putchar target all ops end l w (ap (list_any is_odd) same) ∙ ap (λ vs. put_out (at x ops end l w) target (first_argument vs)) same
         ∙ ap (λ k. Shows (Put k) (record (at x ops end l w) { here = run.take_wanted target (Number k) (at x ops end l w).here })) (low_byte z)
 
 -- The program ends with a status.
-pub exit_ends : (x : Setting) (target : Option ℕ) (all : List Operand) (ops : List Instruction) (end : End) (l : Local) (w : World) (s : State) (z : ℤ) → IsStatus z → Fits x None s l w → map (value x.unit.statics l.names) all ≡ Number (word_of z) ∷ []
+pub exit_ends : (x : Setting) (target : Option ℕ) (all : List Operand) (ops : List Instruction) (end : End) (l : Local) (w : World) (s : State) (z : ℤ) → IsStatus z → Fits x None s l w → map (value x.unit.statics l.names) all ≡ Number (unsigned_bits z) ∷ []
     → Stuck x (unit.Call target unit-called.Exit all ∷ ops) end l w (ending.Exit z) s
 exit_ends x target all ops end l w s z status fits same = record {
   configuration = at x (unit.Call target unit-called.Exit all ∷ ops) end l w;
   seen = w.seen;
   leads = stays;
-  ends = (fits.events, call_step x unit-called.Exit target all ops end l w (ap (list_any is_odd) same) ∙ ap (λ vs. exited (first_of vs)) same, status);
+  ends = (fits.events, call_step x unit-called.Exit target all ops end l w (ap (list_any is_odd) same) ∙ ap (λ vs. exited (first_argument vs)) same, status);
 }

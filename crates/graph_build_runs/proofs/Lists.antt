@@ -2,7 +2,7 @@
 use Rattle.std.proofs.Common.{ℕ, ◌≤◌, List, [], ◌++◌, length, Option}
 use Rattle.c_meaning_values.specs.Memory.{Memory as SourceMemory}
 use Rattle.c_meaning_steps.specs.States.{State, Outcome, Next, Broken, Continued, Returned, Ended}
-use Rattle.c_meaning.specs.Lifetimes.{closed}
+use Rattle.c_meaning.specs.Lifetimes.{lifetimes_ended}
 use Rattle.c_meaning.specs.Statements.{then_do}
 use Rattle.c_flow.specs.declared.edge.Ways.{Ways}
 use Rattle.graph_core.specs.Runs.{Configuration, Event}
@@ -39,5 +39,5 @@ first_goes k scope low mid high w begin next first brought go rest le ge does re
     (rest_does c es place2 l2 u2 s2 comes2 sound2 fits2 (record { statics = held.statics; under = held.under; scoped = all_both s2.memory (depth_in k.setting) scope first held.scoped brings; frames = held.frames }))))
 
 -- A block: its objects end with it.
-pub block_goes : (k : Activity) (scope : List ℕ) (low high : ℕ) (brought : List ℕ) (w : Ways) (begin : Option ℕ) (go : State → Outcome) → GoesOn k low high brought w scope begin go → GoesOn k low low [] w scope begin (λ s. closed (length s.memory) (go s))
+pub block_goes : (k : Activity) (scope : List ℕ) (low high : ℕ) (brought : List ℕ) (w : Ways) (begin : Option ℕ) (go : State → Outcome) → GoesOn k low high brought w scope begin go → GoesOn k low low [] w scope begin (λ s. lifetimes_ended (length s.memory) (go s))
 block_goes k scope low high brought w begin go does c es place l u s comes sound fits h = closed_runs k c es low high brought s.memory w (go s) (does c es place l u s comes sound fits h)

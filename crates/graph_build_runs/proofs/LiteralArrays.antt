@@ -12,10 +12,10 @@ use Rattle.c_tree.specs.declared.types.IntegerType.TheVariants.{Char}
 use Rattle.c_tree.specs.declared.object_type.Scalar.{Scalar}
 use Rattle.c_tree.specs.TypedStatements.{Literal}
 use Rattle.c_tree.specs.Programs.{AutomaticTree, LiteralTree}
-use Rattle.c_type_rules.specs.Types.{loaded}
+use Rattle.c_type_rules.specs.Types.{loaded_type}
 use Rattle.c_meaning_values.specs.declared.value.Value as source-value
 use Rattle.c_meaning_values.specs.declared.value.Phase.TheVariants.{Initialising, Live}
-use Rattle.c_meaning_values.specs.Types.{element_of, count_of, scalar_size, size_by_stars, zero_of}
+use Rattle.c_meaning_values.specs.Types.{element_scalar, value_count, scalar_size, size_by_stars, zero_of}
 use Rattle.c_meaning_values.specs.Memory.{Memory as SourceMemory}
 use Rattle.c_meaning_steps.specs.States.{State, Next}
 use Rattle.c_meaning.specs.Activations as activations
@@ -31,7 +31,7 @@ use Rattle.graph_core.specs.Runs.{Configuration, Event, Goes, step, with_memory}
 use Rattle.graph_core.specs.Values.{size_of}
 use Rattle.graph_build_names.specs.Names.{object_of}
 use Rattle.graph_build_steps.specs.Rules as rule
-use Rattle.graph_build_steps.specs.Drafts.{Made, before}
+use Rattle.graph_build_steps.specs.Drafts.{Made, instruction_before}
 use Rattle.graph_build_statements.specs.Coding.{going}
 use Rattle.graph_build_statements.specs.Declaring.{cleared}
 use Rattle.graph_build_runs.specs.Typed.{IsOf}
@@ -96,17 +96,17 @@ module _ (memory : Memory) (m : ℕ) (q : Object) (sc : Scalar) (count words : �
       ∙ ap (λ vs. Some (slice_set memory m (record q { values = vs }))) values_are
 
 -- a byte becomes a number of an array's type
-byte_typed : (memory : SourceMemory) (base : IntegerType) (stars b : ℕ) → size_by_stars base stars ≡ 1 → IsOf memory (loaded (record { base = base; stars = stars })) (element_value base b)
+byte_typed : (memory : SourceMemory) (base : IntegerType) (stars b : ℕ) → size_by_stars base stars ≡ 1 → IsOf memory (loaded_type (record { base = base; stars = stars })) (element_value base b)
 byte_typed memory base zero b single = wrapped_holds base (pos b)
 byte_typed memory base (suc stars) b single = cc
 
 module _ (k : Activity) (law : Lawful k) (v j : ℕ) (a : AutomaticTree) (is : slice_get k.setting.program.automatics v ≡ Some a) (named : object_of (names_in k.setting) v ≡ Some j) (inside : a.in_memory ≡ true) (scope : List ℕ) (low : ℕ) (w : Ways) (spot : Spot) (le : low ≤ v)
-    (n : ℕ) (l : LiteralTree) (literal_is : slice_get k.setting.program.array_literals n ≡ Some l) (bytes_are : slice_get k.setting.unit.array_bytes n ≡ Some l.bytes) (single : scalar_size (element_of a.of) ≡ 1) where
+    (n : ℕ) (l : LiteralTree) (literal_is : slice_get k.setting.program.array_literals n ≡ Some l) (bytes_are : slice_get k.setting.unit.array_bytes n ≡ Some l.bytes) (single : scalar_size (element_scalar a.of) ≡ 1) where
   abbrev element : Scalar
-  element = element_of a.of
+  element = element_scalar a.of
 
   abbrev count : ℕ
-  count = count_of a.of
+  count = value_count a.of
 
   abbrev given_values : List source-value.Value
   given_values = map (element_value element.base) l.bytes
@@ -118,15 +118,15 @@ module _ (k : Activity) (law : Lawful k) (v j : ℕ) (a : AutomaticTree) (is : s
   abbrev words : ℕ
   words = min (words_of count) (words_of (length l.bytes))
 
-  mapped_typed : (memory : SourceMemory) (bytes : List ℕ) → AllByRecursion (IsOf memory (loaded element)) (map (element_value element.base) bytes)
+  mapped_typed : (memory : SourceMemory) (bytes : List ℕ) → AllByRecursion (IsOf memory (loaded_type element)) (map (element_value element.base) bytes)
   mapped_typed memory [] = tt
   mapped_typed memory (b ∷ bytes) = (byte_typed memory element.base element.stars b single, mapped_typed memory bytes)
 
-  values_typed : (memory : SourceMemory) → AllByRecursion (IsOf memory (loaded element)) values
-  values_typed memory = filled_all (IsOf memory (loaded element)) count (zero_of element) given_values (zero_typed memory element.base element.stars) (mapped_typed memory l.bytes)
+  values_typed : (memory : SourceMemory) → AllByRecursion (IsOf memory (loaded_type element)) values
+  values_typed memory = filled_all (IsOf memory (loaded_type element)) count (zero_of element) given_values (zero_typed memory element.base element.stars) (mapped_typed memory l.bytes)
 
   type_is : element_type (here_in k) v ≡ element.base
-  type_is = ap (λ r. option_map_or (λ (q : AutomaticTree). (element_of q.of).base) r Char) is
+  type_is = ap (λ r. option_map_or (λ (q : AutomaticTree). (element_scalar q.of).base) r Char) is
 
   -- the program's run behind the declarator
   declared_is : (s : State) → length k.frames ≡ length k.setting.waiting → declare_with k.calls (here_in k) spot v (Literal n) s ≡ Next (record s { memory = with_array k v a is values s.memory })
@@ -153,11 +153,11 @@ module _ (k : Activity) (law : Lawful k) (v j : ℕ) (a : AutomaticTree) (is : s
       ∙ ap (with_memory (before_in k place g.ops g.end l2 u)) (copied_is u.memory (k.setting.first + j) q element count words l.bytes at lives kind single size has room)
 
   copy_leads : (c : Configuration) (es : List Event) (l2 : Local) (u : World) (place : ℕ) (q : Object) → slice_get u.memory (k.setting.first + j) ≡ Some q → q.live ≡ true → q.element ≡ rule.element_of element → length q.values ≡ count → (g : Made)
-      → Leads k.setting.unit c es (before_in k place (cleared j count words (before (unit.CopyWords j n words) g)).ops (cleared j count words (before (unit.CopyWords j n words) g)).end l2 u) u.seen → Copies c es l2 u place q g
+      → Leads k.setting.unit c es (before_in k place (cleared j count words (instruction_before (unit.CopyWords j n words) g)).ops (cleared j count words (instruction_before (unit.CopyWords j n words) g)).end l2 u) u.seen → Copies c es l2 u place q g
   copy_leads c es l2 u place q at lives kind size g leads = by (nat_le (words_of count) words) refl leads
     where
       by : (b : Bool) → nat_le (words_of count) words ≡ b
-          → Leads k.setting.unit c es (before_in k place (if b then before (unit.CopyWords j n words) g else before (unit.Zero j (words_of count)) (before (unit.CopyWords j n words) g)).ops (if b then before (unit.CopyWords j n words) g else before (unit.Zero j (words_of count)) (before (unit.CopyWords j n words) g)).end l2 u) u.seen
+          → Leads k.setting.unit c es (before_in k place (if b then instruction_before (unit.CopyWords j n words) g else instruction_before (unit.Zero j (words_of count)) (instruction_before (unit.CopyWords j n words) g)).ops (if b then instruction_before (unit.CopyWords j n words) g else instruction_before (unit.Zero j (words_of count)) (instruction_before (unit.CopyWords j n words) g)).end l2 u) u.seen
           → Copies c es l2 u place q g
       by true e there = (let all = leb-true (words_of count) words e in
           record { old = q.values; size = size; covers = inl (omega (arith, all)); leads = then_leads there (goes (copies_step l2 u place q at lives kind size g) stays) })
@@ -176,10 +176,10 @@ module _ (k : Activity) (law : Lawful k) (v j : ℕ) (a : AutomaticTree) (is : s
           record { old = zeros; size = size2; covers = inr (refl, omega (arith, few)); leads = then_leads there (goes clears (goes (copies ∙ once) stays)) }
 
   -- An array with a literal,
-  pub literal_goes : Begins k scope spot.at (λ t i. cleared j count words (before (unit.CopyWords j n words) (going (coding_in k) w.next i))) → GoesOn k low (v + 1) (v ∷ []) w scope (Some spot.at) (λ s. activations.at (here_in k) spot s (declare_with k.calls (here_in k) spot v (Literal n)))
+  pub literal_goes : Begins k scope spot.at (λ t i. cleared j count words (instruction_before (unit.CopyWords j n words) (going (coding_in k) w.next i))) → GoesOn k low (v + 1) (v ∷ []) w scope (Some spot.at) (λ s. activations.at (here_in k) spot s (declare_with k.calls (here_in k) spot v (Literal n)))
   literal_goes b =
       let g = going (coding_in k) w.next b.inner in
-      let m = before (unit.CopyWords j n words) g in
+      let m = instruction_before (unit.CopyWords j n words) g in
       place_begins k law scope spot (cleared j count words m) b.block b.here low (v + 1) (v ∷ []) w (declare_with k.calls (here_in k) spot v (Literal n))
       (λ c es l2 u s leads sound fits h ready.
       (let p = k.setting.program in

@@ -7,14 +7,14 @@ use Rattle.c_tree.specs.declared.object_type.ObjectType.{ObjectType}
 use Rattle.c_tree.specs.declared.object_type.ObjectType.TheVariants as of-object
 use Rattle.c_tree.specs.declared.object_type.ValueType.TheVariants.{Pointer as PointerType}
 use Rattle.c_tree.specs.TypedExpressions.{RvalueTree, LvalueTree, Load}
-use Rattle.c_type_rules.specs.Types.{loaded}
+use Rattle.c_type_rules.specs.Types.{loaded_type}
 use Rattle.c_type_rules.specs.ValueTypes.{object_type}
 use Rattle.c_type_laws.specs.Kind.{Of}
 use Rattle.c_meaning_values.specs.declared.value.Value as source-value
 use Rattle.c_meaning_values.specs.declared.value.Value.TheVariants as source
 use Rattle.c_meaning_steps.specs.declared.event.Ending.TheVariants as ending
 use Rattle.c_meaning_values.specs.Memory.{Object as SourceObject, is_usable, is_begun, index_at, value_in as value_at}
-use Rattle.c_meaning_steps.specs.States.{State, Evaluated, Gives, Leaves, Ends, given, with, usable}
+use Rattle.c_meaning_steps.specs.States.{State, Evaluated, Gives, Leaves, Ends, value_or_undefined, with, usable}
 use Rattle.c_meaning.specs.Expressions.{Calls, evaluate, designate}
 use Rattle.c_meaning_steps.specs.Steps.{load}
 use Rattle.graph_core.specs.declared.value.Value.{Value}
@@ -89,17 +89,17 @@ module _ (x : Setting) (calls : Calls) (low : ScalarsFirst x) (sc : Scalar) (lv 
     loads n offset c same begun v found true =
         let got = read_same x None s l w sc n offset (pointed_in x l w (place_in x lv t)) v sound fits c (begun_live c.object.phase begun) found same in
         let le = pick_between (names_in x) t (next_of t) t (omega arith) (lays t size) in
-        let typed_v : IsOf s.memory (loaded sc) v = subst (λ e. IsOf s.memory (loaded e) v) c.element_is (all_at s.memory (loaded c.object.element) c.object.values (index_at c.object offset) v (sound.typed n c.object c.is) found) in
+        let typed_v : IsOf s.memory (loaded_type sc) v = subst (λ e. IsOf s.memory (loaded_type e) v) c.element_is (all_at s.memory (loaded_type c.object.element) c.object.values (index_at c.object offset) v (sound.typed n c.object c.is) found) in
         operated_done x g (own_of t) t (λ y. false) (i_of t) v got.0 s l w low le (omega (arith, le, size)) fits
         (λ k ops end. ap (λ q. wrote_some (at x ops end l w) k (read w.memory (rule.element_of sc) q)) (pointed_same x ops end l w (place_in x lv t)) ∙ ap (wrote_some (at x ops end l w) k) got.1)
-        got.2 (of_word s.memory (loaded sc) v typed_v)
+        got.2 (of_word s.memory (loaded_type sc) v typed_v)
 
     found_in : (n offset : ℕ) (c : PointsInto s.memory (of-object.Scalar sc) n offset) → SameValue x.program s.memory w.memory (source.Pointer n offset) (pointed_in x l w (place_in x lv t)) → (b : Bool) → is_begun c.object.phase ≡ b
-        → Result x g (Name (own_of t)) t (λ y. false) (last_of t g).ops (last_of t g).end l w (with (given (if b then slice_get c.object.values (index_at c.object offset) else None) s) usable)
+        → Result x g (Name (own_of t)) t (λ y. false) (last_of t g).ops (last_of t g).end l w (with (value_or_undefined (if b then slice_get c.object.values (index_at c.object offset) else None) s) usable)
     found_in n offset c same false e = stuck
     found_in n offset c same true e = by_value (slice_get c.object.values (index_at c.object offset)) refl
       where
-        by_value : (r : Option source-value.Value) → slice_get c.object.values (index_at c.object offset) ≡ r → Result x g (Name (own_of t)) t (λ y. false) (last_of t g).ops (last_of t g).end l w (with (given r s) usable)
+        by_value : (r : Option source-value.Value) → slice_get c.object.values (index_at c.object offset) ≡ r → Result x g (Name (own_of t)) t (λ y. false) (last_of t g).ops (last_of t g).end l w (with (value_or_undefined r s) usable)
         by_value None h = stuck
         by_value (Some v) h = loads n offset c same e v h (is_usable s.memory v)
 
@@ -108,7 +108,7 @@ module _ (x : Setting) (calls : Calls) (low : ScalarsFirst x) (sc : Scalar) (lv 
     load_done (source.Number z) is same = absurd is
     load_done source.Null is same = stuck
     load_done (source.Pointer n offset) c same =
-        subst (λ q. Result x g (Name (own_of t)) t (λ y. false) (last_of t g).ops (last_of t g).end l w (with (given (option_and_then (λ o. value_at o offset) q) s) usable)) (sym c.is)
+        subst (λ q. Result x g (Name (own_of t)) t (λ y. false) (last_of t g).ops (last_of t g).end l w (with (value_or_undefined (option_and_then (λ o. value_at o offset) q) s) usable)) (sym c.is)
         (found_in n offset c same (is_begun c.object.phase) refl)
 
   abbrev by_home : ℕ → Goal → Option ℕ → Made

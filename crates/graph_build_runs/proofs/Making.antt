@@ -15,12 +15,12 @@ use Rattle.c_tree.specs.declared.object_type.ValueType.{ValueType}
 use Rattle.c_tree.specs.declared.object_type.ValueType.TheVariants.{Integer, Pointer}
 use Rattle.c_tree.specs.Programs.{AutomaticTree, ProgramTree}
 use Rattle.c_type_rules.specs.Integers.{integer}
-use Rattle.c_type_rules.specs.Types.{loaded, pointed_to}
+use Rattle.c_type_rules.specs.Types.{loaded_type, pointed_to}
 use Rattle.c_meaning_values.specs.declared.value.Value as source-value
 use Rattle.c_meaning_values.specs.declared.value.Value.TheVariants.{Null}
 use Rattle.c_meaning_values.specs.declared.value.Phase.{Phase}
 use Rattle.c_meaning_values.specs.declared.value.Phase.TheVariants.{Initialising, Live, Ended}
-use Rattle.c_meaning_values.specs.Types.{element_of, count_of, zero_of, zero_by_stars}
+use Rattle.c_meaning_values.specs.Types.{element_scalar, value_count, zero_of, zero_by_stars}
 use Rattle.c_meaning_values.specs.Memory.{Object as SourceObject, Memory as SourceMemory, new_object}
 use Rattle.c_meaning_steps.specs.States.{State}
 use Rattle.c_meaning.specs.Lifetimes.{made}
@@ -67,7 +67,7 @@ zero_holds UnsignedInt = refl
 zero_holds Long = refl
 zero_holds UnsignedLong = refl
 
-pub zero_typed : (memory : SourceMemory) (base : IntegerType) (stars : ℕ) → IsOf memory (loaded (record { base = base; stars = stars })) (zero_by_stars stars)
+pub zero_typed : (memory : SourceMemory) (base : IntegerType) (stars : ℕ) → IsOf memory (loaded_type (record { base = base; stars = stars })) (zero_by_stars stars)
 zero_typed memory base zero = zero_holds base
 zero_typed memory base (suc stars) = subst (λ b. IsOf memory (if b then Integer base else Pointer (of-object.Scalar (pointed_to (record { base = base; stars = suc stars })))) Null) (sym (no_zero stars)) tt
   where
@@ -102,19 +102,19 @@ differ_more depth v o owner_is memory low le under differ i j q r fi fj qa ra sa
     older i q found alive owner = let c = under i q v depth found alive owner in let less = c.1 refl in absurd (omega (arith, less, le))
 
 -- objects are of the types of their variables with a new one that is
-declared_more : (p : ProgramTree) (depth v : ℕ) (a : AutomaticTree) → slice_get p.automatics v ≡ Some a → (o : SourceObject) → o.owner ≡ Variable v depth → o.element ≡ element_of a.of → length o.values ≡ count_of a.of → (memory : SourceMemory) → AreDeclared p memory → AreDeclared p (memory ++ o ∷ [])
+declared_more : (p : ProgramTree) (depth v : ℕ) (a : AutomaticTree) → slice_get p.automatics v ≡ Some a → (o : SourceObject) → o.owner ≡ Variable v depth → o.element ≡ element_scalar a.of → length o.values ≡ value_count a.of → (memory : SourceMemory) → AreDeclared p memory → AreDeclared p (memory ++ o ∷ [])
 declared_more p depth v a is o owner_is element count memory declared n z found = elim (got_last memory o z n found) [
   | inl here ↦ declared n z here
   | inr both ↦ subst (λ q. IsDeclared p q.owner q) (sym both.1) (subst (λ w. IsDeclared p w o) (sym owner_is) (a, is, element, count))
 ]
 
 -- What a program's run keeps is kept with a new object of a variable above those that live.
-pub sound_more : (k : Activity) (v : ℕ) (a : AutomaticTree) → slice_get k.setting.program.automatics v ≡ Some a → (o : SourceObject) → o.owner ≡ Variable v (depth_in k.setting) → o.element ≡ element_of a.of → length o.values ≡ count_of a.of → (o.phase ≡ Initialising → length o.values ≡ 1)
-    → (s : State) (low : ℕ) → low ≤ v → Under s.memory (depth_in k.setting) low → Sound k.setting.program s.memory s → AllByRecursion (IsOf (s.memory ++ o ∷ []) (loaded o.element)) o.values → Sound k.setting.program (s.memory ++ o ∷ []) (record s { memory = s.memory ++ o ∷ [] })
+pub sound_more : (k : Activity) (v : ℕ) (a : AutomaticTree) → slice_get k.setting.program.automatics v ≡ Some a → (o : SourceObject) → o.owner ≡ Variable v (depth_in k.setting) → o.element ≡ element_scalar a.of → length o.values ≡ value_count a.of → (o.phase ≡ Initialising → length o.values ≡ 1)
+    → (s : State) (low : ℕ) → low ≤ v → Under s.memory (depth_in k.setting) low → Sound k.setting.program s.memory s → AllByRecursion (IsOf (s.memory ++ o ∷ []) (loaded_type o.element)) o.values → Sound k.setting.program (s.memory ++ o ∷ []) (record s { memory = s.memory ++ o ∷ [] })
 sound_more k v a is o owner_is element count single s low le under sound typed = record {
   typed = λ n z found. elim (got_last s.memory o z n found) [
-    | inl here ↦ typed_later s.memory (s.memory ++ o ∷ []) (later_more s.memory o) (loaded z.element) z.values (sound.typed n z here)
-    | inr both ↦ subst (λ q. AllByRecursion (IsOf (s.memory ++ o ∷ []) (loaded q.element)) q.values) (sym both.1) typed
+    | inl here ↦ typed_later s.memory (s.memory ++ o ∷ []) (later_more s.memory o) (loaded_type z.element) z.values (sound.typed n z here)
+    | inr both ↦ subst (λ q. AllByRecursion (IsOf (s.memory ++ o ∷ []) (loaded_type q.element)) q.values) (sym both.1) typed
   ];
   differ = differ_more (depth_in k.setting) v o owner_is s.memory low le under sound.differ;
   declared = declared_more k.setting.program (depth_in k.setting) v a is o owner_is element count s.memory sound.declared;
@@ -167,13 +167,13 @@ module _ (k : Activity) (v : ℕ) (a : AutomaticTree) (is : slice_get k.setting.
   differ_made memory low le under differ = differ_more (depth_in k.setting) v new_in refl memory low le under differ
 
   pub declared_made : (memory : SourceMemory) → AreDeclared k.setting.program memory → AreDeclared k.setting.program (with_new memory)
-  declared_made memory declared = declared_more k.setting.program (depth_in k.setting) v a is new_in refl refl (length-replicate (count_of a.of) (zero_of (element_of a.of))) memory declared
+  declared_made memory declared = declared_more k.setting.program (depth_in k.setting) v a is new_in refl refl (length-replicate (value_count a.of) (zero_of (element_scalar a.of))) memory declared
 
   -- What a program's run keeps is kept with the new object, which is a scalar where it is being initialised.
-  pub sound_made : (phase ≡ Initialising → count_of a.of ≡ 1) → (s : State) (low : ℕ) → low ≤ v → Under s.memory (depth_in k.setting) low → Sound k.setting.program s.memory s → Sound k.setting.program (with_new s.memory) (record s { memory = with_new s.memory })
+  pub sound_made : (phase ≡ Initialising → value_count a.of ≡ 1) → (s : State) (low : ℕ) → low ≤ v → Under s.memory (depth_in k.setting) low → Sound k.setting.program s.memory s → Sound k.setting.program (with_new s.memory) (record s { memory = with_new s.memory })
   sound_made single s low le under sound =
-      sound_more k v a is new_in refl refl (length-replicate (count_of a.of) (zero_of (element_of a.of))) (λ young. length-replicate (count_of a.of) (zero_of (element_of a.of)) ∙ single young) s low le under sound
-      (all_alike (IsOf (with_new s.memory) (loaded (element_of a.of))) (count_of a.of) (zero_of (element_of a.of)) (zero_typed (with_new s.memory) (element_of a.of).base (element_of a.of).stars))
+      sound_more k v a is new_in refl refl (length-replicate (value_count a.of) (zero_of (element_scalar a.of))) (λ young. length-replicate (value_count a.of) (zero_of (element_scalar a.of)) ∙ single young) s low le under sound
+      (all_alike (IsOf (with_new s.memory) (loaded_type (element_scalar a.of))) (value_count a.of) (zero_of (element_scalar a.of)) (zero_typed (with_new s.memory) (element_scalar a.of).base (element_scalar a.of).stars))
 
 -- What the unit's run keeps is kept with an object that is being initialised.
 pub fits_made : (k : Activity) (v : ℕ) (a : AutomaticTree) (s : State) (l : Local) (u : World) → Fits k.setting None s l u

@@ -15,7 +15,7 @@ use Rattle.c_tree.specs.declared.object_type.ValueType.TheVariants.{Void, Intege
 use Rattle.c_tree.specs.TypedExpressions.{RvalueTree, LvalueTree, Constant, Null, Load, Assign, Comma, Discard}
 use Rattle.c_tree.specs.Programs.{ProgramTree}
 use Rattle.c_type_rules.specs.Integers.{integer}
-use Rattle.c_type_rules.specs.Types.{loaded}
+use Rattle.c_type_rules.specs.Types.{loaded_type}
 use Rattle.c_type_rules.specs.ValueTypes.{object_type}
 use Rattle.c_type_laws.specs.Kind.{Kind, Wrong, NullPointer, Of}
 use Rattle.c_type_laws.specs.Kinds.{of_if, is_of, is_typed}
@@ -25,11 +25,11 @@ use Rattle.c_meaning_values.specs.declared.value.Value.TheVariants as source
 use Rattle.c_meaning_values.specs.declared.value.Phase.{Phase}
 use Rattle.c_meaning_values.specs.declared.value.Phase.TheVariants.{Live, Ended}
 use Rattle.c_meaning_steps.specs.declared.event.Ending.TheVariants.{Undefined}
-use Rattle.c_meaning_values.specs.Types.{element_of, scalar_size}
+use Rattle.c_meaning_values.specs.Types.{element_scalar, scalar_size}
 use Rattle.c_meaning_values.specs.Memory.{Object, Memory, is_usable, is_begun, is_writable, index_at, read, value_in, write, written_in, set_value, with_value}
-use Rattle.c_meaning_steps.specs.States.{State, Evaluated, Gives, Leaves, Ends, given, with, usable, both, on_both, afterwards}
+use Rattle.c_meaning_steps.specs.States.{State, Evaluated, Gives, Leaves, Ends, value_or_undefined, with, usable, both_operands, on_both, afterwards}
 use Rattle.c_meaning.specs.Expressions.{Calls, evaluate, designate}
-use Rattle.c_meaning_steps.specs.Steps.{load, store, stored}
+use Rattle.c_meaning_steps.specs.Steps.{load, store, value_stored}
 use Rattle.graph_build_runs.specs.Typed.{PointsInto, IsOf, AreTyped, OwnersDiffer}
 use Rattle.graph_build_runs.specs.Stops.{IsDeclared, AreDeclared}
 use Rattle.graph_build_runs.proofs.Leads.{Setting, depth_in}
@@ -57,7 +57,7 @@ keeps_afterwards p began before k1 k (Leaves s) next h go_on = keeps_before p be
 keeps_afterwards p began before k1 k (Ends e s) next h go_on = tt
 
 -- a value that was found, or none
-pub keeps_given : (p : ProgramTree) (began : Memory) (k : Kind) (s : State) (r : Option Value) → Sound p began s → ((v : Value) → r ≡ Some v → HasKind s.memory k v) → Keeps p began s.memory k (given r s)
+pub keeps_given : (p : ProgramTree) (began : Memory) (k : Kind) (s : State) (r : Option Value) → Sound p began s → ((v : Value) → r ≡ Some v → HasKind s.memory k v) → Keeps p began s.memory k (value_or_undefined r s)
 keeps_given p began k s None sound h = tt
 keeps_given p began k s (Some v) sound h = record { sound = sound; later = later_refl s.memory; is = h v refl }
 
@@ -83,7 +83,7 @@ all_set memory t (u ∷ vs) zero v all is = (is, all.1)
 all_set memory t (u ∷ vs) (suc i) v all is = (all.0, all_set memory t vs i v all.1 is)
 
 -- An object takes a value of its type, and may come to live: what runs keep is kept.
-module _ (p : ProgramTree) (began : Memory) (s : State) (n i : ℕ) (o : Object) (v : Value) (phase : Phase) (goes_on : Onward o.phase phase) (at : slice_get s.memory n ≡ Some o) (sound : Sound p began s) (is : IsOf s.memory (loaded o.element) v) where
+module _ (p : ProgramTree) (began : Memory) (s : State) (n i : ℕ) (o : Object) (v : Value) (phase : Phase) (goes_on : Onward o.phase phase) (at : slice_get s.memory n ≡ Some o) (sound : Sound p began s) (is : IsOf s.memory (loaded_type o.element) v) where
   abbrev changed : Object
   changed = record o { values = slice_set o.values i v; phase = phase }
 
@@ -96,23 +96,23 @@ module _ (p : ProgramTree) (began : Memory) (s : State) (n i : ℕ) (o : Object)
   sound_changed : Sound p began (record s { memory = after })
   sound_changed = record {
     typed = λ m q found. elim (get_set s.memory n m changed q found) [
-      | inl both ↦
-          subst (λ z. AllByRecursion (IsOf after (loaded z.element)) z.values) (sym both.1)
-          (all_set after (loaded o.element) o.values i v
-          (all_later s.memory after changed_later (loaded o.element) o.values (sound.typed n o at))
-          (of_later s.memory after changed_later (loaded o.element) v is))
-      | inr both ↦ all_later s.memory after changed_later (loaded q.element) q.values (sound.typed m q both.1)
+      | inl both_operands ↦
+          subst (λ z. AllByRecursion (IsOf after (loaded_type z.element)) z.values) (sym both_operands.1)
+          (all_set after (loaded_type o.element) o.values i v
+          (all_later s.memory after changed_later (loaded_type o.element) o.values (sound.typed n o at))
+          (of_later s.memory after changed_later (loaded_type o.element) v is))
+      | inr both_operands ↦ all_later s.memory after changed_later (loaded_type q.element) q.values (sound.typed m q both_operands.1)
     ];
     differ = λ a b q r fa fb la lb same. (let x = old a q fa in let y = old b r fb in sound.differ a b x.0 y.0 x.1 y.1 (λ e. la (x.2 e)) (λ e. lb (y.2 e)) (sym x.3 ∙ same ∙ y.3));
     declared = λ m q found. elim (get_set s.memory n m changed q found) [
-      | inl both ↦ subst (λ z. IsDeclared p z.owner z) (sym both.1) (declared_set o.owner (sound.declared n o at))
-      | inr both ↦ sound.declared m q both.1
+      | inl both_operands ↦ subst (λ z. IsDeclared p z.owner z) (sym both_operands.1) (declared_set o.owner (sound.declared n o at))
+      | inr both_operands ↦ sound.declared m q both_operands.1
     ];
     single = λ m q found young. elim (get_set s.memory n m changed q found) [
-      | inl both ↦
-          let before = still_initialising o.phase phase goes_on (sym (ap (λ z. z.phase) both.1) ∙ young) in
-          ap (λ z. length z.values) both.1 ∙ length-set o.values i v ∙ sound.single n o at before
-      | inr both ↦ sound.single m q both.1 young
+      | inl both_operands ↦
+          let before = still_initialising o.phase phase goes_on (sym (ap (λ z. z.phase) both_operands.1) ∙ young) in
+          ap (λ z. length z.values) both_operands.1 ∙ length-set o.values i v ∙ sound.single n o at before
+      | inr both_operands ↦ sound.single m q both_operands.1 young
     ];
     bytes = sound.bytes;
     since = record {
@@ -123,8 +123,8 @@ module _ (p : ProgramTree) (began : Memory) (s : State) (n i : ℕ) (o : Object)
     where
       old : (a : ℕ) (q : Object) → slice_get after a ≡ Some q → (z : Object) × (slice_get s.memory a ≡ Some z) × (z.phase ≡ Ended → q.phase ≡ Ended) × (q.owner ≡ z.owner)
       old a q found = elim (get_set s.memory n a changed q found) [
-        | inl both ↦ (o, ap (slice_get s.memory) both.0 ∙ at, (λ e. ap (λ z. z.phase) both.1 ∙ goes_on.over e), ap (λ z. z.owner) both.1)
-        | inr both ↦ (q, both.1, (λ e. e), refl)
+        | inl both_operands ↦ (o, ap (slice_get s.memory) both_operands.0 ∙ at, (λ e. ap (λ z. z.phase) both_operands.1 ∙ goes_on.over e), ap (λ z. z.owner) both_operands.1)
+        | inr both_operands ↦ (q, both_operands.1, (λ e. e), refl)
       ]
 
       declared_set : (w : Owner) → IsDeclared p w o → IsDeclared p w changed
@@ -133,10 +133,10 @@ module _ (p : ProgramTree) (began : Memory) (s : State) (n i : ℕ) (o : Object)
       declared_set (Variable k d) c = (c.0, c.1, c.2, length-set o.values i v ∙ c.3)
 
 -- An element of an array takes a value.
-pub sound_set : (p : ProgramTree) (began : Memory) (s : State) (n i : ℕ) (o : Object) (v : Value) → slice_get s.memory n ≡ Some o → Sound p began s → IsOf s.memory (loaded o.element) v → Sound p began (record s { memory = slice_set s.memory n (record o { values = slice_set o.values i v }) })
+pub sound_set : (p : ProgramTree) (began : Memory) (s : State) (n i : ℕ) (o : Object) (v : Value) → slice_get s.memory n ≡ Some o → Sound p began s → IsOf s.memory (loaded_type o.element) v → Sound p began (record s { memory = slice_set s.memory n (record o { values = slice_set o.values i v }) })
 sound_set p began s n i o v at sound is = sound_changed p began s n i o v o.phase (onward o.phase o.phase refl) at sound is
 
 -- An object is written, and lives.
-pub sound_written : (p : ProgramTree) (began : Memory) (s : State) (n i : ℕ) (o : Object) (v : Value) → slice_get s.memory n ≡ Some o → o.phase ≢ Ended → Sound p began s → IsOf s.memory (loaded o.element) v
+pub sound_written : (p : ProgramTree) (began : Memory) (s : State) (n i : ℕ) (o : Object) (v : Value) → slice_get s.memory n ≡ Some o → o.phase ≢ Ended → Sound p began s → IsOf s.memory (loaded_type o.element) v
     → Sound p began (record s { memory = slice_set s.memory n (record o { values = slice_set o.values i v; phase = Live }) })
 sound_written p began s n i o v at alive sound is = sound_changed p began s n i o v Live (live_open o.phase alive) at sound is

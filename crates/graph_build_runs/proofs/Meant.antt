@@ -18,9 +18,9 @@ use Rattle.c_tree.specs.declared.typed_expression.Arithmetic as declared-arithme
 use Rattle.c_tree.specs.declared.typed_expression.Comparison as declared-comparison
 use Rattle.c_tree.specs.TypedExpressions.{RvalueTree, LvalueTree, Load, AddressOf, Assign, Comma, Discard, Arithmetic, Compare, And, Or, Not, Conditional, Named, Target}
 use Rattle.c_tree.specs.Programs.{AutomaticTree, StaticTree, ProgramTree}
-use Rattle.c_type_rules.specs.Constants.{calculated, compared as test_of}
+use Rattle.c_type_rules.specs.Constants.{calculated, comparison_holds as test_of}
 use Rattle.c_type_rules.specs.Integers.{integer}
-use Rattle.c_type_rules.specs.Types.{loaded}
+use Rattle.c_type_rules.specs.Types.{loaded_type as loaded}
 use Rattle.c_type_rules.specs.ValueTypes.{object_type}
 use Rattle.c_type_laws.specs.Kind.{Kind, Wrong, NullPointer, Of}
 use Rattle.c_type_laws.specs.Kinds.{is_of}
@@ -29,12 +29,12 @@ use Rattle.c_meaning_values.specs.declared.value.Value.{Value}
 use Rattle.c_meaning_values.specs.declared.value.Value.TheVariants as source
 use Rattle.c_meaning_values.specs.declared.value.Phase.TheVariants.{Live}
 use Rattle.c_meaning_steps.specs.declared.event.Ending.TheVariants.{Undefined}
-use Rattle.c_meaning_values.specs.Types.{element_of, count_of}
+use Rattle.c_meaning_values.specs.Types.{element_scalar, value_count}
 use Rattle.c_meaning_values.specs.Memory.{Object, Memory, is_usable, is_begun, is_writable, index_at, object_of, read, value_in, write, written_in, set_value, begun}
-use Rattle.c_meaning_values.specs.Operations.{arithmetic, comparison, compared}
-use Rattle.c_meaning_steps.specs.States.{State, Evaluated, Gives, Leaves, Ends, given, with, usable, both, on_both, Tested, Holds, Fails, NoTest, tested, on_test}
+use Rattle.c_meaning_values.specs.Operations.{arithmetic, comparison, comparison_value}
+use Rattle.c_meaning_steps.specs.States.{State, Evaluated, Gives, Leaves, Ends, value_or_undefined, with, usable, both_operands, on_both, Tested, Holds, Fails, NoTest, condition_tested, on_test}
 use Rattle.c_meaning.specs.Expressions.{Calls, evaluate, designate}
-use Rattle.c_meaning_steps.specs.Steps.{named, load, store, stored, truth}
+use Rattle.c_meaning_steps.specs.Steps.{pointer_to_named, load, store, value_stored, truth_value}
 use Rattle.graph_build_runs.specs.Typed.{PointsInto, IsPointerTo, IsOf}
 use Rattle.graph_build_runs.specs.Stops.{IsDeclared}
 use Rattle.graph_build_runs.proofs.Leads.{Setting, depth_in}
@@ -52,8 +52,8 @@ abbrev pub TypedPlace : Setting → Calls → LvalueTree → Type 0
 TypedPlace x calls l = (s : State) → Sound x.program x.begun s → Keeps x.program x.begun s.memory (Of (Pointer (object_type l))) (designate calls (depth_in x) l s)
 
 -- the address of an owner's object
-pub address_typed : (p : ProgramTree) (began : Memory) (owner : Owner) (of : ObjectType) (s : State) → Sound p began s → ((o : Object) → IsDeclared p owner o → (o.element ≡ element_of of) × (length o.values ≡ count_of of)) → (r : Option ℕ) → object_of owner s.memory ≡ r
-    → Keeps p began s.memory (Of (Pointer of)) (given (option_map (λ n. source.Pointer n 0) r) s)
+pub address_typed : (p : ProgramTree) (began : Memory) (owner : Owner) (of : ObjectType) (s : State) → Sound p began s → ((o : Object) → IsDeclared p owner o → (o.element ≡ element_scalar of) × (length o.values ≡ value_count of)) → (r : Option ℕ) → object_of owner s.memory ≡ r
+    → Keeps p began s.memory (Of (Pointer of)) (value_or_undefined (option_map (λ n. source.Pointer n 0) r) s)
 address_typed p began owner of s sound fits None e = tt
 address_typed p began owner of s sound fits (Some n) e =
     let o = owned_at owner s.memory n e in
@@ -75,11 +75,11 @@ address_typed p began owner of s sound fits (Some n) e =
 -- an automatic variable
 pub variable_typed : (x : Setting) (calls : Calls) (v : ℕ) (of : ObjectType) → ((a : AutomaticTree) → slice_get x.program.automatics v ≡ Some a → a.of ≡ of) → TypedPlace x calls (Named (object.Automatic v) of)
 variable_typed x calls v of fits s sound =
-    address_typed x.program x.begun (Variable v (depth_in x)) of s sound (λ o c. (c.2 ∙ ap element_of (fits c.0 c.1), c.3 ∙ ap count_of (fits c.0 c.1))) (object_of (Variable v (depth_in x)) s.memory) refl
+    address_typed x.program x.begun (Variable v (depth_in x)) of s sound (λ o c. (c.2 ∙ ap element_scalar (fits c.0 c.1), c.3 ∙ ap value_count (fits c.0 c.1))) (object_of (Variable v (depth_in x)) s.memory) refl
 
 -- a static one
 pub static_typed : (x : Setting) (calls : Calls) (n : ℕ) (of : ObjectType) → ((v : StaticTree) → slice_get x.program.statics n ≡ Some v → v.of ≡ of) → TypedPlace x calls (Named (object.Static n) of)
-static_typed x calls n of fits s sound = address_typed x.program x.begun (Static n) of s sound (λ o c. (c.2 ∙ ap element_of (fits c.0 c.1), c.3 ∙ ap count_of (fits c.0 c.1))) (object_of (Static n) s.memory) refl
+static_typed x calls n of fits s sound = address_typed x.program x.begun (Static n) of s sound (λ o c. (c.2 ∙ ap element_scalar (fits c.0 c.1), c.3 ∙ ap value_count (fits c.0 c.1))) (object_of (Static n) s.memory) refl
 
 -- a value that is worked with
 usable_keeps : (p : ProgramTree) (began : Memory) (k : Kind) (v : Value) (s : State) → Sound p began s → HasKind s.memory k v → Keeps p began s.memory k (usable v s)
@@ -94,15 +94,15 @@ pub load_typed : (p : ProgramTree) (began : Memory) (sc : Scalar) (v : Value) (s
 load_typed p began sc (source.Number z) s sound is = absurd is
 load_typed p began sc source.Null s sound is = tt
 load_typed p began sc (source.Pointer n offset) s sound c =
-    subst (λ q. Keeps p began s.memory (Of (loaded sc)) (with (given (option_and_then (λ o. value_in o offset) q) s) usable)) (sym c.is) (by_phase (is_begun c.object.phase))
+    subst (λ q. Keeps p began s.memory (Of (loaded sc)) (with (value_or_undefined (option_and_then (λ o. value_in o offset) q) s) usable)) (sym c.is) (by_phase (is_begun c.object.phase))
   where
-    found : (r : Option Value) → slice_get c.object.values (index_at c.object offset) ≡ r → Keeps p began s.memory (Of (loaded sc)) (with (given r s) usable)
+    found : (r : Option Value) → slice_get c.object.values (index_at c.object offset) ≡ r → Keeps p began s.memory (Of (loaded sc)) (with (value_or_undefined r s) usable)
     found None e = tt
     found (Some v) e =
         usable_keeps p began (Of (loaded sc)) v s sound
         (subst (λ q. IsOf s.memory (loaded q) v) c.element_is (all_at s.memory (loaded c.object.element) c.object.values (index_at c.object offset) v (sound.typed n c.object c.is) e))
 
-    by_phase : (b : Bool) → Keeps p began s.memory (Of (loaded sc)) (with (given (if b then slice_get c.object.values (index_at c.object offset) else None) s) usable)
+    by_phase : (b : Bool) → Keeps p began s.memory (Of (loaded sc)) (with (value_or_undefined (if b then slice_get c.object.values (index_at c.object offset) else None) s) usable)
     by_phase true = found (slice_get c.object.values (index_at c.object offset)) refl
     by_phase false = tt
 
@@ -117,12 +117,12 @@ pub store_typed : (p : ProgramTree) (began : Memory) (sc : Scalar) (ptr v : Valu
 store_typed p began sc (source.Number z) v s sound is typed = absurd is
 store_typed p began sc source.Null v s sound is typed = tt
 store_typed p began sc (source.Pointer n offset) v s sound c typed =
-    subst (λ q. Keeps p began s.memory (Of (loaded sc)) (stored (option_and_then (written_in s.memory n offset v) q) v s)) (sym c.is) (by_way (is_writable c.object offset) refl)
+    subst (λ q. Keeps p began s.memory (Of (loaded sc)) (value_stored (option_and_then (written_in s.memory n offset v) q) v s)) (sym c.is) (by_way (is_writable c.object offset) refl)
   where
     typed_here : IsOf s.memory (loaded c.object.element) v
     typed_here = subst (λ q. IsOf s.memory (loaded q) v) (sym c.element_is) typed
 
-    by_way : (b : Bool) → is_writable c.object offset ≡ b → Keeps p began s.memory (Of (loaded sc)) (stored (if b then Some (begun (set_value s.memory n (index_at c.object offset) v) n) else None) v s)
+    by_way : (b : Bool) → is_writable c.object offset ≡ b → Keeps p began s.memory (Of (loaded sc)) (value_stored (if b then Some (begun (set_value s.memory n (index_at c.object offset) v) n) else None) v s)
     by_way true e =
         let alive = writable_open c.object offset e in
         let after = slice_set s.memory n (record c.object { values = slice_set c.object.values (index_at c.object offset) v; phase = Live }) in
@@ -145,7 +145,7 @@ assign_of x calls sc l e kind of fits place typed_e s sound =
 -- two operands, and what is made of their values
 pub both_typed : (x : Setting) (calls : Calls) (a b : RvalueTree) (k : Kind) (next : Value → Value → State → Evaluated) → Typed x calls a → Typed x calls b
     → ((v w : Value) (s : State) → Sound x.program x.begun s → HasKind s.memory (kind_of x.program x.tree a) v → HasKind s.memory (kind_of x.program x.tree b) w → Keeps x.program x.begun s.memory k (next v w s))
-    → (s : State) → Sound x.program x.begun s → Keeps x.program x.begun s.memory k (on_both (both (evaluate calls (depth_in x) a s) (evaluate calls (depth_in x) b)) next)
+    → (s : State) → Sound x.program x.begun s → Keeps x.program x.begun s.memory k (on_both (both_operands (evaluate calls (depth_in x) a s) (evaluate calls (depth_in x) b)) next)
 both_typed x calls a b k next typed_a typed_b go_on s sound =
     subst (Keeps x.program x.begun s.memory k) (both_with (evaluate calls (depth_in x) a s) (evaluate calls (depth_in x) b) next)
     (keeps_with x.program x.begun s.memory (kind_of x.program x.tree a) k (evaluate calls (depth_in x) a s) (λ v t. with (evaluate calls (depth_in x) b t) (next v)) (typed_a s sound)
@@ -157,7 +157,7 @@ truth_typed : (c : Bool) → holds (integer Int) (truth_of c) ≡ true
 truth_typed true = refl
 truth_typed false = refl
 
-compared_typed : (p : ProgramTree) (began : Memory) (o : declared-comparison.Comparison) (v w : Value) (s : State) → Sound p began s → Keeps p began s.memory (Of (Integer Int)) (given (comparison o v w) s)
+compared_typed : (p : ProgramTree) (began : Memory) (o : declared-comparison.Comparison) (v w : Value) (s : State) → Sound p began s → Keeps p began s.memory (Of (Integer Int)) (value_or_undefined (comparison o v w) s)
 compared_typed p began o (source.Number a) (source.Number b) s sound = record { sound = sound; later = later_refl s.memory; is = truth_typed (test_of o a b) }
 compared_typed p began o (source.Number a) source.Null s sound = tt
 compared_typed p began o (source.Number a) (source.Pointer n k) s sound = tt
@@ -167,7 +167,7 @@ compared_typed p began o (source.Pointer n k) w s sound = tt
 pub compare_of : (x : Setting) (calls : Calls) (o : declared-comparison.Comparison) (ty : IntegerType) (a b : RvalueTree) → kind_of x.program x.tree (Compare o ty a b) ≡ Of (Integer Int) → Typed x calls a → Typed x calls b → Typed x calls (Compare o ty a b)
 compare_of x calls o ty a b kind typed_a typed_b s sound =
     subst (λ k. Keeps x.program x.begun s.memory k (evaluate calls (depth_in x) (Compare o ty a b) s)) (sym kind)
-    (both_typed x calls a b (Of (Integer Int)) (λ v w t. given (comparison o v w) t) typed_a typed_b (λ v w s2 sound2 ka kb. compared_typed x.program x.begun o v w s2 sound2) s sound)
+    (both_typed x calls a b (Of (Integer Int)) (λ v w t. value_or_undefined (comparison o v w) t) typed_a typed_b (λ v w s2 sound2 ka kb. compared_typed x.program x.begun o v w s2 sound2) s sound)
 
 pub comma_of : (x : Setting) (calls : Calls) (a b : RvalueTree) → kind_of x.program x.tree (Comma a b) ≡ kind_of x.program x.tree b → Typed x calls a → Typed x calls b → Typed x calls (Comma a b)
 comma_of x calls a b kind typed_a typed_b s sound =
@@ -185,35 +185,35 @@ keeps_on_test p began before k (Holds s) one other h f g = keeps_before p began 
 keeps_on_test p began before k (Fails s) one other h f g = keeps_before p began before s.memory k (other s) h.later (g s h)
 keeps_on_test p began before k (NoTest e s) one other h f g = tt
 
-number_typed : (p : ProgramTree) (began : Memory) (s : State) (c : Bool) → Sound p began s → Keeps p began s.memory (Of (Integer Int)) (truth (truth_of c) s)
+number_typed : (p : ProgramTree) (began : Memory) (s : State) (c : Bool) → Sound p began s → Keeps p began s.memory (Of (Integer Int)) (truth_value (truth_of c) s)
 number_typed p began s c sound = record { sound = sound; later = later_refl s.memory; is = truth_typed c }
 
 pub and_of : (x : Setting) (calls : Calls) (a b : RvalueTree) → kind_of x.program x.tree (And a b) ≡ Of (Integer Int) → Typed x calls a → Typed x calls b → Typed x calls (And a b)
 and_of x calls a b kind typed_a typed_b s sound =
     subst (λ k. Keeps x.program x.begun s.memory k (evaluate calls (depth_in x) (And a b) s)) (sym kind)
-    (keeps_on_test x.program x.begun s.memory (Of (Integer Int)) (tested (evaluate calls (depth_in x) a s)) _ (truth (pos 0)) (keeps_tested x.program x.begun s.memory (kind_of x.program x.tree a) (evaluate calls (depth_in x) a s) (typed_a s sound))
-    (λ s1 h. keeps_on_test x.program x.begun s1.memory (Of (Integer Int)) (tested (evaluate calls (depth_in x) b s1)) (truth (pos 1)) (truth (pos 0)) (keeps_tested x.program x.begun s1.memory (kind_of x.program x.tree b) (evaluate calls (depth_in x) b s1) (typed_b s1 h.sound))
+    (keeps_on_test x.program x.begun s.memory (Of (Integer Int)) (condition_tested (evaluate calls (depth_in x) a s)) _ (truth_value (pos 0)) (keeps_tested x.program x.begun s.memory (kind_of x.program x.tree a) (evaluate calls (depth_in x) a s) (typed_a s sound))
+    (λ s1 h. keeps_on_test x.program x.begun s1.memory (Of (Integer Int)) (condition_tested (evaluate calls (depth_in x) b s1)) (truth_value (pos 1)) (truth_value (pos 0)) (keeps_tested x.program x.begun s1.memory (kind_of x.program x.tree b) (evaluate calls (depth_in x) b s1) (typed_b s1 h.sound))
     (λ s2 k. number_typed x.program x.begun s2 true k.sound) (λ s2 k. number_typed x.program x.begun s2 false k.sound)) (λ s1 h. number_typed x.program x.begun s1 false h.sound))
 
 pub or_of : (x : Setting) (calls : Calls) (a b : RvalueTree) → kind_of x.program x.tree (Or a b) ≡ Of (Integer Int) → Typed x calls a → Typed x calls b → Typed x calls (Or a b)
 or_of x calls a b kind typed_a typed_b s sound =
     subst (λ k. Keeps x.program x.begun s.memory k (evaluate calls (depth_in x) (Or a b) s)) (sym kind)
-    (keeps_on_test x.program x.begun s.memory (Of (Integer Int)) (tested (evaluate calls (depth_in x) a s)) (truth (pos 1)) _ (keeps_tested x.program x.begun s.memory (kind_of x.program x.tree a) (evaluate calls (depth_in x) a s) (typed_a s sound))
+    (keeps_on_test x.program x.begun s.memory (Of (Integer Int)) (condition_tested (evaluate calls (depth_in x) a s)) (truth_value (pos 1)) _ (keeps_tested x.program x.begun s.memory (kind_of x.program x.tree a) (evaluate calls (depth_in x) a s) (typed_a s sound))
     (λ s1 h. number_typed x.program x.begun s1 true h.sound)
-    (λ s1 h. keeps_on_test x.program x.begun s1.memory (Of (Integer Int)) (tested (evaluate calls (depth_in x) b s1)) (truth (pos 1)) (truth (pos 0)) (keeps_tested x.program x.begun s1.memory (kind_of x.program x.tree b) (evaluate calls (depth_in x) b s1) (typed_b s1 h.sound))
+    (λ s1 h. keeps_on_test x.program x.begun s1.memory (Of (Integer Int)) (condition_tested (evaluate calls (depth_in x) b s1)) (truth_value (pos 1)) (truth_value (pos 0)) (keeps_tested x.program x.begun s1.memory (kind_of x.program x.tree b) (evaluate calls (depth_in x) b s1) (typed_b s1 h.sound))
     (λ s2 k. number_typed x.program x.begun s2 true k.sound) (λ s2 k. number_typed x.program x.begun s2 false k.sound)))
 
 pub not_of : (x : Setting) (calls : Calls) (e : RvalueTree) → kind_of x.program x.tree (Not e) ≡ Of (Integer Int) → Typed x calls e → Typed x calls (Not e)
 not_of x calls e kind typed_e s sound =
     subst (λ k. Keeps x.program x.begun s.memory k (evaluate calls (depth_in x) (Not e) s)) (sym kind)
-    (keeps_on_test x.program x.begun s.memory (Of (Integer Int)) (tested (evaluate calls (depth_in x) e s)) (truth (pos 0)) (truth (pos 1)) (keeps_tested x.program x.begun s.memory (kind_of x.program x.tree e) (evaluate calls (depth_in x) e s) (typed_e s sound))
+    (keeps_on_test x.program x.begun s.memory (Of (Integer Int)) (condition_tested (evaluate calls (depth_in x) e s)) (truth_value (pos 0)) (truth_value (pos 1)) (keeps_tested x.program x.begun s.memory (kind_of x.program x.tree e) (evaluate calls (depth_in x) e s) (typed_e s sound))
     (λ s1 h. number_typed x.program x.begun s1 false h.sound) (λ s1 h. number_typed x.program x.begun s1 true h.sound))
 
 -- `?:`, whose arms are of its kind
 pub conditional_of : (x : Setting) (calls : Calls) (c a b : RvalueTree) → ((memory : Memory) (v : Value) → HasKind memory (kind_of x.program x.tree a) v → HasKind memory (kind_of x.program x.tree (Conditional c a b)) v)
     → ((memory : Memory) (v : Value) → HasKind memory (kind_of x.program x.tree b) v → HasKind memory (kind_of x.program x.tree (Conditional c a b)) v) → Typed x calls c → Typed x calls a → Typed x calls b → Typed x calls (Conditional c a b)
 conditional_of x calls c a b one other typed_c typed_a typed_b s sound =
-    keeps_on_test x.program x.begun s.memory (kind_of x.program x.tree (Conditional c a b)) (tested (evaluate calls (depth_in x) c s)) (evaluate calls (depth_in x) a) (evaluate calls (depth_in x) b)
+    keeps_on_test x.program x.begun s.memory (kind_of x.program x.tree (Conditional c a b)) (condition_tested (evaluate calls (depth_in x) c s)) (evaluate calls (depth_in x) a) (evaluate calls (depth_in x) b)
     (keeps_tested x.program x.begun s.memory (kind_of x.program x.tree c) (evaluate calls (depth_in x) c s) (typed_c s sound)) (λ s1 h. widened (kind_of x.program x.tree a) s1 one (evaluate calls (depth_in x) a s1) (typed_a s1 h.sound))
     (λ s1 h. widened (kind_of x.program x.tree b) s1 other (evaluate calls (depth_in x) b s1) (typed_b s1 h.sound))
   where

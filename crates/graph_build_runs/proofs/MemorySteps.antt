@@ -8,7 +8,7 @@ use Rattle.c_tree.specs.declared.object_type.ValueType.{ValueType}
 use Rattle.c_tree.specs.declared.object_type.ValueType.TheVariants.{Pointer as PointerType}
 use Rattle.c_tree.specs.declared.typed_expression.Given.TheVariants.{New, Old}
 use Rattle.c_tree.specs.TypedExpressions.{RvalueTree, LvalueTree}
-use Rattle.c_type_rules.specs.Types.{loaded}
+use Rattle.c_type_rules.specs.Types.{loaded_type}
 use Rattle.c_type_rules.specs.ValueTypes.{object_type}
 use Rattle.c_type_laws.specs.Kind.{Of}
 use Rattle.c_type_laws.specs.Expressions.{kind_of}
@@ -16,9 +16,9 @@ use Rattle.c_meaning_values.specs.declared.value.Value as source-value
 use Rattle.c_meaning_values.specs.declared.value.Value.TheVariants as source
 use Rattle.c_meaning_steps.specs.declared.event.Ending.TheVariants as ending
 use Rattle.c_meaning_values.specs.Memory.{Memory as SourceMemory, is_begun, is_usable, index_at, value_in as value_at}
-use Rattle.c_meaning_steps.specs.States.{State, Evaluated, Gives, Leaves, Ends, given, with, usable, on_both}
+use Rattle.c_meaning_steps.specs.States.{State, Evaluated, Gives, Leaves, Ends, value_or_undefined, with, usable, on_both}
 use Rattle.c_meaning.specs.Expressions.{Calls, evaluate, designate}
-use Rattle.c_meaning_steps.specs.Steps.{load, store, located, read_by, store_if, replace_if, one}
+use Rattle.c_meaning_steps.specs.Steps.{load, store, left_side_read, read_by, store_if, replace_if, one}
 use Rattle.graph_core.specs.declared.value.Value.{Value}
 use Rattle.graph_core.specs.declared.instruction.Element as declared-element
 use Rattle.graph_core.specs.Graphs as unit
@@ -32,7 +32,7 @@ use Rattle.graph_build_layout.specs.Laid.{Laid, behind_move}
 use Rattle.graph_build_layout.specs.Layout.{laid, place_laid}
 use Rattle.graph_build_names.specs.Writes.{writes, is_location_moved}
 use Rattle.graph_build_steps.specs.Rules as rule
-use Rattle.graph_build_steps.specs.Drafts.{Made, Goal, To, Unused, Either, before, target, follow, use_of, hold_location, held_location, stored, left_free}
+use Rattle.graph_build_steps.specs.Drafts.{Made, Goal, To, Unused, Either, instruction_before, target, follow, use_of, hold_location, held_location, stored, left_free}
 use Rattle.graph_build_steps.specs.declared.change.Change as declared-change
 use Rattle.graph_build_steps.specs.Steps.{changed, changed_element, takes_more, renewed_memory, loaded_first, left_memory, one_at}
 use Rattle.graph_build_runs.specs.Typed.{IsOf, IsPointerTo}
@@ -62,7 +62,7 @@ use Rattle.graph_build_runs.proofs.Renewing.{Changes}
 use Rattle.graph_build_runs.proofs.Anew.{fits_agree, restored, restored_temporary, restored_fits, put_back}
 
 -- What is designated is read, and what follows works with both.
-pub located_with : (r : Evaluated) (k : source-value.Value → source-value.Value → State → Evaluated) → with r (λ p s. with (load p s) (λ old u. k p old u)) ≡ on_both (located r) k
+pub located_with : (r : Evaluated) (k : source-value.Value → source-value.Value → State → Evaluated) → with r (λ p s. with (load p s) (λ old u. k p old u)) ≡ on_both (left_side_read r) k
 located_with (Gives p s) k = by (load p s)
   where
     by : (q : Evaluated) → with q (λ old u. k p old u) ≡ on_both (read_by p q) k
@@ -74,24 +74,24 @@ located_with (Ends e s) k = refl
 
 -- What is read where a pointer points: nothing is defined, or both read the same.
 pub load_cases : (x : Setting) (want : Option ℕ) (s : State) (l : Local) (w : World) (sc : Scalar) (p : source-value.Value) (given_word : Value) → Sound x.program x.begun s → Fits x want s l w → IsPointerTo s.memory (of-object.Scalar sc) p → SameValue x.program s.memory w.memory p given_word → (R : Evaluated → Type 0)
-    → R (Ends ending.Undefined s) → ((v : source-value.Value) (u : Value) → read w.memory (rule.element_of sc) given_word ≡ Some u → SameValue x.program s.memory w.memory v u → IsOf s.memory (loaded sc) v → R (Gives v s)) → R (load p s)
+    → R (Ends ending.Undefined s) → ((v : source-value.Value) (u : Value) → read w.memory (rule.element_of sc) given_word ≡ Some u → SameValue x.program s.memory w.memory v u → IsOf s.memory (loaded_type sc) v → R (Gives v s)) → R (load p s)
 load_cases x want s l w sc (source.Number z) given_word sound f is same R undefined next = absurd is
 load_cases x want s l w sc source.Null given_word sound f is same R undefined next = undefined
 load_cases x want s l w sc (source.Pointer n offset) given_word sound f c same R undefined next =
-    subst (λ q. R (with (given (option_and_then (λ o. value_at o offset) q) s) usable)) (sym c.is) (by_phase (is_begun c.object.phase) refl)
+    subst (λ q. R (with (value_or_undefined (option_and_then (λ o. value_at o offset) q) s) usable)) (sym c.is) (by_phase (is_begun c.object.phase) refl)
   where
     used : (v : source-value.Value) → R (Gives v s) → (b : Bool) → R (if b then Gives v s else Ends ending.Undefined s)
     used v h true = h
     used v h false = undefined
 
-    found : is_begun c.object.phase ≡ true → (r : Option source-value.Value) → slice_get c.object.values (index_at c.object offset) ≡ r → R (with (given r s) usable)
+    found : is_begun c.object.phase ≡ true → (r : Option source-value.Value) → slice_get c.object.values (index_at c.object offset) ≡ r → R (with (value_or_undefined r s) usable)
     found begun None e = undefined
     found begun (Some v) e =
         let got = read_same x want s l w sc n offset given_word v sound f c (begun_live c.object.phase begun) e same in
-        let typed : IsOf s.memory (loaded sc) v = subst (λ q. IsOf s.memory (loaded q) v) c.element_is (all_at s.memory (loaded c.object.element) c.object.values (index_at c.object offset) v (sound.typed n c.object c.is) e) in
+        let typed : IsOf s.memory (loaded_type sc) v = subst (λ q. IsOf s.memory (loaded_type q) v) c.element_is (all_at s.memory (loaded_type c.object.element) c.object.values (index_at c.object offset) v (sound.typed n c.object c.is) e) in
         used v (next v got.0 got.1 got.2 typed) (is_usable s.memory v)
 
-    by_phase : (b : Bool) → is_begun c.object.phase ≡ b → R (with (given (if b then slice_get c.object.values (index_at c.object offset) else None) s) usable)
+    by_phase : (b : Bool) → is_begun c.object.phase ≡ b → R (with (value_or_undefined (if b then slice_get c.object.values (index_at c.object offset) else None) s) usable)
     by_phase false e = undefined
     by_phase true e = found e (slice_get c.object.values (index_at c.object offset)) refl
 
@@ -168,7 +168,7 @@ of_later_pointer sc memory after later p is = of_later memory after later (Point
 -- What is in memory changes: it is loaded, a new value is made of it, and stored.
 module _ (x : Setting) (calls : Calls) (low : ScalarsFirst x) (sc : Scalar) (lv : LvalueTree) (of : object_type lv ≡ of-object.Scalar sc) (typed_lv : TypedPlace x calls lv) (lays_lv : PlaceLays x lv) (below_lv : PlaceBelow x lv) (fresh_lv : PlaceFresh x lv) (grows_lv : GrowsPlace x lv) (does_lv : DoesPlace x calls lv)
     (c : declared-change.Change) (target_type : ValueType) (HasBy : source-value.Value → Type 0) (next : SourceMemory → source-value.Value → source-value.Value → Option source-value.Value) (changes : Changes x c target_type HasBy next)
-    (element_is : changed_element c ≡ rule.element_of sc) (type_is : loaded sc ≡ target_type) where
+    (element_is : changed_element c ≡ rule.element_of sc) (type_is : loaded_type sc ≡ target_type) where
   abbrev next_of : ℕ → ℕ
   next_of t = (place_laid (names_in x) lv t).next
 
@@ -252,7 +252,7 @@ module _ (x : Setting) (calls : Calls) (low : ScalarsFirst x) (sc : Scalar) (lv 
   placed_then : (t : ℕ) (g : Goal) (a : Operand) (f f2 : ℕ → Bool) (m : Made) (s : State) (l : Local) (w : World) (k : source-value.Value → source-value.Value → State → Evaluated) → size_in x ≤ t → Stands x.graph x.top (placing x lv t m).inner → Sound x.program x.begun s → Fits x None s l w
       → ((y : ℕ) → y < t → f y ≡ false → (within_written x lv y ≡ false) × (f2 y ≡ false))
       → ((p : source-value.Value) (s1 : State) (l1 : Local) (w1 : World) → Sound x.program x.begun s1 → Fits x None s1 l1 w1 → IsPointerTo s1.memory (of-object.Scalar sc) p → SameValue x.program s1.memory w1.memory p (pointed_in x l1 w1 (place_in x lv t)) → Result x g a t f2 m.ops m.end l1 w1 (with (load p s1) (λ old u. k p old u)))
-      → Result x g a t f (placing x lv t m).ops (placing x lv t m).end l w (on_both (located (designate calls (depth_in x) lv s)) k)
+      → Result x g a t f (placing x lv t m).ops (placing x lv t m).end l w (on_both (left_side_read (designate calls (depth_in x) lv s)) k)
   placed_then t g a f f2 m s l w k size st sound fits spares go_on =
       let code = placing x lv t m in
       subst (Result x g a t f code.ops code.end l w) (located_with (designate calls (depth_in x) lv s) k)
@@ -269,7 +269,7 @@ module _ (x : Setting) (calls : Calls) (low : ScalarsFirst x) (sc : Scalar) (lv 
       → Sound x.program x.begun s → Fits x None s l w
       → Result x g (Name (own_of false t (one_at (next_of t + 1)) g)) t (within_written x lv) (placing x lv t (loaded_first c (place_laid (names_in x) lv t) false (renewed_memory (names_in x) c (place_laid (names_in x) lv t) false (one_at (next_of t + 1)) g))).ops
       (placing x lv t (loaded_first c (place_laid (names_in x) lv t) false (renewed_memory (names_in x) c (place_laid (names_in x) lv t) false (one_at (next_of t + 1)) g))).end l w
-      (on_both (located (designate calls (depth_in x) lv s)) (λ p old u. replace_if (next u.memory old one) New p old u))
+      (on_both (left_side_read (designate calls (depth_in x) lv s)) (λ p old u. replace_if (next u.memory old one) New p old u))
   memory_stepped_new t g s l w size aims one_is st sound fits =
       let by = one_at (next_of t + 1) in
       let m = renewed_memory (names_in x) c (place_laid (names_in x) lv t) false by g in
@@ -304,7 +304,7 @@ module _ (x : Setting) (calls : Calls) (low : ScalarsFirst x) (sc : Scalar) (lv 
 
     pub memory_updated : (t : ℕ) (g : Goal) (s : State) (l : Local) (w : World) → size_in x ≤ t → AimsPlace x g lv t → Stands x.graph x.top (whole_of t g).inner → Sound x.program x.begun s → Fits x None s l w
         → Result x g (Name (own_of (moved_by_e t) t (by_of t) g)) t (λ y. within_written x lv y || writes (names_in x) y e) (whole_of t g).ops (whole_of t g).end l w
-        (on_both (located (designate calls (depth_in x) lv s)) (λ p old u. with (evaluate calls (depth_in x) e u) (λ b z. store_if (next z.memory old b) p z)))
+        (on_both (left_side_read (designate calls (depth_in x) lv s)) (λ p old u. with (evaluate calls (depth_in x) e u) (λ b z. store_if (next z.memory old b) p z)))
     memory_updated t g s l w size aims st sound fits =
         let a = Name (own_of (moved_by_e t) t (by_of t) g) in
         let m = hold_location (moved_by_e t) (next_of t + 1) (place_in x lv t) (right_of t g) in
@@ -385,7 +385,7 @@ module _ (x : Setting) (calls : Calls) (low : ScalarsFirst x) (sc : Scalar) (lv 
     new_of = behind_move (takes_more c (Constant 1)) free_of
 
     abbrev stores_of : Made
-    stores_of = before (Store el (place_in x lv t) (Name new_of)) (follow g old_of)
+    stores_of = instruction_before (Store el (place_in x lv t) (Name new_of)) (follow g old_of)
 
     abbrev changes_of : Made
     changes_of = changed c new_of free_of free_of (Name old_of) (Constant 1) stores_of
@@ -439,7 +439,7 @@ module _ (x : Setting) (calls : Calls) (low : ScalarsFirst x) (sc : Scalar) (lv 
 
     pub memory_stepped_old : (s : State) (l : Local) (w : World) → size_in x ≤ t → AimsPlace x g lv t → HasBy one → Stands x.graph x.top (placing x lv t (left_memory c (place_laid (names_in x) lv t) g)).inner → Sound x.program x.begun s → Fits x None s l w
         → Result x g (Name (next_of t)) t (within_written x lv) (placing x lv t (left_memory c (place_laid (names_in x) lv t) g)).ops (placing x lv t (left_memory c (place_laid (names_in x) lv t) g)).end l w
-        (on_both (located (designate calls (depth_in x) lv s)) (λ p old u. replace_if (next u.memory old one) Old p old u))
+        (on_both (left_side_read (designate calls (depth_in x) lv s)) (λ p old u. replace_if (next u.memory old one) Old p old u))
     memory_stepped_old s l w size aims one_is st sound fits =
         let a = Name (next_of t) in
         let m = left_memory c (place_laid (names_in x) lv t) g in

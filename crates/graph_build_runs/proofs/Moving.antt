@@ -13,20 +13,20 @@ use Rattle.c_tree.specs.declared.object_type.ObjectType.TheVariants as of-object
 use Rattle.c_tree.specs.declared.typed_expression.Direction.{Direction}
 use Rattle.c_tree.specs.declared.typed_expression.Direction.TheVariants.{Up, Down}
 use Rattle.c_tree.specs.Programs.{ProgramTree}
-use Rattle.c_type_rules.specs.Integers.{object_size, size as integer_bytes}
+use Rattle.c_type_rules.specs.Integers.{object_size, integer_size as integer_bytes}
 use Rattle.c_meaning_values.specs.declared.value.Value as source-value
 use Rattle.c_meaning_values.specs.declared.value.Value.TheVariants as source
 use Rattle.c_meaning_values.specs.declared.value.Phase.TheVariants.{Ended}
-use Rattle.c_meaning_values.specs.Types.{scalar_size, size_by_stars, size, element_of}
+use Rattle.c_meaning_values.specs.Types.{scalar_size, size_by_stars, size, element_scalar}
 use Rattle.c_meaning_values.specs.Memory as source-bytes
 use Rattle.c_meaning_values.specs.Memory.{Object as SourceObject, Memory as SourceMemory, is_over, in_bytes, in_object, moved_in}
-use Rattle.c_meaning_values.specs.Operations.{distance, moved_by}
+use Rattle.c_meaning_values.specs.Operations.{bytes_moved, moved_by_elements}
 use Rattle.c_meaning_steps.specs.States.{State}
 use Rattle.graph_core.specs.declared.value.Value.{Value}
 use Rattle.graph_core.specs.declared.value.Value.TheVariants.{Number, Pointer, Odd}
 use Rattle.graph_core.specs.Memory.{Object, bytes_of}
 use Rattle.graph_core.specs.Values.{operate, pointer_at, size_of}
-use Rattle.graph_build_names.specs.Conversions.{word_of}
+use Rattle.graph_build_names.specs.Conversions.{unsigned_bits}
 use Rattle.graph_build_steps.specs.Rules.{move_by}
 use Rattle.graph_build_runs.specs.Typed.{IsPointerTo}
 use Rattle.graph_build_runs.specs.Correspondence.{SameObject, points, SameValue}
@@ -116,17 +116,17 @@ moved_to memory n y v h = by_object (slice_get memory n) refl h
 
 -- The unit moves a pointer where the source does.
 pub pointer_moves : (x : Setting) (want : Option ℕ) (s : State) (l : Local) (w : World) (d : Direction) (of : ObjectType) (p : source-value.Value) (z : ℤ) (v : source-value.Value) (given : Value) → Sound x.program x.begun s → Fits x want s l w → AreSmall x.program
-    → SameValue x.program s.memory w.memory p given → moved_by s.memory d of p (source.Number z) ≡ Some v
-    → SameValue x.program s.memory w.memory v (operate (move_by d) given (Number (word_of (z *ℤ pos (object_size of)))))
+    → SameValue x.program s.memory w.memory p given → moved_by_elements s.memory d of p (source.Number z) ≡ Some v
+    → SameValue x.program s.memory w.memory v (operate (move_by d) given (Number (unsigned_bits (z *ℤ pos (object_size of)))))
 pointer_moves x want s l w d of (source.Number k) z v given sound f small same h = cc
 pointer_moves x want s l w d of source.Null z v given sound f small same h = cc
 pointer_moves x want s l w d of (source.Pointer n offset) z v given sound f small same h =
-    subst (λ u. SameValue x.program s.memory w.memory u (operate (move_by d) given (Number (word_of (z *ℤ pos (object_size of)))))) (sym to.gives)
+    subst (λ u. SameValue x.program s.memory w.memory u (operate (move_by d) given (Number (unsigned_bits (z *ℤ pos (object_size of)))))) (sym to.gives)
     (points to.object to.is to.alive q.inside q.number q.object q.is q.same (subst (λ k. to.offset ≤ k) (sym bytes) to.within)
-    (ap (λ g. operate (move_by d) g (Number (word_of (z *ℤ pos (object_size of))))) q.given_is ∙ by_direction d h_at ∙ in_range))
+    (ap (λ g. operate (move_by d) g (Number (unsigned_bits (z *ℤ pos (object_size of))))) q.given_is ∙ by_direction d h_at ∙ in_range))
   where
-    to : MovedTo s.memory n (pos offset +ℤ distance d of z) v
-    to = moved_to s.memory n (pos offset +ℤ distance d of z) v h
+    to : MovedTo s.memory n (pos offset +ℤ bytes_moved d of z) v
+    to = moved_to s.memory n (pos offset +ℤ bytes_moved d of z) v h
 
     q : Leading x s w to.object offset given
     q = leads_to x want s l w n offset to.object given f to.is to.alive same
@@ -137,37 +137,37 @@ pointer_moves x want s l w d of (source.Pointer n offset) z v given sound f smal
     below : source-bytes.bytes_of to.object < 2147483648
     below = small to.object.owner to.object (sound.declared n to.object to.is)
 
-    h_at : pos offset +ℤ distance d of z ≡ pos to.offset
+    h_at : pos offset +ℤ bytes_moved d of z ≡ pos to.offset
     h_at = to.at
 
     in_range : pointer_at q.number (bytes_of q.object) to.offset ≡ Pointer q.number (bytes_of q.object) to.offset
     in_range = let le : to.offset ≤ bytes_of q.object = subst (λ k. to.offset ≤ k) (sym bytes) to.within in let yes : nat_le to.offset (bytes_of q.object) ≡ true = grind (arith, nat_tests, le) in ap (λ b. if b then Pointer q.number (bytes_of q.object) to.offset else Odd) yes
 
-    to_word : word_of (pos to.offset) ≡ to.offset
+    to_word : unsigned_bits (pos to.offset) ≡ to.offset
     to_word = let lt = below in let le = to.within in omega (arith, lt, le)
 
-    by_direction : (e : Direction) → pos offset +ℤ distance e of z ≡ pos to.offset
-        → operate (move_by e) (Pointer q.number (bytes_of q.object) offset) (Number (word_of (z *ℤ pos (object_size of)))) ≡ pointer_at q.number (bytes_of q.object) to.offset
+    by_direction : (e : Direction) → pos offset +ℤ bytes_moved e of z ≡ pos to.offset
+        → operate (move_by e) (Pointer q.number (bytes_of q.object) offset) (Number (unsigned_bits (z *ℤ pos (object_size of)))) ≡ pointer_at q.number (bytes_of q.object) to.offset
     by_direction Up at =
-        let product : z *ℤ pos (object_size of) ≡ distance Up of z = ap (λ k. z *ℤ pos k) (size_is of) in
+        let product : z *ℤ pos (object_size of) ≡ bytes_moved Up of z = ap (λ k. z *ℤ pos k) (size_is of) in
         let sum = word_sum (pos offset) (z *ℤ pos (object_size of)) (pos to.offset) (ap (λ k. pos offset +ℤ k) product ∙ at) in
         let whole = to_word in
         ap (pointer_at q.number (bytes_of q.object)) (omega (arith, sum, whole))
     by_direction Down at =
-        let product : neg_ℤ (z *ℤ pos (object_size of)) ≡ distance Down of z = ap (λ k. neg_ℤ (z *ℤ pos k)) (size_is of) ∙ sym (times_negative z (size of)) in
+        let product : neg_ℤ (z *ℤ pos (object_size of)) ≡ bytes_moved Down of z = ap (λ k. neg_ℤ (z *ℤ pos k)) (size_is of) ∙ sym (times_negative z (size of)) in
         let difference = word_difference (pos offset) (z *ℤ pos (object_size of)) (pos to.offset) (ap (λ k. pos offset +ℤ k) product ∙ at) in
         let whole = to_word in
         let less = word_below (z *ℤ pos (object_size of)) in
         ap (pointer_at q.number (bytes_of q.object)) (omega (arith, difference, whole, less))
 
 -- a moved pointer is no number
-pub pointer_word : (memory : SourceMemory) (d : Direction) (of : ObjectType) (p : source-value.Value) (z : ℤ) (v : source-value.Value) → moved_by memory d of p (source.Number z) ≡ Some v → HasWord v
+pub pointer_word : (memory : SourceMemory) (d : Direction) (of : ObjectType) (p : source-value.Value) (z : ℤ) (v : source-value.Value) → moved_by_elements memory d of p (source.Number z) ≡ Some v → HasWord v
 pointer_word memory d of (source.Number k) z v h = cc
 pointer_word memory d of source.Null z v h = cc
-pointer_word memory d of (source.Pointer n offset) z v h = let to = moved_to memory n (pos offset +ℤ distance d of z) v h in subst HasWord (sym to.gives) tt
+pointer_word memory d of (source.Pointer n offset) z v h = let to = moved_to memory n (pos offset +ℤ bytes_moved d of z) v h in subst HasWord (sym to.gives) tt
 
 -- a size is a multiple of its element's
-size_multiple : (of : ObjectType) → (k : ℕ) × (size of ≡ k * scalar_size (element_of of))
+size_multiple : (of : ObjectType) → (k : ℕ) × (size of ≡ k * scalar_size (element_scalar of))
 size_multiple (of-object.Scalar s) = (1, omega arith)
 size_multiple (of-object.Array e n) = (n, refl)
 
@@ -204,25 +204,25 @@ back a zero t e = omega (arith, ints, e)
 back a (suc k) t e = omega (arith, ints, e)
 
 -- so many elements lie between an offset and where it is moved
-ways : (d : Direction) (of : ObjectType) (a t : ℕ) (z : ℤ) → pos a +ℤ distance d of z ≡ pos t → (k : ℕ) × ((t ≡ a + k * size of) ⊎ (a ≡ t + k * size of))
+ways : (d : Direction) (of : ObjectType) (a t : ℕ) (z : ℤ) → pos a +ℤ bytes_moved d of z ≡ pos t → (k : ℕ) × ((t ≡ a + k * size of) ⊎ (a ≡ t + k * size of))
 ways Up of a t (pos m) e = (m, inl (forward a (m * size of) t e))
 ways Up of a t (negsuc m) e = (suc m, inr (back a (suc m * size of) t e))
 ways Down of a t (pos m) e = (m, inr (back a (m * size of) t (ap (λ k. pos a +ℤ k) (sym (times_negative (pos m) (size of))) ∙ e)))
 ways Down of a t (negsuc m) e = (suc m, inl (forward a (suc m * size of) t (ap (λ k. pos a +ℤ k) (sym (negative_twice (pos (suc m * size of))) ∙ sym (times_negative (negsuc m) (size of))) ∙ e)))
 
 -- A moved pointer points to an element, or behind the last one, and to a whole array where it is an array's.
-pub moved_typed : (memory : SourceMemory) (d : Direction) (of : ObjectType) (p : source-value.Value) (z : ℤ) (v : source-value.Value) → IsPointerTo memory of p → moved_by memory d of p (source.Number z) ≡ Some v → IsPointerTo memory of v
+pub moved_typed : (memory : SourceMemory) (d : Direction) (of : ObjectType) (p : source-value.Value) (z : ℤ) (v : source-value.Value) → IsPointerTo memory of p → moved_by_elements memory d of p (source.Number z) ≡ Some v → IsPointerTo memory of v
 moved_typed memory d of (source.Number k) z v is h = absurd is
 moved_typed memory d of source.Null z v is h = cc
 moved_typed memory d of (source.Pointer n offset) z v c h =
-    let to = moved_to memory n (pos offset +ℤ distance d of z) v h in
+    let to = moved_to memory n (pos offset +ℤ bytes_moved d of z) v h in
     let one : to.object ≡ c.object = some_same (sym to.is ∙ c.is) in
-    let e = scalar_size (element_of of) in
+    let e = scalar_size (element_scalar of) in
     let k = size_multiple of in
     let by = ways d of offset to.offset z to.at in
     let whole : by.0 * size of ≡ by.0 * k.0 * e = ap (λ j. by.0 * j) k.1 ∙ sym (mul_assoc by.0 k.0 e) in
     let within : to.offset ≤ length c.object.values * e = subst (λ j. to.offset ≤ j) (ap source-bytes.bytes_of one ∙ ap (λ q. length c.object.values * scalar_size q) c.element_is) to.within in
-    let m = multiples (element_of of).base (element_of of).stars to.offset c.index (by.0 * k.0) (length c.object.values) (either_way to.offset offset (by.0 * size of) c.index (by.0 * k.0) e by.1 whole c.at) within in
+    let m = multiples (element_scalar of).base (element_scalar of).stars to.offset c.index (by.0 * k.0) (length c.object.values) (either_way to.offset offset (by.0 * size of) c.index (by.0 * k.0) e by.1 whole c.at) within in
     subst (IsPointerTo memory of) (sym to.gives) (record {
       object = c.object;
       is = c.is;

@@ -14,7 +14,7 @@ use Rattle.c_tree.specs.declared.typed_expression.Given.TheVariants.{New, Old}
 use Rattle.c_tree.specs.TypedExpressions.{RvalueTree, LvalueTree, Constant, Null, Load, Decay, AddressOf, Convert, Discard, Signed, Not, Arithmetic, Compare, ComparePointers, Move, MoveFrom, Difference, And, Or, Conditional, Comma, Assign, Update, UpdatePointer, Step, StepPointer, Call, Named, Target, Element, ElementFrom}
 use Rattle.c_tree.specs.Programs.{AutomaticTree}
 use Rattle.c_type_rules.specs.Integers.{object_size, promoted}
-use Rattle.c_type_rules.specs.Types.{loaded, same_integer}
+use Rattle.c_type_rules.specs.Types.{loaded_type, same_integer}
 use Rattle.c_type_rules.specs.ValueTypes.{object_type, decayed, type_of, given_by, is_void}
 use Rattle.c_type_laws.specs.Kind.{Kind, Wrong}
 use Rattle.c_type_laws.specs.Kinds.{of_if, is_promoted, is_of, is_typed, is_scalar, is_integer, is_counted, is_operand, holds_scalar, holds_integer, holds_pointer, is_array, automatic_is, is_variable}
@@ -36,7 +36,7 @@ use Rattle.graph_build_runs.proofs.Shapes.{two_true, three_true, array_of, point
 use Rattle.graph_build_runs.proofs.Fresh.{two_above, begun_above, behind_above}
 
 -- a pointer to an array is in no variable
-pub no_array : (s el : Scalar) (count : ℕ) → loaded s ≡ Pointer (of-object.Array el count) → ⊥
+pub no_array : (s el : Scalar) (count : ℕ) → loaded_type s ≡ Pointer (of-object.Array el count) → ⊥
 no_array s el count h = by s.stars h
   where
     by : (stars : ℕ) → (if stars == 0 then Integer s.base else Pointer (of-object.Scalar (record { base = s.base; stars = stars - 1 }))) ≡ Pointer (of-object.Array el count) → ⊥
@@ -47,7 +47,7 @@ no_array s el count h = by s.stars h
         scalar_array h = cc
 
 -- no variable is of the type of what it points to
-pub no_itself : (s : Scalar) → loaded s ≡ Pointer (of-object.Scalar s) → ⊥
+pub no_itself : (s : Scalar) → loaded_type s ≡ Pointer (of-object.Scalar s) → ⊥
 no_itself s h = by s.stars refl h
   where
     by : (stars : ℕ) → s.stars ≡ stars → (if stars == 0 then Integer s.base else Pointer (of-object.Scalar (record { base = s.base; stars = stars - 1 }))) ≡ Pointer (of-object.Scalar s) → ⊥
@@ -86,7 +86,7 @@ pub record PointsBy (x : Setting) (k : ℕ) (of : ObjectType) : Type 0 where
   pub named : scalar_of (names_in x) variable ≡ Some k
   pub is : slice_get x.program.automatics variable ≡ Some declared
   pub one : declared.of ≡ of-object.Scalar own
-  pub points : loaded own ≡ Pointer of
+  pub points : loaded_type own ≡ Pointer of
 
 module _ (x : Setting) (low : ScalarsFirst x) where
   abbrev n : Names
@@ -111,7 +111,7 @@ module _ (x : Setting) (low : ScalarsFirst x) where
   same_name : (j k : ℕ) → Name j ≡ Name k → j ≡ k
   same_name j k e = cc
 
-  scalar_points : (l : LvalueTree) (s : Scalar) (k : ℕ) (of : ObjectType) → scalar_named n l ≡ Some k → object_type l ≡ of-object.Scalar s → P l ≡ true → loaded s ≡ Pointer of → PointsBy x k of
+  scalar_points : (l : LvalueTree) (s : Scalar) (k : ℕ) (of : ObjectType) → scalar_named n l ≡ Some k → object_type l ≡ of-object.Scalar s → P l ≡ true → loaded_type s ≡ Pointer of → PointsBy x k of
   scalar_points (Named (object.Automatic v) o) s k of e one h points = by (slice_get x.program.automatics v) refl (two_true (is_variable x.tree v) (automatic_is (slice_get x.program.automatics v) o) h).1
     where
       by : (r : Option AutomaticTree) → slice_get x.program.automatics v ≡ r → automatic_is r o ≡ true → PointsBy x k of
@@ -172,7 +172,7 @@ module _ (x : Setting) (low : ScalarsFirst x) where
     named (Constant z ty) of t k le less is h = cc
     named Null of t k le less is h = cc
     named (Load s l) of t k le less is h =
-        let b = pointer_if (holds_scalar (object_type l) s && P l) (loaded s) of is in
+        let b = pointer_if (holds_scalar (object_type l) s && P l) (loaded_type s) of is in
         let c = two_true (holds_scalar (object_type l) s) (P l) b.0 in
         let place = place_laid n l t in
         let at = (place_lays n size low l t le).next in
@@ -209,8 +209,8 @@ module _ (x : Setting) (low : ScalarsFirst x) where
         let at : t ≤ pick n t (laid n a Nothing t).top = pick_between n t (laid n a Nothing t).top t (omega arith) (lays n size low a Nothing t le).top in
         named b of (pick n t (laid n a Nothing t).top) k (omega (arith, le, at)) less (of_either (is_typed (K a)) (K b) of is) h
     named (Assign s l e) of t k le less is h =
-        let b = pointer_if (holds_scalar (object_type l) s && P l && is_of (K e) (loaded s)) (loaded s) of is in
-        let c = three_true (holds_scalar (object_type l) s) (P l) (is_of (K e) (loaded s)) b.0 in
+        let b = pointer_if (holds_scalar (object_type l) s && P l && is_of (K e) (loaded_type s)) (loaded_type s) of is in
+        let c = three_true (holds_scalar (object_type l) s) (P l) (is_of (K e) (loaded_type s)) b.0 in
         let place = place_laid n l t in
         let from = begun_at (scalar_named n l) t (λ y. writes n y e) place in
         let at = begun_above n size low (scalar_named n l) t (λ y. writes n y e) place (place_lays n size low l t le).next in

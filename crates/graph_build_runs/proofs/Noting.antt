@@ -10,7 +10,7 @@ use Rattle.c_meaning_values.specs.declared.value.Value as source-value
 use Rattle.c_meaning_values.specs.declared.value.Value.TheVariants as source
 use Rattle.c_meaning_values.specs.declared.value.Phase.{Phase}
 use Rattle.c_meaning_values.specs.declared.value.Phase.TheVariants.{Live, Ended}
-use Rattle.c_meaning_values.specs.Types.{count_of}
+use Rattle.c_meaning_values.specs.Types.{value_count}
 use Rattle.c_meaning_values.specs.Memory.{Object as SourceObject, Memory as SourceMemory}
 use Rattle.c_meaning_steps.specs.States.{State}
 use Rattle.graph_core.specs.declared.value.Value.{Value}
@@ -18,7 +18,7 @@ use Rattle.graph_core.specs.declared.value.Value.TheVariants.{Number, Pointer, O
 use Rattle.graph_core.specs.declared.value.Shadow.{Shadow}
 use Rattle.graph_core.specs.declared.value.Shadow.TheVariants.{Known}
 use Rattle.graph_core.specs.Memory.{Memory, bytes_of}
-use Rattle.graph_core.specs.Runs.{Activation, put}
+use Rattle.graph_core.specs.Runs.{Activation, with_value_at}
 use Rattle.graph_core.specs.Values.{is_odd}
 use Rattle.graph_build_names.specs.Names.{Names, names_of, scalar_of}
 use Rattle.graph_build_runs.specs.Typed.{OwnersDiffer}
@@ -47,7 +47,7 @@ other_number j k ne = grind (arith, nat_tests, ne)
 pub record ScalarsApart (x : Setting) : Type 0 where
   pub one : (v w k : ℕ) → scalar_of (names_in x) v ≡ Some k → scalar_of (names_in x) w ≡ Some k → v ≡ w
   pub outside : (v k : ℕ) (a : AutomaticTree) → scalar_of (names_in x) v ≡ Some k → slice_get x.program.automatics v ≡ Some a → a.in_memory ≡ false
-  pub single : (v k : ℕ) (a : AutomaticTree) → scalar_of (names_in x) v ≡ Some k → slice_get x.program.automatics v ≡ Some a → count_of a.of ≡ 1
+  pub single : (v k : ℕ) (a : AutomaticTree) → scalar_of (names_in x) v ≡ Some k → slice_get x.program.automatics v ≡ Some a → value_count a.of ≡ 1
 
 -- A scalar is as it was, in memories that went on, where its object is.
 pub scalar_later : (p : ProgramTree) (memory after : SourceMemory) (others others_after : Memory) → Later memory after → OthersLater others others_after
@@ -126,7 +126,7 @@ module _ (x : Setting) (y k m : ℕ) (o : SourceObject) (v : source-value.Value)
 
   scalar_noted : Fits x (Some k) s l w → SameValue x.program s.memory w.memory v (l.names k) → (u j n : ℕ) (q : SourceObject) → scalar_of (names_in x) u ≡ Some j
       → slice_get (slice_set s.memory m (record o { values = slice_set o.values 0 v; phase = phase })) n ≡ Some q → q.owner ≡ Variable u (depth_in x) → q.phase ≡ Live
-      → ScalarIs x.program (slice_set s.memory m (record o { values = slice_set o.values 0 v; phase = phase })) w.memory None q j l.names (put l.shadows k (Known (l.names k)))
+      → ScalarIs x.program (slice_set s.memory m (record o { values = slice_set o.values 0 v; phase = phase })) w.memory None q j l.names (with_value_at l.shadows k (Known (l.names k)))
   scalar_noted f same u j n q is found mine live = elim (get_set s.memory m n (record o { values = slice_set o.values 0 v; phase = phase }) q found) [
     | inl both ↦
         let kept : SameValue x.program (slice_set s.memory m (record o { values = slice_set o.values 0 v; phase = phase })) w.memory v (l.names k) =
@@ -140,7 +140,7 @@ module _ (x : Setting) (y k m : ℕ) (o : SourceObject) (v : source-value.Value)
           holds = ap (λ z. z.values) both.1 ∙ one_value o.values v one;
           named = λ h. named_now;
           word = l.names k;
-          known = ap (put l.shadows k (Known (l.names k))) (sym ks) ∙ put_here l.shadows k (Known (l.names k));
+          known = ap (with_value_at l.shadows k (Known (l.names k))) (sym ks) ∙ put_here l.shadows k (Known (l.names k));
           same = kept;
         }
     | inr both ↦
@@ -163,7 +163,7 @@ module _ (x : Setting) (y k m : ℕ) (o : SourceObject) (v : source-value.Value)
       begun_not_ended h = cc
 
   pub fits_written : Fits x (Some k) s l w → SameValue x.program s.memory w.memory v (l.names k)
-      → Fits x None (record s { memory = slice_set s.memory m (record o { values = slice_set o.values 0 v; phase = phase }) }) (record l { shadows = put l.shadows k (Known (l.names k)) }) w
+      → Fits x None (record s { memory = slice_set s.memory m (record o { values = slice_set o.values 0 v; phase = phase }) }) (record l { shadows = with_value_at l.shadows k (Known (l.names k)) }) w
   fits_written f same = record {
     own = record { scalars = scalar_noted f same; objects = f.own.objects };
     outer = outer_later x.program s.memory (slice_set s.memory m (record o { values = slice_set o.values 0 v; phase = phase })) w.memory w.memory later (others_refl w.memory) x.waiting
@@ -188,5 +188,5 @@ module _ (x : Setting) (y k m : ℕ) (o : SourceObject) (v : source-value.Value)
 -- The object is written, and lives.
 pub fits_noted : (x : Setting) (y k m : ℕ) (o : SourceObject) (v : source-value.Value) (s : State) (l : Local) (w : World) → ScalarsApart x → scalar_of (names_in x) y ≡ Some k → slice_get s.memory m ≡ Some o → o.owner ≡ Variable y (depth_in x) → o.phase ≢ Ended → length o.values ≡ 1 → OwnersDiffer s.memory
     → Fits x (Some k) s l w → SameValue x.program s.memory w.memory v (l.names k)
-    → Fits x None (record s { memory = slice_set s.memory m (record o { values = slice_set o.values 0 v; phase = Live }) }) (record l { shadows = put l.shadows k (Known (l.names k)) }) w
+    → Fits x None (record s { memory = slice_set s.memory m (record o { values = slice_set o.values 0 v; phase = Live }) }) (record l { shadows = with_value_at l.shadows k (Known (l.names k)) }) w
 fits_noted x y k m o v s l w apart named at owner alive one differ f same = fits_written x y k m o v Live (live_open o.phase alive) s l w apart named at owner alive one differ f same

@@ -4,7 +4,7 @@ use Rattle.std.specs.Prelude.{if◌then◌else◌, ◌||◌}
 use Rattle.c_tree.specs.TypedExpressions.{RvalueTree, LvalueTree, Constant, Null, Load, Decay, AddressOf, Convert, Discard, Signed, Not, Arithmetic, Compare, ComparePointers, Move, MoveFrom, Difference, And, Or, Conditional, Comma, Assign, Update, UpdatePointer, Step, StepPointer, Call, Named, Target, Element, ElementFrom}
 use Rattle.c_type_laws.specs.Expressions.{kind_of}
 use Rattle.c_meaning_values.specs.declared.value.Value as source-value
-use Rattle.c_meaning_steps.specs.States.{State, Evaluated, Gives, with, both, on_both}
+use Rattle.c_meaning_steps.specs.States.{State, Evaluated, Gives, with, both_operands, on_both}
 use Rattle.c_meaning.specs.Expressions.{Calls, evaluate}
 use Rattle.graph_core.specs.declared.value.Value.{Value}
 use Rattle.graph_core.specs.Graphs.{Operand, Name, Constant as Word, StaticAddress, At, Instruction, End, StaticObject}
@@ -161,7 +161,7 @@ module _ (x : Setting) (calls : Calls) (low : ScalarsFirst x) (a b : RvalueTree)
   pub pair_does : (t : ℕ) (g : Goal) (o : Operand) (z : Made) (next : source-value.Value → source-value.Value → State → Evaluated) (s : State) (l : Local) (w : World) → size_in x ≤ t
       → Stands x.graph x.top (in_turn (code_in x a) (code_in x b) t (pair_in x a b t) z).inner → Sound x.program x.begun s → Fits x None s l w → Finishes t g o z next
       → Result x g o t (λ y. writes (names_in x) y a || writes (names_in x) y b) (in_turn (code_in x a) (code_in x b) t (pair_in x a b t) z).ops (in_turn (code_in x a) (code_in x b) t (pair_in x a b t) z).end l w
-      (on_both (both (evaluate calls (depth_in x) a s) (evaluate calls (depth_in x) b)) next)
+      (on_both (both_operands (evaluate calls (depth_in x) a s) (evaluate calls (depth_in x) b)) next)
   pair_does t g o z next s l w size st sound fits finish =
       subst (Result x g o t (λ y. writes (names_in x) y a || writes (names_in x) y b) (in_turn (code_in x a) (code_in x b) t (pair_in x a b t) z).ops (in_turn (code_in x a) (code_in x b) t (pair_in x a b t) z).end l w)
       (both_with (evaluate calls (depth_in x) a s) (evaluate calls (depth_in x) b) next)

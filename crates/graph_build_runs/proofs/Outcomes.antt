@@ -7,7 +7,7 @@ use Rattle.c_meaning_steps.specs.declared.event.Ending.{Ending}
 use Rattle.c_meaning_steps.specs.declared.event.Ending.TheVariants as ending
 use Rattle.c_meaning_steps.specs.States.{State, Outcome, Next, Broken, Continued, Returned, Ended}
 use Rattle.c_flow.specs.declared.edge.Ways.{Ways}
-use Rattle.c_meaning.specs.Lifetimes.{closed}
+use Rattle.c_meaning.specs.Lifetimes.{lifetimes_ended}
 use Rattle.c_meaning.specs.Statements.{then_do, after_body, after_switch}
 use Rattle.graph_core.specs.Graphs.{Operand, Return, Block}
 use Rattle.graph_core.specs.Runs.{Configuration, Event, value}
@@ -193,7 +193,7 @@ module _ (k : Activity) (c : Configuration) (es : List Event) where
       (h.0, h.1, value_faded k.setting.program s.memory n u.memory v (value k.setting.unit.statics l.names h.0) h.2, of_faded k.setting.program s.memory n u.memory k.setting.tree.result v h.3)
 
   -- The objects of a block end with it.
-  pub closed_runs : (low high : ℕ) (brought : List ℕ) (before : SourceMemory) (w : Ways) (o : Outcome) → Runs k c es low high brought before w o → Runs k c es low low [] before w (closed (length before) o)
+  pub closed_runs : (low high : ℕ) (brought : List ℕ) (before : SourceMemory) (w : Ways) (o : Outcome) → Runs k c es low high brought before w o → Runs k c es low low [] before w (lifetimes_ended (length before) o)
   closed_runs low high brought before w (Next s) r = arrives_closed low high brought before w.next s r
   closed_runs low high brought before w (Broken s) r = arrives_closed low high [] before w.by_break s r
   closed_runs low high brought before w (Continued s) r = arrives_closed low high [] before w.by_continue s r

@@ -8,8 +8,8 @@ use Rattle.c_places.specs.Places.{numbers_from}
 use Rattle.graph_core.specs.declared.value.Value.{Value}
 use Rattle.graph_core.specs.declared.value.Value.TheVariants.{Pointer, Odd}
 use Rattle.graph_core.specs.Graphs.{Binding, ToScalar, ToObject}
-use Rattle.graph_core.specs.Memory.{Object, Memory, bytes_of, index_in, address_of, write, write_in, written_in, with_value}
-use Rattle.graph_core.specs.Runs.{put, bind_names, bind_objects, set_first}
+use Rattle.graph_core.specs.Memory.{Object, Memory, bytes_of, index_in, pointer_to_object, write, write_in, written_in, with_value}
+use Rattle.graph_core.specs.Runs.{with_value_at, bind_names, bind_objects, set_first}
 use Rattle.graph_core.specs.Values.{as_element}
 use Rattle.graph_build_names.specs.Names.{Names, scalar_of, object_of}
 use Rattle.graph_build_steps.specs.Rules.{element_of}
@@ -39,7 +39,7 @@ names_past n x first (suc count) [] names none = refl
 names_past n x first (suc count) (w ∷ vs) names none = by (λ more. names_past n x (first + 1) count vs more (λ v le. none v (omega (arith, le)))) (scalar_of n first) refl
   where
     by : ((more : ℕ → Value) → bind_names (bindings n (first + 1) count) vs more x ≡ more x) → (o : Option ℕ) → scalar_of n first ≡ o → bind_names (bound_as n o first ∷ bindings n (first + 1) count) (w ∷ vs) names x ≡ names x
-    by rest (Some k) e = rest (put names k w) ∙ put_elsewhere names k x w (other_number x k (λ same. none first (omega arith) (e ∙ ap Some (sym same))))
+    by rest (Some k) e = rest (with_value_at names k w) ∙ put_elsewhere names k x w (other_number x k (λ same. none first (omega arith) (e ∙ ap Some (sym same))))
     by rest None e = rest names
 
 -- The name of an argument holds it.
@@ -49,22 +49,22 @@ names_at n x v is one first (suc count) i at lt [] u found names = cc
 names_at n x v is one first (suc count) zero at lt (w ∷ vs) u found names =
     let here : first ≡ v = omega (arith, at) in
     ap (λ o. bind_names (bound_as n o first ∷ bindings n (first + 1) count) (w ∷ vs) names x) (ap (scalar_of n) here ∙ is)
-    ∙ names_past n x (first + 1) count vs (put names x w) (λ v2 le e. (let same = one v2 e in absurd (omega (arith, le, same, here)))) ∙ put_here names x w ∙ some_same found
+    ∙ names_past n x (first + 1) count vs (with_value_at names x w) (λ v2 le e. (let same = one v2 e in absurd (omega (arith, le, same, here)))) ∙ put_here names x w ∙ some_same found
 names_at n x v is one first (suc count) (suc i) at lt (w ∷ vs) u found names = by (λ more. names_at n x v is one (first + 1) count i (omega (arith, at)) (omega (arith, lt)) vs u found more) (scalar_of n first)
   where
     by : ((more : ℕ → Value) → bind_names (bindings n (first + 1) count) vs more x ≡ u) → (o : Option ℕ) → bind_names (bound_as n o first ∷ bindings n (first + 1) count) (w ∷ vs) names x ≡ u
-    by rest (Some k) = rest (put names k w)
+    by rest (Some k) = rest (with_value_at names k w)
     by rest None = rest names
 
 -- The first element of an object takes a value.
 first_steps : (memory : Memory) (m : ℕ) (q : Object) (v : Value) → slice_get memory m ≡ Some q → set_first m v memory ≡ option_map_or (λ z. z) (option_map (written_in memory m v q) (index_in q.element 0 q)) memory
 first_steps memory m q v is =
-    ap (λ r. option_map_or (λ (o : Object). option_map_or (λ z. z) (write memory o.element (address_of memory m) v) memory) r memory) is
+    ap (λ r. option_map_or (λ (o : Object). option_map_or (λ z. z) (write memory o.element (pointer_to_object memory m) v) memory) r memory) is
     ∙ ap (λ r. option_map_or (λ z. z) (write memory q.element r v) memory) (ap (λ r. option_map_or (λ o. Pointer m (bytes_of o) 0) r Odd) is)
     ∙ ap (λ r. option_map_or (λ z. z) (option_and_then (write_in memory m q.element 0 v) r) memory) is
 
 first_none : (memory : Memory) (m : ℕ) (v : Value) → slice_get memory m ≡ None → set_first m v memory ≡ memory
-first_none memory m v is = ap (λ r. option_map_or (λ (o : Object). option_map_or (λ z. z) (write memory o.element (address_of memory m) v) memory) r memory) is
+first_none memory m v is = ap (λ r. option_map_or (λ (o : Object). option_map_or (λ z. z) (write memory o.element (pointer_to_object memory m) v) memory) r memory) is
 
 first_later : (memory : Memory) (m : ℕ) (v : Value) → OthersLater memory (set_first m v memory)
 first_later memory m v = by (slice_get memory m) refl

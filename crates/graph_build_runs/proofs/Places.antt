@@ -14,7 +14,7 @@ use Rattle.c_meaning_values.specs.declared.value.Value.TheVariants as source
 use Rattle.c_meaning_values.specs.declared.value.Phase.TheVariants.{Ended}
 use Rattle.c_meaning_steps.specs.declared.event.Ending.TheVariants as ending
 use Rattle.c_meaning_values.specs.Memory.{Object as SourceObject, object_of as owned_number, is_usable}
-use Rattle.c_meaning_steps.specs.States.{State, Evaluated, Gives, Leaves, Ends, given, with, usable}
+use Rattle.c_meaning_steps.specs.States.{State, Evaluated, Gives, Leaves, Ends, value_or_undefined, with, usable}
 use Rattle.c_meaning.specs.Expressions.{Calls, evaluate, designate}
 use Rattle.graph_core.specs.declared.value.Value.{Value}
 use Rattle.graph_core.specs.declared.value.Value.TheVariants.{Pointer, Odd}
@@ -79,7 +79,7 @@ begins number bytes = let le : nat_le 0 bytes ≡ true = grind (arith, nat_tests
 pub variable_place : (x : Setting) (calls : Calls) (v k : ℕ) (of : ObjectType) → object_of (names_in x) v ≡ Some k → DoesPlace x calls (Named (object.Automatic v) of)
 variable_place x calls v k of has t m s l w size st sound f = go (owned_number (Variable v (depth_in x)) s.memory) refl
   where
-    go : (r : Option ℕ) → owned_number (Variable v (depth_in x)) s.memory ≡ r → PlaceR x m (Named (object.Automatic v) of) t m.ops m.end l w (given (option_map (λ n. source.Pointer n 0) r) s)
+    go : (r : Option ℕ) → owned_number (Variable v (depth_in x)) s.memory ≡ r → PlaceR x m (Named (object.Automatic v) of) t m.ops m.end l w (value_or_undefined (option_map (λ n. source.Pointer n 0) r) s)
     go None e = stuck_now x None m.ops m.end s l w f
     go (Some n) e =
         let o = owned_at (Variable v (depth_in x)) s.memory n e in
@@ -117,7 +117,7 @@ static_pointer x s l w n number o sound f there is alive inside owner =
 pub static_place : (x : Setting) (calls : Calls) (i : ℕ) (of : ObjectType) → StaticsThere x i → DoesPlace x calls (Named (object.Static i) of)
 static_place x calls i of there t m s l w size st sound f = go (owned_number (Static i) s.memory) refl
   where
-    go : (r : Option ℕ) → owned_number (Static i) s.memory ≡ r → PlaceR x m (Named (object.Static i) of) t m.ops m.end l w (given (option_map (λ n. source.Pointer n 0) r) s)
+    go : (r : Option ℕ) → owned_number (Static i) s.memory ≡ r → PlaceR x m (Named (object.Static i) of) t m.ops m.end l w (value_or_undefined (option_map (λ n. source.Pointer n 0) r) s)
     go None e = stuck_now x None m.ops m.end s l w f
     go (Some n) e =
         let o = owned_at (Static i) s.memory n e in
@@ -129,7 +129,7 @@ static_place x calls i of there t m s l w size st sound f = go (owned_number (St
 pub literal_place : (x : Setting) (calls : Calls) (i : ℕ) (of : ObjectType) → StaticsThere x ((names_in x).statics + i) → DoesPlace x calls (Named (object.Literal i) of)
 literal_place x calls i of there t m s l w size st sound f = go (owned_number (Literal i) s.memory) refl
   where
-    go : (r : Option ℕ) → owned_number (Literal i) s.memory ≡ r → PlaceR x m (Named (object.Literal i) of) t m.ops m.end l w (given (option_map (λ n. source.Pointer n 0) r) s)
+    go : (r : Option ℕ) → owned_number (Literal i) s.memory ≡ r → PlaceR x m (Named (object.Literal i) of) t m.ops m.end l w (value_or_undefined (option_map (λ n. source.Pointer n 0) r) s)
     go None e = stuck_now x None m.ops m.end s l w f
     go (Some n) e =
         let o = owned_at (Literal i) s.memory n e in

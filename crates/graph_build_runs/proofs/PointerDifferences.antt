@@ -6,9 +6,9 @@ use Rattle.std.proofs.lemmas.Bool.{eqb-true}
 use Rattle.std.proofs.lemmas.Bool.Decides.{nat_tests}
 use Rattle.std.proofs.lemmas.Int.{ints}
 use Rattle.word_base.specs.Types.{holds, in_range, int_type, unsigned_type, bits_of}
-use Rattle.word_base.specs.Operations.{is_count}
+use Rattle.word_base.specs.Operations.{is_shift_count}
 use Rattle.word_base.specs.Words.{shifted_down}
-use Rattle.word_base.specs.WordOperations.{operated as operated_words}
+use Rattle.word_base.specs.WordOperations.{word_operation as operated_words}
 use Rattle.word_base.specs.declared.operation.Operation.TheVariants as operation
 use Rattle.c_tree.specs.declared.types.IntegerType.TheVariants.{Int}
 use Rattle.c_tree.specs.declared.object_type.ObjectType.{ObjectType}
@@ -24,18 +24,18 @@ use Rattle.c_meaning_values.specs.Types.{size}
 use Rattle.c_meaning_values.specs.Memory.{is_usable, bytes_of}
 use Rattle.c_meaning_values.specs.Operations.{elements_from, elements_between, pointer_difference}
 use Rattle.c_meaning_steps.specs.declared.event.Ending.TheVariants as ending
-use Rattle.c_meaning_steps.specs.States.{State, Gives, given}
+use Rattle.c_meaning_steps.specs.States.{State, Gives, value_or_undefined}
 use Rattle.c_meaning.specs.Expressions.{Calls, evaluate}
 use Rattle.graph_core.specs.declared.value.Value.{Value}
 use Rattle.graph_core.specs.declared.value.Value.TheVariants.{Number}
 use Rattle.graph_core.specs.Graphs.{Name, Operate}
-use Rattle.graph_core.specs.Runs.{put, value}
+use Rattle.graph_core.specs.Runs.{with_value_at, value}
 use Rattle.graph_core.specs.Values.{operate}
-use Rattle.graph_build_names.specs.Conversions.{word_of}
+use Rattle.graph_build_names.specs.Conversions.{unsigned_bits}
 use Rattle.graph_build_names.specs.Scales.{shift_of}
 use Rattle.graph_build_names.specs.Names.{pick}
 use Rattle.graph_build_layout.specs.Laid.{behind_move}
-use Rattle.graph_build_steps.specs.Drafts.{Made, Goal, before, target, follow, operated, unscaling}
+use Rattle.graph_build_steps.specs.Drafts.{Made, Goal, instruction_before, target, follow, operated, unscaling}
 use Rattle.graph_build_runs.specs.Typed.{PointsInto, IsOf}
 use Rattle.graph_build_runs.specs.Correspondence.{SamePointer, SameValue}
 use Rattle.graph_build_runs.proofs.Words.{in_word}
@@ -123,26 +123,26 @@ holds_between i j hi hj = elim (gap i j) [
 ]
 
 -- the machine's quotient
-divided_word : (size : ℕ) (y z : ℤ) → 0 < size → size < 2147483648 → holds int_type y ≡ true → holds int_type z ≡ true → Whole size y z → operated_words operation.Div (word_of y) (bits_of unsigned_type (pos (1 * size))) ≡ word_of z
+divided_word : (size : ℕ) (y z : ℤ) → 0 < size → size < 2147483648 → holds int_type y ≡ true → holds int_type z ≡ true → Whole size y z → operated_words operation.Div (unsigned_bits y) (bits_of unsigned_type (pos (1 * size))) ≡ unsigned_bits z
 divided_word size y z some small hy hz w =
     let one : 1 * size ≡ size = omega arith in
     let nonzero : size == 0 ≡ false = grind (arith, nat_tests, some) in
     let gives : (if size == 0 then None else in_range int_type (int_div y (pos size))) ≡ Some z =
     ap (λ c. if c then None else in_range int_type (int_div y (pos size))) nonzero ∙ ap (in_range int_type) (quotient_is size y z some w) ∙ ap (λ c. if c then Some z else None) hz in
-    ap (λ k. operated_words operation.Div (word_of y) (bits_of unsigned_type (pos k))) one ∙ (divide_computes Int refl y (pos size) z hy (holds_pos size small) gives).0
+    ap (λ k. operated_words operation.Div (unsigned_bits y) (bits_of unsigned_type (pos k))) one ∙ (divide_computes Int refl y (pos size) z hy (holds_pos size small) gives).0
 
 -- and its shift
-shifted_word : (size k : ℕ) (y z : ℤ) → 0 < size → 2 ^ k ≡ size → k < 32 → holds int_type y ≡ true → Whole size y z → operated_words operation.Sra (word_of y) k ≡ word_of z
+shifted_word : (size k : ℕ) (y z : ℤ) → 0 < size → 2 ^ k ≡ size → k < 32 → holds int_type y ≡ true → Whole size y z → operated_words operation.Sra (unsigned_bits y) k ≡ unsigned_bits z
 shifted_word size k y z some power lt hy w =
-    let same : k ≡ word_of (pos k) = omega (arith, lt) in
-    let counts : is_count int_type (pos k) ≡ true = grind (arith, nat_tests, lt) in
-    let gives : (if is_count int_type (pos k) then Some (shifted_down y k) else None) ≡ Some z = ap (λ c. if c then Some (shifted_down y k) else None) counts ∙ ap Some (shift_down size k y z some power w) in
-    ap (operated_words operation.Sra (word_of y)) same ∙ (right_computes Int refl y (pos k) z hy (omega (arith, lt)) gives).0
+    let same : k ≡ unsigned_bits (pos k) = omega (arith, lt) in
+    let counts : is_shift_count int_type (pos k) ≡ true = grind (arith, nat_tests, lt) in
+    let gives : (if is_shift_count int_type (pos k) then Some (shifted_down y k) else None) ≡ Some z = ap (λ c. if c then Some (shifted_down y k) else None) counts ∙ ap Some (shift_down size k y z some power w) in
+    ap (operated_words operation.Sra (unsigned_bits y)) same ∙ (right_computes Int refl y (pos k) z hy (omega (arith, lt)) gives).0
 
 -- What the unit's instruction gives of two pointers, where the source tells how many elements lie between them.
 pub data Measured (bytes : ℕ) (a b : Value) : Option source-value.Value → Type 0 where
   nothing : Measured bytes a b None
-  measured : (y z : ℤ) → operate operation.Sub a b ≡ Number (word_of y) → 0 < bytes → bytes < 2147483648 → holds int_type y ≡ true → holds int_type z ≡ true → Whole bytes y z → Measured bytes a b (Some (source.Number z))
+  measured : (y z : ℤ) → operate operation.Sub a b ≡ Number (unsigned_bits y) → 0 < bytes → bytes < 2147483648 → holds int_type y ≡ true → holds int_type z ≡ true → Whole bytes y z → Measured bytes a b (Some (source.Number z))
 
 module _ (x : Setting) (want : Option ℕ) (s : State) (l : Local) (w : World) (small : AreSmall x.program) (sound : Sound x.program x.begun s) (f : Fits x want s l w) (of : ObjectType) where
   -- two pointers into one object
@@ -202,28 +202,28 @@ module _ (x : Setting) (want : Option ℕ) (s : State) (l : Local) (w : World) (
 pub difference_of : (x : Setting) (calls : Calls) (of : ObjectType) (a b : RvalueTree) → kind_of x.program x.tree (Difference of a b) ≡ Of (Integer Int) → Typed x calls a → Typed x calls b → Typed x calls (Difference of a b)
 difference_of x calls of a b kind typed_a typed_b s sound =
     subst (λ k. Keeps x.program x.begun s.memory k (evaluate calls (depth_in x) (Difference of a b) s)) (sym kind)
-    (both_typed x calls a b (Of (Integer Int)) (λ v w t. given (pointer_difference t.memory of v w) t) typed_a typed_b (λ v w s2 sound2 ka kb. by_use v w s2 sound2 (is_usable s2.memory v && is_usable s2.memory w)) s sound)
+    (both_typed x calls a b (Of (Integer Int)) (λ v w t. value_or_undefined (pointer_difference t.memory of v w) t) typed_a typed_b (λ v w s2 sound2 ka kb. by_use v w s2 sound2 (is_usable s2.memory v && is_usable s2.memory w)) s sound)
   where
-    by_range : (s2 : State) (y : ℤ) → Sound x.program x.begun s2 → (c : Bool) → holds int_type y ≡ c → Keeps x.program x.begun s2.memory (Of (Integer Int)) (given (option_map source.Number (if c then Some y else None)) s2)
+    by_range : (s2 : State) (y : ℤ) → Sound x.program x.begun s2 → (c : Bool) → holds int_type y ≡ c → Keeps x.program x.begun s2.memory (Of (Integer Int)) (value_or_undefined (option_map source.Number (if c then Some y else None)) s2)
     by_range s2 y sound2 true e = record { sound = sound2; later = later_refl s2.memory; is = e }
     by_range s2 y sound2 false e = tt
 
-    by_size : (i j : ℕ) (s2 : State) → Sound x.program x.begun s2 → (c : Bool) → Keeps x.program x.begun s2.memory (Of (Integer Int)) (given (option_map source.Number (if c then None else in_range int_type (int_div (pos i -ℤ pos j) (pos (size of))))) s2)
+    by_size : (i j : ℕ) (s2 : State) → Sound x.program x.begun s2 → (c : Bool) → Keeps x.program x.begun s2.memory (Of (Integer Int)) (value_or_undefined (option_map source.Number (if c then None else in_range int_type (int_div (pos i -ℤ pos j) (pos (size of))))) s2)
     by_size i j s2 sound2 true = tt
     by_size i j s2 sound2 false = by_range s2 (int_div (pos i -ℤ pos j) (pos (size of))) sound2 (holds int_type (int_div (pos i -ℤ pos j) (pos (size of)))) refl
 
-    by_one : (i j : ℕ) (s2 : State) → Sound x.program x.begun s2 → (c : Bool) → Keeps x.program x.begun s2.memory (Of (Integer Int)) (given (if c then option_map source.Number (elements_from (size of) i j) else None) s2)
+    by_one : (i j : ℕ) (s2 : State) → Sound x.program x.begun s2 → (c : Bool) → Keeps x.program x.begun s2.memory (Of (Integer Int)) (value_or_undefined (if c then option_map source.Number (elements_from (size of) i j) else None) s2)
     by_one i j s2 sound2 true = by_size i j s2 sound2 (size of == 0)
     by_one i j s2 sound2 false = tt
 
-    by_values : (v w : source-value.Value) (s2 : State) → Sound x.program x.begun s2 → Keeps x.program x.begun s2.memory (Of (Integer Int)) (given (elements_between (size of) v w) s2)
+    by_values : (v w : source-value.Value) (s2 : State) → Sound x.program x.begun s2 → Keeps x.program x.begun s2.memory (Of (Integer Int)) (value_or_undefined (elements_between (size of) v w) s2)
     by_values (source.Number z) w s2 sound2 = tt
     by_values source.Null w s2 sound2 = tt
     by_values (source.Pointer n i) (source.Number z) s2 sound2 = tt
     by_values (source.Pointer n i) source.Null s2 sound2 = tt
     by_values (source.Pointer n i) (source.Pointer m j) s2 sound2 = by_one i j s2 sound2 (n == m)
 
-    by_use : (v w : source-value.Value) (s2 : State) → Sound x.program x.begun s2 → (c : Bool) → Keeps x.program x.begun s2.memory (Of (Integer Int)) (given (if c then elements_between (size of) v w else None) s2)
+    by_use : (v w : source-value.Value) (s2 : State) → Sound x.program x.begun s2 → (c : Bool) → Keeps x.program x.begun s2.memory (Of (Integer Int)) (value_or_undefined (if c then elements_between (size of) v w else None) s2)
     by_use v w s2 sound2 true = by_values v w s2 sound2
     by_use v w s2 sound2 false = tt
 
@@ -236,7 +236,7 @@ module _ (x : Setting) (calls : Calls) (low : ScalarsFirst x) (small : AreSmall 
   abbrev made_by : Bool → ℕ → Goal → Made
   made_by one t g =
       if one then operated (names_in x) g t (pair_in x a b t).next (λ k. Operate k operation.Sub (pair_in x a b t).left (pair_in x a b t).right)
-      else before (Operate (pick (names_in x) t (pair_in x a b t).next) operation.Sub (pair_in x a b t).left (pair_in x a b t).right)
+      else instruction_before (Operate (pick (names_in x) t (pair_in x a b t).next) operation.Sub (pair_in x a b t).left (pair_in x a b t).right)
       (operated (names_in x) g t ((pair_in x a b t).next + 1) (λ k. unscaling (shift_of bytes_in) bytes_in k (pick (names_in x) t (pair_in x a b t).next)))
 
   abbrev own_by : Bool → ℕ → ℕ
@@ -267,38 +267,38 @@ module _ (x : Setting) (calls : Calls) (low : ScalarsFirst x) (small : AreSmall 
     above_own = let le = next_above t at_least in pick_between (names_in x) t ((pair_in x a b t).next + 1) t (omega arith) (omega (arith, le))
 
     -- a distance in bytes becomes one in elements
-    unscaled : (y z : ℤ) → operate operation.Sub left_value right_value ≡ Number (word_of y) → 0 < bytes_in → bytes_in < 2147483648 → holds int_type y ≡ true → holds int_type z ≡ true → Whole bytes_in y z → (r : Option ℕ) → shift_of bytes_in ≡ r
-        → Result x g (Name (own_by false t)) t (λ k. false) (Operate temporary operation.Sub (pair_in x a b t).left (pair_in x a b t).right ∷ (before (unscaling r bytes_in (target g (own_by false t)) temporary) (follow g (own_by false t))).ops)
-        (before (unscaling r bytes_in (target g (own_by false t)) temporary) (follow g (own_by false t))).end l w (Gives (source.Number z) s)
+    unscaled : (y z : ℤ) → operate operation.Sub left_value right_value ≡ Number (unsigned_bits y) → 0 < bytes_in → bytes_in < 2147483648 → holds int_type y ≡ true → holds int_type z ≡ true → Whole bytes_in y z → (r : Option ℕ) → shift_of bytes_in ≡ r
+        → Result x g (Name (own_by false t)) t (λ k. false) (Operate temporary operation.Sub (pair_in x a b t).left (pair_in x a b t).right ∷ (instruction_before (unscaling r bytes_in (target g (own_by false t)) temporary) (follow g (own_by false t))).ops)
+        (instruction_before (unscaling r bytes_in (target g (own_by false t)) temporary) (follow g (own_by false t))).end l w (Gives (source.Number z) s)
     unscaled y z sub some few hy hz whole (Some k) e =
         let c = shift_is bytes_in k e in
-        let given_word = operate operation.Sra (put l.names temporary (operate operation.Sub left_value right_value) temporary) (Number k) in
+        let given_word = operate operation.Sra (with_value_at l.names temporary (operate operation.Sub left_value right_value) temporary) (Number k) in
         two_done x g (own_by false t) temporary t (λ j. false) (λ j. Operate j operation.Sub (pair_in x a b t).left (pair_in x a b t).right) (λ j. unscaling (Some k) bytes_in j temporary) (source.Number z) (operate operation.Sub left_value right_value) given_word s l w low
         above_temporary (let le = above_temporary in omega (arith, le, at_least)) above_own (let le = above_own in omega (arith, le, at_least)) fits (λ j ops end. refl) (λ j ops end. refl)
         (ap (λ v. operate operation.Sra v (Number k)) (put_here l.names temporary (operate operation.Sub left_value right_value) ∙ sub) ∙ ap Number (shifted_word bytes_in k y z some c.0 c.1 hy whole)) (in_word Int z hz)
     unscaled y z sub some few hy hz whole None e =
         let divisor = Number (bits_of unsigned_type (pos (1 * bytes_in))) in
-        let given_word = operate operation.Div (put l.names temporary (operate operation.Sub left_value right_value) temporary) divisor in
+        let given_word = operate operation.Div (with_value_at l.names temporary (operate operation.Sub left_value right_value) temporary) divisor in
         two_done x g (own_by false t) temporary t (λ j. false) (λ j. Operate j operation.Sub (pair_in x a b t).left (pair_in x a b t).right) (λ j. unscaling None bytes_in j temporary) (source.Number z) (operate operation.Sub left_value right_value) given_word s l w low
         above_temporary (let le = above_temporary in omega (arith, le, at_least)) above_own (let le = above_own in omega (arith, le, at_least)) fits (λ j ops end. refl) (λ j ops end. refl)
         (ap (λ v. operate operation.Div v divisor) (put_here l.names temporary (operate operation.Sub left_value right_value) ∙ sub) ∙ ap Number (divided_word bytes_in y z some few hy hz whole)) (in_word Int z hz)
 
-    counted : (y z : ℤ) → operate operation.Sub left_value right_value ≡ Number (word_of y) → 0 < bytes_in → bytes_in < 2147483648 → holds int_type y ≡ true → holds int_type z ≡ true → Whole bytes_in y z → (one : Bool) → bytes_in == 1 ≡ one
+    counted : (y z : ℤ) → operate operation.Sub left_value right_value ≡ Number (unsigned_bits y) → 0 < bytes_in → bytes_in < 2147483648 → holds int_type y ≡ true → holds int_type z ≡ true → Whole bytes_in y z → (one : Bool) → bytes_in == 1 ≡ one
         → Result x g (Name (own_by one t)) t (λ k. false) (made_by one t g).ops (made_by one t g).end l w (Gives (source.Number z) s)
     counted y z sub some few hy hz whole true e =
         let same : y ≡ z = ones y z (subst (λ k. Whole k y z) (eqb-true bytes_in 1 e) whole) in
         operated_done x g temporary t (λ k. false) (λ k. Operate k operation.Sub (pair_in x a b t).left (pair_in x a b t).right) (source.Number z) (operate operation.Sub left_value right_value) s l w low above_temporary (let le = above_temporary in omega (arith, le, at_least)) fits (λ k ops end. refl)
-        (sub ∙ ap (λ k. Number (word_of k)) same) (in_word Int z hz)
+        (sub ∙ ap (λ k. Number (unsigned_bits k)) same) (in_word Int z hz)
     counted y z sub some few hy hz whole false e = unscaled y z sub some few hy hz whole (shift_of bytes_in) refl
 
-    by_measured : (one : Bool) → bytes_in == 1 ≡ one → {r : Option source-value.Value} → Measured bytes_in left_value right_value r → Result x g (Name (own_by one t)) t (λ k. false) (made_by one t g).ops (made_by one t g).end l w (given r s)
+    by_measured : (one : Bool) → bytes_in == 1 ≡ one → {r : Option source-value.Value} → Measured bytes_in left_value right_value r → Result x g (Name (own_by one t)) t (λ k. false) (made_by one t g).ops (made_by one t g).end l w (value_or_undefined r s)
     by_measured one e nothing = ended_result x g (Name (own_by one t)) t (λ k. false) (made_by one t g).ops (made_by one t g).end l w ending.Undefined s (stuck_now x None (made_by one t g).ops (made_by one t g).end s l w fits)
     by_measured one e (measured y z sub some few hy hz whole) = counted y z sub some few hy hz whole one e
 
   -- The code of a difference does what it means.
   pub difference_does : Does x calls (Difference of a b)
   difference_does t g s l w size st sound fits aims =
-      pair_does x calls low a b typed_a typed_b low_a spares_b grows_a does_a does_b t g (Name (own_by (bytes_in == 1) t)) (made_by (bytes_in == 1) t g) (λ v u s1. given (pointer_difference s1.memory of v u) s1) s l w size st sound fits
+      pair_does x calls low a b typed_a typed_b low_a spares_b grows_a does_a does_b t g (Name (own_by (bytes_in == 1) t)) (made_by (bytes_in == 1) t g) (λ v u s1. value_or_undefined (pointer_difference s1.memory of v u) s1) s l w size st sound fits
       (λ v u s1 l1 w1 sound1 fits1 same_v same_u kind_v kind_u. by_measured t g size s1 l1 w1 fits1 (bytes_in == 1) refl
       (pointers_measured x None s1 l1 w1 small sound1 fits1 of v u (value x.unit.statics l1.names (pair_in x a b t).left) (value x.unit.statics l1.names (pair_in x a b t).right)
       (kind_is_of s1.memory (kind_of x.program x.tree a) (PointerType of) v fits_a kind_v) (kind_is_of s1.memory (kind_of x.program x.tree b) (PointerType of) u fits_b kind_u) same_v same_u))

@@ -13,21 +13,21 @@ use Rattle.c_meaning_values.specs.Memory.{read}
 use Rattle.c_meaning_steps.specs.Steps.{decayed, if_read}
 use Rattle.graph_build_names.specs.Writes.{writes}
 use Rattle.graph_build_steps.specs.Steps.{in_turn}
-use Rattle.c_meaning_values.specs.Operations.{moved_by}
+use Rattle.c_meaning_values.specs.Operations.{moved_by_elements}
 use Rattle.c_meaning_steps.specs.declared.event.Ending.TheVariants as ending
-use Rattle.c_meaning_steps.specs.States.{State, Evaluated, Gives, Leaves, Ends, given, with, Both, Pair, NoPair, both, on_both}
+use Rattle.c_meaning_steps.specs.States.{State, Evaluated, Gives, Leaves, Ends, value_or_undefined, with, Both, Pair, NoPair, both_operands, on_both}
 use Rattle.c_meaning.specs.Expressions.{Calls, evaluate}
 use Rattle.graph_core.specs.declared.value.Value.TheVariants.{Number}
 use Rattle.graph_core.specs.Graphs.{Operand, Name, Constant, StaticAddress, At, Instruction, Operate, End}
 use Rattle.graph_core.specs.Runs.{Goes, value}
 use Rattle.graph_core.specs.Values.{operate}
-use Rattle.graph_build_names.specs.Conversions.{word_of}
+use Rattle.graph_build_names.specs.Conversions.{unsigned_bits}
 use Rattle.graph_build_names.specs.Operands.{held}
 use Rattle.graph_build_names.specs.Scales.{is_scaled, scaled}
 use Rattle.graph_build_names.specs.Names.{pick}
 use Rattle.graph_build_layout.specs.Laid.{behind_move}
 use Rattle.graph_build_steps.specs.Rules.{move_by}
-use Rattle.graph_build_steps.specs.Drafts.{Made, Goal, To, Unused, Either, before, target, follow, code_scaled_pair}
+use Rattle.graph_build_steps.specs.Drafts.{Made, Goal, To, Unused, Either, instruction_before, target, follow, code_scaled_pair}
 use Rattle.graph_build_runs.specs.Correspondence.{SameValue}
 use Rattle.graph_build_runs.proofs.Leads.{Setting, names_in, size_in, depth_in, Local, World, set_name, at, less_other}
 use Rattle.graph_build_runs.proofs.Later.{others_refl}
@@ -53,11 +53,11 @@ gives_filters v s = inl refl
 pub decayed_filters : Filters decayed
 decayed_filters v s = by (read s.memory v)
   where
-    by : (r : Option source-value.Value) → (given (if_read r v) s ≡ Gives v s) ⊎ (given (if_read r v) s ≡ Ends ending.Undefined s)
+    by : (r : Option source-value.Value) → (value_or_undefined (if_read r v) s ≡ Gives v s) ⊎ (value_or_undefined (if_read r v) s ≡ Ends ending.Undefined s)
     by None = inr refl
     by (Some u) = inl refl
 
-pub given_gives : (r : Option source-value.Value) (s : State) → with (given r s) Gives ≡ given r s
+pub given_gives : (r : Option source-value.Value) (s : State) → with (value_or_undefined r s) Gives ≡ value_or_undefined r s
 given_gives None s = refl
 given_gives (Some v) s = refl
 
@@ -86,14 +86,14 @@ module _ (x : Setting) (low : ScalarsFirst x) (small : AreSmall x.program) (next
   pointer_kept l m kept (StaticAddress o k) lt = refl
 
   module _ (g : Goal) (s : State) (l : Local) (w : World) (sound : Sound x.program x.begun s) (fits : Fits x None s l w) (same_p : SameValue x.program s.memory w.memory p (value x.unit.statics l.names pointer)) where
-    moves_number : (z : ℤ) → value x.unit.statics l.names index ≡ Number (word_of z) → (r : Option source-value.Value) → moved_by s.memory d of p (source.Number z) ≡ r
-        → Result x g (Name own_by) t (λ y. false) (last_by g).ops (last_by g).end l w (with (given r s) next)
+    moves_number : (z : ℤ) → value x.unit.statics l.names index ≡ Number (unsigned_bits z) → (r : Option source-value.Value) → moved_by_elements s.memory d of p (source.Number z) ≡ r
+        → Result x g (Name own_by) t (λ y. false) (last_by g).ops (last_by g).end l w (with (value_or_undefined r s) next)
     moves_number z same_z None e = ended_result x g (Name own_by) t (λ y. false) (last_by g).ops (last_by g).end l w ending.Undefined s (stuck_now x None (last_by g).ops (last_by g).end s l w fits)
     moves_number z same_z (Some v) e =
-        let m = before (moves_by (target g own_by)) (follow g own_by) in
+        let m = instruction_before (moves_by (target g own_by)) (follow g own_by) in
         let c = scale_done x (λ k. Fits x None s k w) (λ k j a h f. fits_temporary x s k w j a low f h) (object_size of) index free m l w z (omega (arith, le, size)) fits same_z in
         let kept_p = pointer_kept l c.local c.kept pointer below in
-        let gives = operate (move_by d) (value x.unit.statics l.names pointer) (Number (word_of (z *ℤ pos (object_size of)))) in
+        let gives = operate (move_by d) (value x.unit.statics l.names pointer) (Number (unsigned_bits (z *ℤ pos (object_size of)))) in
         let moved = pointer_moves x None s l w d of p z v (value x.unit.statics l.names pointer) sound fits small same_p e in
         let above = own_above in
         let undefined = ended_result x g (Name own_by) t (λ y. false) (last_by g).ops (last_by g).end l w ending.Undefined s (stuck_now x None (last_by g).ops (last_by g).end s l w fits) in
@@ -108,11 +108,11 @@ module _ (x : Setting) (low : ScalarsFirst x) (small : AreSmall x.program) (next
         by_filter v (inr e) undefined done = subst (Result x g (Name own_by) t (λ y. false) (last_by g).ops (last_by g).end l w) (sym e) undefined
 
     -- Behind both operands the pointer moves, or nothing is defined.
-    pub moves : SameValue x.program s.memory w.memory u (value x.unit.statics l.names index) → Result x g (Name own_by) t (λ y. false) (last_by g).ops (last_by g).end l w (with (given (moved_by s.memory d of p u) s) next)
+    pub moves : SameValue x.program s.memory w.memory u (value x.unit.statics l.names index) → Result x g (Name own_by) t (λ y. false) (last_by g).ops (last_by g).end l w (with (value_or_undefined (moved_by_elements s.memory d of p u) s) next)
     moves = by u
       where
-        by : (k : source-value.Value) → SameValue x.program s.memory w.memory k (value x.unit.statics l.names index) → Result x g (Name own_by) t (λ y. false) (last_by g).ops (last_by g).end l w (with (given (moved_by s.memory d of p k) s) next)
-        by (source.Number z) same_z = moves_number z same_z (moved_by s.memory d of p (source.Number z)) refl
+        by : (k : source-value.Value) → SameValue x.program s.memory w.memory k (value x.unit.statics l.names index) → Result x g (Name own_by) t (λ y. false) (last_by g).ops (last_by g).end l w (with (value_or_undefined (moved_by_elements s.memory d of p k) s) next)
+        by (source.Number z) same_z = moves_number z same_z (moved_by_elements s.memory d of p (source.Number z)) refl
         by source.Null same_z = ended_result x g (Name own_by) t (λ y. false) (last_by g).ops (last_by g).end l w ending.Undefined s (stuck_now x None (last_by g).ops (last_by g).end s l w fits)
         by (source.Pointer n k) same_z = ended_result x g (Name own_by) t (λ y. false) (last_by g).ops (last_by g).end l w ending.Undefined s (stuck_now x None (last_by g).ops (last_by g).end s l w fits)
 
@@ -149,8 +149,8 @@ module _ (x : Setting) (calls : Calls) (low : ScalarsFirst x) (small : AreSmall 
       let up = from_above t size in
       let next = next_above t size in
       pair_does x calls low a b typed_a typed_b low_a spares_b grows_a does_a does_b t g (Name (pick (names_in x) t (behind_move (is_scaled (object_size of) q.right) q.next)))
-      (code_scaled_pair (names_in x) g t (move_by d) (object_size of) q.left q.right q.next) (λ v u s1. given (moved_by s1.memory d of v u) s1) s l w size st sound fits
-      (λ v u s1 l1 w1 sound1 fits1 same_v same_u kind_v kind_u. subst (Result x g (Name (pick (names_in x) t (behind_move (is_scaled (object_size of) q.right) q.next))) t (λ y. false) (code_scaled_pair (names_in x) g t (move_by d) (object_size of) q.left q.right q.next).ops (code_scaled_pair (names_in x) g t (move_by d) (object_size of) q.left q.right q.next).end l1 w1) (given_gives (moved_by s1.memory d of v u) s1)
+      (code_scaled_pair (names_in x) g t (move_by d) (object_size of) q.left q.right q.next) (λ v u s1. value_or_undefined (moved_by_elements s1.memory d of v u) s1) s l w size st sound fits
+      (λ v u s1 l1 w1 sound1 fits1 same_v same_u kind_v kind_u. subst (Result x g (Name (pick (names_in x) t (behind_move (is_scaled (object_size of) q.right) q.next))) t (λ y. false) (code_scaled_pair (names_in x) g t (move_by d) (object_size of) q.left q.right q.next).ops (code_scaled_pair (names_in x) g t (move_by d) (object_size of) q.left q.right q.next).end l1 w1) (given_gives (moved_by_elements s1.memory d of v u) s1)
       (moves x low small Gives gives_filters d of v u q.left q.right t q.next (omega (arith, up, next)) size (left_below t size) g s1 l1 w1 sound1 fits1 same_v same_u))
 
   -- the index, then a pointer
@@ -160,8 +160,8 @@ module _ (x : Setting) (calls : Calls) (low : ScalarsFirst x) (small : AreSmall 
       let up = from_above t size in
       let next = next_above t size in
       pair_does x calls low a b typed_a typed_b low_a spares_b grows_a does_a does_b t g (Name (pick (names_in x) t (behind_move (is_scaled (object_size of) q.left) q.next)))
-      (code_scaled_pair (names_in x) g t operation.Add (object_size of) q.right q.left q.next) (λ u v s1. given (moved_by s1.memory Up of v u) s1) s l w size st sound fits
-      (λ u v s1 l1 w1 sound1 fits1 same_u same_v kind_u kind_v. subst (Result x g (Name (pick (names_in x) t (behind_move (is_scaled (object_size of) q.left) q.next))) t (λ y. false) (code_scaled_pair (names_in x) g t operation.Add (object_size of) q.right q.left q.next).ops (code_scaled_pair (names_in x) g t operation.Add (object_size of) q.right q.left q.next).end l1 w1) (given_gives (moved_by s1.memory Up of v u) s1)
+      (code_scaled_pair (names_in x) g t operation.Add (object_size of) q.right q.left q.next) (λ u v s1. value_or_undefined (moved_by_elements s1.memory Up of v u) s1) s l w size st sound fits
+      (λ u v s1 l1 w1 sound1 fits1 same_u same_v kind_u kind_v. subst (Result x g (Name (pick (names_in x) t (behind_move (is_scaled (object_size of) q.left) q.next))) t (λ y. false) (code_scaled_pair (names_in x) g t operation.Add (object_size of) q.right q.left q.next).ops (code_scaled_pair (names_in x) g t operation.Add (object_size of) q.right q.left q.next).end l1 w1) (given_gives (moved_by_elements s1.memory Up of v u) s1)
       (moves x low small Gives gives_filters Up of v u q.right q.left t q.next (omega (arith, up, next)) size (right_below t size) g s1 l1 w1 sound1 fits1 same_v same_u))
 
   -- an array that is an element decays
@@ -174,8 +174,8 @@ module _ (x : Setting) (calls : Calls) (low : ScalarsFirst x) (small : AreSmall 
       let m = code_scaled_pair (names_in x) g t operation.Add (object_size of) q.left q.right q.next in
       let c = in_turn (code_in x a) (code_in x b) t q m in
       subst (Result x g own t (λ y. writes (names_in x) y a || writes (names_in x) y b) c.ops c.end l w)
-      (with_both (both (evaluate calls (depth_in x) a s) (evaluate calls (depth_in x) b)) (λ v u s1. given (moved_by s1.memory Up of v u) s1) decayed)
-      (pair_does x calls low a b typed_a typed_b low_a spares_b grows_a does_a does_b t g own m (λ v u s1. with (given (moved_by s1.memory Up of v u) s1) decayed) s l w size st sound fits
+      (with_both (both_operands (evaluate calls (depth_in x) a s) (evaluate calls (depth_in x) b)) (λ v u s1. value_or_undefined (moved_by_elements s1.memory Up of v u) s1) decayed)
+      (pair_does x calls low a b typed_a typed_b low_a spares_b grows_a does_a does_b t g own m (λ v u s1. with (value_or_undefined (moved_by_elements s1.memory Up of v u) s1) decayed) s l w size st sound fits
       (λ v u s1 l1 w1 sound1 fits1 same_v same_u kind_v kind_u. moves x low small decayed decayed_filters Up of v u q.left q.right t q.next (omega (arith, up, next)) size (left_below t size) g s1 l1 w1 sound1 fits1 same_v same_u))
 
   pub decayed_element_from : (of : ObjectType) → Does x calls (Decay (ElementFrom of a b))
@@ -187,8 +187,8 @@ module _ (x : Setting) (calls : Calls) (low : ScalarsFirst x) (small : AreSmall 
       let m = code_scaled_pair (names_in x) g t operation.Add (object_size of) q.right q.left q.next in
       let c = in_turn (code_in x a) (code_in x b) t q m in
       subst (Result x g own t (λ y. writes (names_in x) y a || writes (names_in x) y b) c.ops c.end l w)
-      (with_both (both (evaluate calls (depth_in x) a s) (evaluate calls (depth_in x) b)) (λ u v s1. given (moved_by s1.memory Up of v u) s1) decayed)
-      (pair_does x calls low a b typed_a typed_b low_a spares_b grows_a does_a does_b t g own m (λ u v s1. with (given (moved_by s1.memory Up of v u) s1) decayed) s l w size st sound fits
+      (with_both (both_operands (evaluate calls (depth_in x) a s) (evaluate calls (depth_in x) b)) (λ u v s1. value_or_undefined (moved_by_elements s1.memory Up of v u) s1) decayed)
+      (pair_does x calls low a b typed_a typed_b low_a spares_b grows_a does_a does_b t g own m (λ u v s1. with (value_or_undefined (moved_by_elements s1.memory Up of v u) s1) decayed) s l w size st sound fits
       (λ u v s1 l1 w1 sound1 fits1 same_u same_v kind_u kind_v. moves x low small decayed decayed_filters Up of v u q.right q.left t q.next (omega (arith, up, next)) size (right_below t size) g s1 l1 w1 sound1 fits1 same_v same_u))
 
 -- The place of an element is where its pointer points.

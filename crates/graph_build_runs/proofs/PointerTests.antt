@@ -4,31 +4,31 @@ use Rattle.std.specs.Prelude.{◌==◌, if◌then◌else◌, nat_lt, option_map}
 use Rattle.std.proofs.lemmas.Bool.{eqb-true}
 use Rattle.word_base.specs.Operations.{truth}
 use Rattle.word_base.specs.Words.{word_of_test}
-use Rattle.word_base.specs.WordOperations.{operated as operated_words}
+use Rattle.word_base.specs.WordOperations.{word_operation as operated_words}
 use Rattle.word_base.specs.declared.operation.Operation.TheVariants as operation
 use Rattle.c_tree.specs.declared.typed_expression.Comparison as declared
 use Rattle.c_tree.specs.declared.typed_expression.Comparison.TheVariants as comparison
 use Rattle.c_tree.specs.TypedExpressions.{RvalueTree, ComparePointers}
-use Rattle.c_type_rules.specs.Constants.{compared as test_of}
+use Rattle.c_type_rules.specs.Constants.{comparison_holds as test_of}
 use Rattle.c_type_laws.specs.Expressions.{kind_of}
 use Rattle.c_meaning_values.specs.declared.value.Value as source-value
 use Rattle.c_meaning_values.specs.declared.value.Value.TheVariants as source
 use Rattle.c_meaning_values.specs.Memory.{Memory as SourceMemory, is_usable}
 use Rattle.c_meaning_values.specs.Operations.{is_same_pointer, order_of, pointers_compared, pointer_comparison, is_true}
 use Rattle.c_meaning_steps.specs.declared.event.Ending.TheVariants as ending
-use Rattle.c_meaning_steps.specs.States.{State, Gives, given, by_truth}
+use Rattle.c_meaning_steps.specs.States.{State, Gives, value_or_undefined, by_truth}
 use Rattle.c_meaning.specs.Expressions.{Calls}
 use Rattle.graph_core.specs.declared.value.Value.{Value}
 use Rattle.graph_core.specs.declared.value.Value.TheVariants.{Number}
 use Rattle.graph_core.specs.Graphs as unit
 use Rattle.graph_core.specs.Graphs.{Operand, Name, Instruction, Operate, Same}
 use Rattle.graph_core.specs.Memory.{is_live}
-use Rattle.graph_core.specs.Runs.{put, step, value, branched}
+use Rattle.graph_core.specs.Runs.{with_value_at, step, value, branched}
 use Rattle.graph_core.specs.Values.{operate, same, is_true as is_known}
 use Rattle.graph_build_names.specs.Operands.{is_two_pointers}
 use Rattle.graph_build_names.specs.Names.{pick}
 use Rattle.graph_build_layout.specs.Laid.{behind_move}
-use Rattle.graph_build_steps.specs.Drafts.{Made, Goal, To, Unused, Either, before, target, follow, branch_by, compare_pointers_by, compared_pointers, compared_pointers_value}
+use Rattle.graph_build_steps.specs.Drafts.{Made, Goal, To, Unused, Either, instruction_before, target, follow, branch_by, compare_pointers_by, compared_pointers, compared_pointers_value}
 use Rattle.graph_build_runs.specs.Correspondence.{SamePointer, SameValue}
 use Rattle.graph_build_runs.proofs.Leads.{Setting, names_in, size_in, Local, World, at, put_here}
 use Rattle.graph_build_runs.proofs.Kept.{Sound, Fits, ScalarsFirst}
@@ -89,15 +89,15 @@ module _ (x : Setting) (low : ScalarsFirst x) (g : Goal) (own temporary t : ℕ)
 
   -- by one instruction
   one_tells : (i : ℕ → Instruction) (given_word : Value) (c : Bool) → Writes x i given_word l w → given_word ≡ Number (word_of_test c)
-      → Result x g (Name own) t f (before (i (target g own)) (follow g own)).ops (before (i (target g own)) (follow g own)).end l w (Gives (source.Number (truth c)) s)
+      → Result x g (Name own) t f (instruction_before (i (target g own)) (follow g own)).ops (instruction_before (i (target g own)) (follow g own)).end l w (Gives (source.Number (truth c)) s)
   one_tells i given_word c writes is = operated_done x g own t f i (source.Number (truth c)) given_word s l w low le2 size2 fits writes (is ∙ ap Number (truth_word c)) (truth_in c)
 
   -- by two
   two_tell : (i : ℕ → Instruction) (between : Value) (c : Bool) → Writes x i between l w → between ≡ Number (word_of_test (not c))
-      → Result x g (Name own) t f (i temporary ∷ (before (Operate (target g own) operation.Xor (Name temporary) (unit.Constant 1)) (follow g own)).ops) (before (Operate (target g own) operation.Xor (Name temporary) (unit.Constant 1)) (follow g own)).end l w
+      → Result x g (Name own) t f (i temporary ∷ (instruction_before (Operate (target g own) operation.Xor (Name temporary) (unit.Constant 1)) (follow g own)).ops) (instruction_before (Operate (target g own) operation.Xor (Name temporary) (unit.Constant 1)) (follow g own)).end l w
       (Gives (source.Number (truth c)) s)
   two_tell i between c writes is =
-      two_done x g own temporary t f i (λ k. Operate k operation.Xor (Name temporary) (unit.Constant 1)) (source.Number (truth c)) between (operate operation.Xor (put l.names temporary between temporary) (Number 1)) s l w low le1 size1 le2 size2 fits writes (λ k ops end. refl)
+      two_done x g own temporary t f i (λ k. Operate k operation.Xor (Name temporary) (unit.Constant 1)) (source.Number (truth c)) between (operate operation.Xor (with_value_at l.names temporary between temporary) (Number 1)) s l w low le1 size1 le2 size2 fits writes (λ k ops end. refl)
       (ap (λ v. operate operation.Xor v (Number 1)) (put_here l.names temporary between ∙ is) ∙ ap Number (xor_one (not c) c (not_twice c) ∙ truth_word c)) (truth_in c)
 
   value_tells : (o : declared.Comparison) (c : Bool) → Tells (is_live w.memory) o c (value x.unit.statics l.names left) (value x.unit.statics l.names right) → Result x g (Name own) t f (In o).ops (In o).end l w (Gives (source.Number (truth c)) s)
@@ -195,12 +195,12 @@ module _ (x : Setting) (calls : Calls) (low : ScalarsFirst x) (o : declared.Comp
   tells t (Unused m) size c s l w fits is = tells_value t (Unused m) None m size c s l w fits is
 
   by_told : (t : ℕ) (g : Goal) → size_in x ≤ t → (s : State) (l : Local) (w : World) → Fits x None s l w → {r : Option source-value.Value} → Told (is_live w.memory) o (value x.unit.statics l.names (pair_in x a b t).left) (value x.unit.statics l.names (pair_in x a b t).right) r
-      → Result x g (Name (own_of t)) t (λ y. false) (last_of t g).ops (last_of t g).end l w (given r s)
+      → Result x g (Name (own_of t)) t (λ y. false) (last_of t g).ops (last_of t g).end l w (value_or_undefined r s)
   by_told t g size s l w fits nothing = ended_result x g (Name (own_of t)) t (λ y. false) (last_of t g).ops (last_of t g).end l w ending.Undefined s (stuck_now x None (last_of t g).ops (last_of t g).end s l w fits)
   by_told t g size s l w fits (told c is) = tells t g size c s l w fits is
 
   pub pointers_compare : Does x calls (ComparePointers o a b)
   pointers_compare t g s l w size st sound fits aims =
-      pair_does x calls low a b typed_a typed_b low_a spares_b grows_a does_a does_b t g (Name (own_of t)) (last_of t g) (λ v u s1. given (pointer_comparison s1.memory o v u) s1) s l w size st sound fits
+      pair_does x calls low a b typed_a typed_b low_a spares_b grows_a does_a does_b t g (Name (own_of t)) (last_of t g) (λ v u s1. value_or_undefined (pointer_comparison s1.memory o v u) s1) s l w size st sound fits
       (λ v u s1 l1 w1 sound1 fits1 same_v same_u kind_v kind_u. by_told t g size s1 l1 w1 fits1
       (pointers_told x None s1 l1 w1 sound1 fits1 o v u (value x.unit.statics l1.names (pair_in x a b t).left) (value x.unit.statics l1.names (pair_in x a b t).right) (pointer_a s1.memory v kind_v) (pointer_b s1.memory u kind_u) same_v same_u))

@@ -9,14 +9,14 @@ use Rattle.std.proofs.lemmas.Bool.Decides.{nat_tests}
 use Rattle.c_tree.specs.declared.types.IntegerType.{IntegerType}
 use Rattle.c_tree.specs.declared.types.IntegerType.TheVariants.{Char, SignedChar, UnsignedChar, Short, UnsignedShort, Int, UnsignedInt, Long, UnsignedLong}
 use Rattle.c_tree.specs.declared.typed_expression.Arithmetic.TheVariants as arithmetic-is
-use Rattle.word_base.specs.Types.{holds, in_range, unsigned_type, int_type, number_of}
-use Rattle.word_base.specs.Operations.{kept, quotient, remainder, is_count, right_shift, on_bits}
+use Rattle.word_base.specs.Types.{holds, in_range, unsigned_type, int_type, number_of_bits}
+use Rattle.word_base.specs.Operations.{result_of_type, quotient, remainder, is_shift_count, right_shift, on_bits}
 use Rattle.word_base.specs.Arithmetic.{divided, divided_unsigned, remaining, remaining_unsigned, shifted_left, shifted_right, shifted_right_signed}
-use Rattle.word_base.specs.Words.{signed, shifted_down}
+use Rattle.word_base.specs.Words.{signed_number, shifted_down}
 use Rattle.word_base.specs.Words as of-words
-use Rattle.word_base.specs.WordOperations.{operated as operated_words}
+use Rattle.word_base.specs.WordOperations.{word_operation as operated_words}
 use Rattle.c_type_laws.specs.Kinds.{is_promoted}
-use Rattle.graph_build_names.specs.Conversions.{word_of}
+use Rattle.graph_build_names.specs.Conversions.{unsigned_bits as word_of}
 use Rattle.graph_build_runs.proofs.Words.{InWord, in_word, both_true, in_range_is, kept_word_int, kept_word_unsigned, kept_in_int, kept_in_unsigned}
 use Rattle.graph_build_runs.proofs.Arithmetic.{Computes}
 use Rattle.base_laws.proofs.Numbers.{and_lt}
@@ -48,7 +48,7 @@ pub word_times : (a : ℤ) (b : ℕ) → word_of a * b % 4294967296 ≡ word_of 
 word_times a b = sym (mul-mod_second (word_of a) b 4294967296) ∙ word_product a (pos b)
 
 -- a number with a sign is what its word says
-pub signed_word : (z : ℤ) → holds int_type z ≡ true → signed (word_of z) ≡ z
+pub signed_word : (z : ℤ) → holds int_type z ≡ true → signed_number (word_of z) ≡ z
 signed_word (pos n) h = let le : n ≤ 2147483647 = leb-true n 2147483647 h in let small : n % 4294967296 ≡ n = omega arith in ap (cast_signed w32) small ∙ to_z_pos w32 n (omega (arith, le))
 signed_word (negsuc n) h =
     let le : n ≤ 2147483647 = leb-true n 2147483647 (both_true (int_le (negsuc 2147483647) (negsuc n)) true h).0 in
@@ -91,8 +91,8 @@ signed_quotient a b z ha hb h =
     let d = divisor b (in_range int_type (int_div a b)) z h in
     let r = in_range_is int_type (int_div a b) z d.1 in
     let within : InWord z = in_word Int z (ap (holds int_type) (sym r.1) ∙ r.0) in (
-      ap (λ c. if c then 4294967295 else of-words.word_of (int_div (signed (word_of a)) (signed (word_of b)))) (some_word b (in_word Int b hb) d.0)
-          ∙ ap (λ k. of-words.word_of (int_div k (signed (word_of b)))) (signed_word a ha) ∙ ap (λ k. of-words.word_of (int_div a k)) (signed_word b hb) ∙ ap of-words.word_of r.1 ∙ bits_word z within,
+      ap (λ c. if c then 4294967295 else of-words.word_of (int_div (signed_number (word_of a)) (signed_number (word_of b)))) (some_word b (in_word Int b hb) d.0)
+          ∙ ap (λ k. of-words.word_of (int_div k (signed_number (word_of b)))) (signed_word a ha) ∙ ap (λ k. of-words.word_of (int_div a k)) (signed_word b hb) ∙ ap of-words.word_of r.1 ∙ bits_word z within,
       within,
     )
 
@@ -138,8 +138,8 @@ signed_remainder a b z ha hb h =
     let d = divisor b (if holds int_type (int_div a b) then Some (int_rem a b) else None) z h in
     let r = remainder_is (holds int_type (int_div a b)) (int_rem a b) z d.1 in
     let within : InWord z = subst InWord r (near_word (int_rem a b) b hb (rem_below a b (positive (unsigned_abs b) d.0))) in (
-      ap (λ c. if c then word_of a else of-words.word_of (int_rem (signed (word_of a)) (signed (word_of b)))) (some_word b (in_word Int b hb) d.0)
-          ∙ ap (λ k. of-words.word_of (int_rem k (signed (word_of b)))) (signed_word a ha) ∙ ap (λ k. of-words.word_of (int_rem a k)) (signed_word b hb) ∙ ap of-words.word_of r ∙ bits_word z within,
+      ap (λ c. if c then word_of a else of-words.word_of (int_rem (signed_number (word_of a)) (signed_number (word_of b)))) (some_word b (in_word Int b hb) d.0)
+          ∙ ap (λ k. of-words.word_of (int_rem k (signed_number (word_of b)))) (signed_word a ha) ∙ ap (λ k. of-words.word_of (int_rem a k)) (signed_word b hb) ∙ ap of-words.word_of r ∙ bits_word z within,
       within,
     )
 
@@ -207,18 +207,18 @@ left_computes UnsignedChar p a b z ha hb h = cc
 left_computes Short p a b z ha hb h = cc
 left_computes UnsignedShort p a b z ha hb h = cc
 left_computes Int p a b z ha hb h =
-    let c = if_some (is_count int_type b) (if int_lt a (pos 0) then None else kept int_type (a *ℤ pos (2 ^ unsigned_abs b))) z h in
-    let k = if_none (int_lt a (pos 0)) (kept int_type (a *ℤ pos (2 ^ unsigned_abs b))) z c.1 in
+    let c = if_some (is_shift_count int_type b) (if int_lt a (pos 0) then None else result_of_type int_type (a *ℤ pos (2 ^ unsigned_abs b))) z h in
+    let k = if_none (int_lt a (pos 0)) (result_of_type int_type (a *ℤ pos (2 ^ unsigned_abs b))) z c.1 in
     (shifted_word a b (count_is b c.0) ∙ kept_word_int (a *ℤ pos (2 ^ unsigned_abs b)) z k, kept_in_int (a *ℤ pos (2 ^ unsigned_abs b)) z k)
 left_computes Long p a b z ha hb h =
-    let c = if_some (is_count int_type b) (if int_lt a (pos 0) then None else kept int_type (a *ℤ pos (2 ^ unsigned_abs b))) z h in
-    let k = if_none (int_lt a (pos 0)) (kept int_type (a *ℤ pos (2 ^ unsigned_abs b))) z c.1 in
+    let c = if_some (is_shift_count int_type b) (if int_lt a (pos 0) then None else result_of_type int_type (a *ℤ pos (2 ^ unsigned_abs b))) z h in
+    let k = if_none (int_lt a (pos 0)) (result_of_type int_type (a *ℤ pos (2 ^ unsigned_abs b))) z c.1 in
     (shifted_word a b (count_is b c.0) ∙ kept_word_int (a *ℤ pos (2 ^ unsigned_abs b)) z k, kept_in_int (a *ℤ pos (2 ^ unsigned_abs b)) z k)
 left_computes UnsignedInt p a b z ha hb h =
-    let c = if_some (is_count unsigned_type b) (kept unsigned_type (a *ℤ pos (2 ^ unsigned_abs b))) z h in
+    let c = if_some (is_shift_count unsigned_type b) (result_of_type unsigned_type (a *ℤ pos (2 ^ unsigned_abs b))) z h in
     (shifted_word a b (count_is b c.0) ∙ kept_word_unsigned (a *ℤ pos (2 ^ unsigned_abs b)) z c.1, kept_in_unsigned (a *ℤ pos (2 ^ unsigned_abs b)) z c.1)
 left_computes UnsignedLong p a b z ha hb h =
-    let c = if_some (is_count unsigned_type b) (kept unsigned_type (a *ℤ pos (2 ^ unsigned_abs b))) z h in
+    let c = if_some (is_shift_count unsigned_type b) (result_of_type unsigned_type (a *ℤ pos (2 ^ unsigned_abs b))) z h in
     (shifted_word a b (count_is b c.0) ∙ kept_word_unsigned (a *ℤ pos (2 ^ unsigned_abs b)) z c.1, kept_in_unsigned (a *ℤ pos (2 ^ unsigned_abs b)) z c.1)
 
 shifted_in : (a : ℤ) (k : ℕ) → InWord a → InWord (shifted_down a k)
@@ -227,11 +227,11 @@ shifted_in (negsuc m) k h = let lt : m < 2147483648 = h in let le = shr_le m k i
 
 signed_shift : (a n z : ℤ) → holds int_type a ≡ true → right_shift int_type a n ≡ Some z → (shifted_right_signed (word_of a) (word_of n) ≡ word_of z) × InWord z
 signed_shift a n z ha h =
-    let d = if_first (is_count int_type n) (shifted_down a (unsigned_abs n)) z h in
+    let d = if_first (is_shift_count int_type n) (shifted_down a (unsigned_abs n)) z h in
     let c = count_is n d.0 in
     let within = shifted_in a c.count (in_word Int a ha) in
     let is : shifted_down a c.count ≡ z = ap (λ k. shifted_down a (unsigned_abs k)) (sym c.is) ∙ d.1 in (
-      ap (λ k. shifted_right_signed (word_of a) (word_of k)) c.is ∙ ap (λ k. of-words.word_of (shifted_down (signed (word_of a)) k)) (count_bits c.count c.below) ∙ ap (λ k. of-words.word_of (shifted_down k c.count)) (signed_word a ha)
+      ap (λ k. shifted_right_signed (word_of a) (word_of k)) c.is ∙ ap (λ k. of-words.word_of (shifted_down (signed_number (word_of a)) k)) (count_bits c.count c.below) ∙ ap (λ k. of-words.word_of (shifted_down k c.count)) (signed_word a ha)
           ∙ bits_word (shifted_down a c.count) within ∙ ap word_of is,
       subst InWord is within,
     )
@@ -239,7 +239,7 @@ signed_shift a n z ha h =
 unsigned_shift : (a n z : ℤ) → holds unsigned_type a ≡ true → right_shift unsigned_type a n ≡ Some z → (shifted_right (word_of a) (word_of n) ≡ word_of z) × InWord z
 unsigned_shift (negsuc m) n z ha h = cc
 unsigned_shift (pos m) n z ha h =
-    let d = if_first (is_count unsigned_type n) (shifted_down (pos m) (unsigned_abs n)) z h in
+    let d = if_first (is_shift_count unsigned_type n) (shifted_down (pos m) (unsigned_abs n)) z h in
     let c = count_is n d.0 in
     let hm : m < 4294967296 = in_word UnsignedInt (pos m) ha in
     let within = shifted_in (pos m) c.count hm in
@@ -262,7 +262,7 @@ right_computes Long p a b z ha hb h = signed_shift a b z ha h
 right_computes UnsignedLong p a b z ha hb h = unsigned_shift a b z ha h
 
 -- the number of a type that has some bits, and its word
-int_bits : (k : ℕ) → k < 4294967296 → (word_of (number_of int_type k) ≡ k) × InWord (number_of int_type k)
+int_bits : (k : ℕ) → k < 4294967296 → (word_of (number_of_bits int_type k) ≡ k) × InWord (number_of_bits int_type k)
 int_bits k lt = go (nat_le 2147483648 k) refl
   where
     high : 2147483648 ≤ k → (y : ℤ) → pos k -ℤ pos 4294967296 ≡ y → (word_of y ≡ k) × InWord y
@@ -273,7 +273,7 @@ int_bits k lt = go (nat_le 2147483648 k) refl
     go true e = high (leb-true 2147483648 k e) (pos k -ℤ pos 4294967296) refl
     go false e = (omega (arith, lt), lt)
 
-unsigned_bits : (k : ℕ) → k < 4294967296 → (word_of (number_of unsigned_type k) ≡ k) × InWord (number_of unsigned_type k)
+unsigned_bits : (k : ℕ) → k < 4294967296 → (word_of (number_of_bits unsigned_type k) ≡ k) × InWord (number_of_bits unsigned_type k)
 unsigned_bits k lt = (omega (arith, lt), lt)
 
 -- an operation on the bits of numbers of a type of 32 bits

@@ -19,8 +19,8 @@ use Rattle.c_meaning.specs.Statements.{execute_all}
 use Rattle.c_meaning.specs.Runs.{activate, calls_of, finished}
 use Rattle.graph_core.specs.Graphs.{Graph, UnitForm, Return}
 use Rattle.graph_core.specs.Memory.{Memory, first_memory as unit_memory}
-use Rattle.graph_core.specs.Runs.{Configuration, Event, Exited, TooDeep, Ends as StepEnds, step, run, run_some, enter, unit_run, after, exited}
-use Rattle.graph_build_names.specs.Conversions.{word_of}
+use Rattle.graph_core.specs.Runs.{Configuration, Event, Exited, TooDeep, Ends as StepEnds, step, run, run_some, enter, unit_run, events_after, exited}
+use Rattle.graph_build_names.specs.Conversions.{unsigned_bits}
 use Rattle.event_runs.specs.Agreement.{Pairs}
 use Rattle.event_runs.specs.Following.{Reached}
 use Rattle.graph_build_runs.specs.Typed.{IsOf}
@@ -54,7 +54,7 @@ ran u c d es fs (goes {d = b} s p) =
       steps = suc r.steps;
       shown = r.shown;
       is = r.is;
-      runs = λ m k e. (let same : k ≡ suc (r.steps + m) = omega (arith, e) in ap (λ n. run u n c) same ∙ ap (λ z. after z (run u (r.steps + m))) s ∙ r.runs m (r.steps + m) refl);
+      runs = λ m k e. (let same : k ≡ suc (r.steps + m) = omega (arith, e) in ap (λ n. run u n c) same ∙ ap (λ z. events_after z (run u (r.steps + m))) s ∙ r.runs m (r.steps + m) refl);
     }
 ran u c d es fs (shows {d = b} {e = e} s p) =
     let r = ran u b d (es ++ e ∷ []) fs p in
@@ -62,7 +62,7 @@ ran u c d es fs (shows {d = b} {e = e} s p) =
       steps = suc r.steps;
       shown = e ∷ r.shown;
       is = r.is ∙ append_assoc es (e ∷ []) r.shown;
-      runs = λ m k q. (let same : k ≡ suc (r.steps + m) = omega (arith, q) in ap (λ n. run u n c) same ∙ ap (λ z. after z (run u (r.steps + m))) s ∙ ap (λ xs. e ∷ xs) (r.runs m (r.steps + m) refl));
+      runs = λ m k q. (let same : k ≡ suc (r.steps + m) = omega (arith, q) in ap (λ n. run u n c) same ∙ ap (λ z. events_after z (run u (r.steps + m))) s ∙ ap (λ xs. e ∷ xs) (r.runs m (r.steps + m) refl));
     }
 
 module _ (p : ProgramTree) (u : UnitForm) (c : Configuration) where
@@ -81,7 +81,7 @@ module _ (p : ProgramTree) (u : UnitForm) (c : Configuration) where
         steps = r.steps + 1;
         shown = seen ++ f ∷ [];
         more = [];
-        is = r.runs 1 (r.steps + 1) refl ∙ ap (λ z. r.shown ++ after z (run u 0)) ends ∙ ap (λ xs. xs ++ f ∷ []) (sym r.is) ∙ sym (append-nil (seen ++ f ∷ []));
+        is = r.runs 1 (r.steps + 1) refl ∙ ap (λ z. r.shown ++ events_after z (run u 0)) ends ∙ ap (λ xs. xs ++ f ∷ []) (sym r.is) ∙ sym (append-nil (seen ++ f ∷ []));
         same = pairs_more (SameEvent p u) es seen e f pairs same;
       }
 
@@ -98,13 +98,13 @@ module _ (p : ProgramTree) (u : UnitForm) (f : ℕ) (tree : TypedFunctionTree) (
   shown_final n (Gives (source.Number z) s) h =
       let o = h.hands.0 in
       let leads = subst (λ a. Leads u c [] (before_in main_in h.place [] (Return a) h.local h.world) h.world.seen) h.hands.1 h.leads in
-      reached_end p u c s.events (before_in main_in h.place [] (Return (Some o)) h.local h.world) h.world.seen (source-event.Exited z) (Exited (word_of z)) leads h.fits.events (ap exited h.hands.2) (event.exited (status s.memory z (subst (λ t. IsOf s.memory t (source.Number z)) gives h.hands.3)))
+      reached_end p u c s.events (before_in main_in h.place [] (Return (Some o)) h.local h.world) h.world.seen (source-event.Exited z) (Exited (unsigned_bits z)) leads h.fits.events (ap exited h.hands.2) (event.exited (status s.memory z (subst (λ t. IsOf s.memory t (source.Number z)) gives h.hands.3)))
   shown_final n (Gives source.Null s) h = reached_so p u c s.events (before_in main_in h.place [] (Return h.operand) h.local h.world) h.world.seen h.leads h.fits.events
   shown_final n (Gives (source.Pointer m offset) s) h = reached_so p u c s.events (before_in main_in h.place [] (Return h.operand) h.local h.world) h.world.seen h.leads h.fits.events
   shown_final n (Leaves s) h = reached_so p u c s.events (before_in main_in h.place [] (Return h.operand) h.local h.world) h.world.seen h.leads h.fits.events
   shown_final n (Ends ending.Undefined s) h = reached_so p u c s.events h.configuration h.seen h.leads h.ends
   shown_final n (Ends ending.Turns s) h = reached_so p u c s.events h.configuration h.seen h.leads h.ends
-  shown_final n (Ends (ending.Exit z) s) h = reached_end p u c s.events h.configuration h.seen (source-event.Exited z) (Exited (word_of z)) h.leads h.ends.0 h.ends.1 (event.exited h.ends.2)
+  shown_final n (Ends (ending.Exit z) s) h = reached_end p u c s.events h.configuration h.seen (source-event.Exited z) (Exited (unsigned_bits z)) h.leads h.ends.0 h.ends.1 (event.exited h.ends.2)
   shown_final n (Ends ending.Depth s) h = reached_end p u c s.events h.configuration h.seen source-event.TooDeep TooDeep h.leads h.ends.0 h.ends.1 event.deep
 
 module _ (p : ProgramTree) (u : UnitForm) where

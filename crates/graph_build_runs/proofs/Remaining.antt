@@ -12,8 +12,8 @@ use Rattle.c_tree.specs.declared.typed_expression.Arithmetic.TheVariants as arit
 use Rattle.c_type_rules.specs.Constants.{calculated}
 use Rattle.c_type_rules.specs.Integers.{integer}
 use Rattle.word_base.specs.Types as word
-use Rattle.word_base.specs.Types.{holds, in_range, unsigned_type, int_type, number_of, modulo}
-use Rattle.word_base.specs.Operations.{kept, remainder, is_count, right_shift, on_bits}
+use Rattle.word_base.specs.Types.{holds, in_range, unsigned_type, int_type, number_of_bits, modulo}
+use Rattle.word_base.specs.Operations.{result_of_type, remainder, is_shift_count, right_shift, on_bits}
 use Rattle.word_base.specs.Words.{shifted_down}
 use Rattle.c_type_laws.specs.Kinds.{is_promoted}
 use Rattle.graph_build_runs.proofs.Words.{both_true, in_range_is}
@@ -80,23 +80,23 @@ unsigned_remainder (pos m) (pos n) z ha hb h =
 
 int_shifted : (a n z : ℤ) → holds int_type a ≡ true → right_shift int_type a n ≡ Some z → holds int_type z ≡ true
 int_shifted (pos m) n z ha h =
-    let r = some_or (is_count int_type n) (shifted_down (pos m) (unsigned_abs n)) z h in
+    let r = some_or (is_shift_count int_type n) (shifted_down (pos m) (unsigned_abs n)) z h in
     let le = int_bound m ha in let less = shr_le m (unsigned_abs n) in
     ap (holds int_type) (sym r) ∙ between (m / 2 ^ unsigned_abs n) (omega (arith, le, less))
 int_shifted (negsuc m) n z ha h =
-    let r = some_or (is_count int_type n) (shifted_down (negsuc m) (unsigned_abs n)) z h in
+    let r = some_or (is_shift_count int_type n) (shifted_down (negsuc m) (unsigned_abs n)) z h in
     let le = int_below m ha in let less = shr_le m (unsigned_abs n) in
     ap (holds int_type) (sym r) ∙ between_below (m / 2 ^ unsigned_abs n) (omega (arith, le, less))
 
 unsigned_shifted : (a n z : ℤ) → holds unsigned_type a ≡ true → right_shift unsigned_type a n ≡ Some z → holds unsigned_type z ≡ true
 unsigned_shifted (negsuc m) n z ha h = cc
 unsigned_shifted (pos m) n z ha h =
-    let r = some_or (is_count unsigned_type n) (shifted_down (pos m) (unsigned_abs n)) z h in
+    let r = some_or (is_shift_count unsigned_type n) (shifted_down (pos m) (unsigned_abs n)) z h in
     let le = unsigned_bound m ha in let less = shr_le m (unsigned_abs n) in
     ap (holds unsigned_type) (sym r) ∙ between_unsigned (m / 2 ^ unsigned_abs n) (omega (arith, le, less))
 
 -- the number of a type that has some bits
-int_of_bits : (k : ℕ) → k < 4294967296 → holds int_type (number_of int_type k) ≡ true
+int_of_bits : (k : ℕ) → k < 4294967296 → holds int_type (number_of_bits int_type k) ≡ true
 int_of_bits k lt = go (nat_le 2147483648 k) refl
   where
     high : 2147483648 ≤ k → (y : ℤ) → pos k -ℤ pos 4294967296 ≡ y → holds int_type y ≡ true
@@ -132,7 +132,7 @@ int_remains arithmetic-is.Remainder a b z ha (inr (inr e)) h = cc
 int_remains arithmetic-is.Add a b z ha hb h = kept_holds Int (a +ℤ b) z h
 int_remains arithmetic-is.Subtract a b z ha hb h = kept_holds Int (a -ℤ b) z h
 int_remains arithmetic-is.ShiftLeft a b z ha hb h =
-    kept_holds Int (a *ℤ pos (2 ^ unsigned_abs b)) z (none_or (int_lt a (pos 0)) (kept int_type (a *ℤ pos (2 ^ unsigned_abs b))) z (none_or (not (is_count int_type b)) (if int_lt a (pos 0) then None else kept int_type (a *ℤ pos (2 ^ unsigned_abs b))) z h))
+    kept_holds Int (a *ℤ pos (2 ^ unsigned_abs b)) z (none_or (int_lt a (pos 0)) (result_of_type int_type (a *ℤ pos (2 ^ unsigned_abs b))) z (none_or (not (is_shift_count int_type b)) (if int_lt a (pos 0) then None else result_of_type int_type (a *ℤ pos (2 ^ unsigned_abs b))) z h))
 int_remains arithmetic-is.ShiftRight a b z ha hb h = int_shifted a b z ha h
 int_remains arithmetic-is.BitAnd a b z ha hb h = int_of_two bit_and and_lt a b z h
 int_remains arithmetic-is.BitXor a b z ha hb h = int_of_two bit_xor (xor_lt 32) a b z h
@@ -147,7 +147,7 @@ unsigned_remains arithmetic-is.Remainder a b z ha (inr (inl e)) h = cc
 unsigned_remains arithmetic-is.Remainder a b z ha (inr (inr e)) h = cc
 unsigned_remains arithmetic-is.Add a b z ha hb h = kept_holds UnsignedInt (a +ℤ b) z h
 unsigned_remains arithmetic-is.Subtract a b z ha hb h = kept_holds UnsignedInt (a -ℤ b) z h
-unsigned_remains arithmetic-is.ShiftLeft a b z ha hb h = kept_holds UnsignedInt (a *ℤ pos (2 ^ unsigned_abs b)) z (none_or (not (is_count unsigned_type b)) (kept unsigned_type (a *ℤ pos (2 ^ unsigned_abs b))) z h)
+unsigned_remains arithmetic-is.ShiftLeft a b z ha hb h = kept_holds UnsignedInt (a *ℤ pos (2 ^ unsigned_abs b)) z (none_or (not (is_shift_count unsigned_type b)) (result_of_type unsigned_type (a *ℤ pos (2 ^ unsigned_abs b))) z h)
 unsigned_remains arithmetic-is.ShiftRight a b z ha hb h = unsigned_shifted a b z ha h
 unsigned_remains arithmetic-is.BitAnd a b z ha hb h = unsigned_of_two bit_and and_lt a b z h
 unsigned_remains arithmetic-is.BitXor a b z ha hb h = unsigned_of_two bit_xor (xor_lt 32) a b z h

@@ -15,18 +15,18 @@ use Rattle.c_type_laws.specs.Kinds.{is_promoted}
 use Rattle.c_meaning_values.specs.declared.value.Value as source-value
 use Rattle.c_meaning_values.specs.declared.value.Value.TheVariants as source
 use Rattle.c_meaning_values.specs.Memory.{Memory as SourceMemory}
-use Rattle.c_meaning_values.specs.Operations.{convert, moved_by}
+use Rattle.c_meaning_values.specs.Operations.{convert, moved_by_elements}
 use Rattle.c_meaning_steps.specs.States.{State}
-use Rattle.c_meaning_steps.specs.Steps.{updated}
+use Rattle.c_meaning_steps.specs.Steps.{updated_value}
 use Rattle.graph_core.specs.declared.value.Value.{Value}
 use Rattle.graph_core.specs.declared.value.Value.TheVariants.{Number}
 use Rattle.graph_core.specs.Graphs.{Operand, Name, Constant, StaticAddress, Operate, Truncate}
 use Rattle.graph_core.specs.Runs.{Goes, value}
 use Rattle.graph_core.specs.Values.{operate, truncate}
-use Rattle.graph_build_names.specs.Conversions.{word_of, is_narrow, is_within}
+use Rattle.graph_build_names.specs.Conversions.{unsigned_bits, is_narrow, is_within}
 use Rattle.graph_build_names.specs.Scales.{scaled}
 use Rattle.graph_build_steps.specs.Rules.{truncation_to, operation_for, move_by}
-use Rattle.graph_build_steps.specs.Drafts.{Made, before, scale, renew}
+use Rattle.graph_build_steps.specs.Drafts.{Made, instruction_before, scale, renew}
 use Rattle.graph_build_steps.specs.declared.change.Change as declared-change
 use Rattle.graph_build_steps.specs.declared.change.Change.TheVariants as change
 use Rattle.graph_build_steps.specs.Steps.{changed}
@@ -65,37 +65,37 @@ promoted_wide Long p = refl
 promoted_wide UnsignedLong p = refl
 
 -- a conversion to a type that is not narrow keeps the word
-wide_kept : (t u : IntegerType) (z : ℤ) → is_narrow u ≡ false → holds (integer t) z ≡ true → word_of (wrapped u z) ≡ word_of z
+wide_kept : (t u : IntegerType) (z : ℤ) → is_narrow u ≡ false → holds (integer t) z ≡ true → unsigned_bits (wrapped u z) ≡ unsigned_bits z
 wide_kept t u z e h = kept_word t u z (ap (λ b. not b || is_within t u) e) h
 
 module _ (x : Setting) (P : Local → Type 0) (temporary : (l : Local) (j : ℕ) (v : Value) → size_in x ≤ j → P l → P (set_name l j v)) (o : declared-arithmetic.Arithmetic) (ty v : IntegerType) (promoted : is_promoted v ≡ true) (computes : Computes o v) (remains : Remains o v) where
   -- A new integer: the operation's result, truncated where its type is narrow.
-  pub renew_integer : (k t free : ℕ) (old by : Operand) (m : Made) (l : Local) (w : World) (zo zb z : ℤ) → size_in x ≤ t → P l → holds (integer ty) zo ≡ true → IsRight o v zb → value x.unit.statics l.names old ≡ Number (word_of zo) → value x.unit.statics l.names by ≡ Number (word_of zb)
-      → calculated o v (wrapped v zo) zb ≡ Some z → Renewed x P k t free (renew ty k t (λ y. Operate y (operation_for o v) old by) m) m l w (Number (word_of (wrapped ty z)))
+  pub renew_integer : (k t free : ℕ) (old by : Operand) (m : Made) (l : Local) (w : World) (zo zb z : ℤ) → size_in x ≤ t → P l → holds (integer ty) zo ≡ true → IsRight o v zb → value x.unit.statics l.names old ≡ Number (unsigned_bits zo) → value x.unit.statics l.names by ≡ Number (unsigned_bits zb)
+      → calculated o v (wrapped v zo) zb ≡ Some z → Renewed x P k t free (renew ty k t (λ y. Operate y (operation_for o v) old by) m) m l w (Number (unsigned_bits (wrapped ty z)))
   renew_integer k t free old by m l w zo zb z size p ho hb same_o same_b gives = by_width (is_narrow ty) refl
     where
-      old_word : word_of (wrapped v zo) ≡ word_of zo
+      old_word : unsigned_bits (wrapped v zo) ≡ unsigned_bits zo
       old_word = wide_kept ty v zo (promoted_wide v promoted) ho
 
-      first : operate (operation_for o v) (value x.unit.statics l.names old) (value x.unit.statics l.names by) ≡ Number (word_of z)
+      first : operate (operation_for o v) (value x.unit.statics l.names old) (value x.unit.statics l.names by) ≡ Number (unsigned_bits z)
       first =
-          ap (λ a. operate (operation_for o v) a (value x.unit.statics l.names by)) (same_o ∙ ap Number (sym old_word)) ∙ ap (operate (operation_for o v) (Number (word_of (wrapped v zo)))) same_b
+          ap (λ a. operate (operation_for o v) a (value x.unit.statics l.names by)) (same_o ∙ ap Number (sym old_word)) ∙ ap (operate (operation_for o v) (Number (unsigned_bits (wrapped v zo)))) same_b
           ∙ ap Number (computes (wrapped v zo) zb z (wrapped_holds v zo) hb gives).0
 
       by_width : (c : Bool) → is_narrow ty ≡ c
-          → Renewed x P k t free (if c then before (Operate t (operation_for o v) old by) (before (Truncate k (truncation_to ty) (Name t)) m) else before (Operate k (operation_for o v) old by) m) m l w (Number (word_of (wrapped ty z)))
+          → Renewed x P k t free (if c then instruction_before (Operate t (operation_for o v) old by) (instruction_before (Truncate k (truncation_to ty) (Name t)) m) else instruction_before (Operate k (operation_for o v) old by) m) m l w (Number (unsigned_bits (wrapped ty z)))
       by_width true e =
-          let l1 = set_name l t (Number (word_of z)) in
+          let l1 = set_name l t (Number (unsigned_bits z)) in
           record {
             local = l1;
             leads = goes (ap (λ a. Goes (at x (Truncate k (truncation_to ty) (Name t) ∷ m.ops) m.end (set_name l t a) w)) first)
-                (goes (ap (λ a. Goes (at x m.ops m.end (set_name l1 k (truncate (truncation_to ty) a)) w)) (put_here l.names t (Number (word_of z))) ∙ ap (λ a. Goes (at x m.ops m.end (set_name l1 k (Number a)) w)) (truncated_word ty z e)) stays);
-            holds = temporary l t (Number (word_of z)) size p;
-            kept = λ y lt ne. put_elsewhere l.names t y (Number (word_of z)) ne;
+                (goes (ap (λ a. Goes (at x m.ops m.end (set_name l1 k (truncate (truncation_to ty) a)) w)) (put_here l.names t (Number (unsigned_bits z))) ∙ ap (λ a. Goes (at x m.ops m.end (set_name l1 k (Number a)) w)) (truncated_word ty z e)) stays);
+            holds = temporary l t (Number (unsigned_bits z)) size p;
+            kept = λ y lt ne. put_elsewhere l.names t y (Number (unsigned_bits z)) ne;
             shadows = refl;
           }
       by_width false e =
-          let wide : word_of z ≡ word_of (wrapped ty z) = sym (wide_kept v ty z e (remains (wrapped v zo) zb z (wrapped_holds v zo) hb gives)) in
+          let wide : unsigned_bits z ≡ unsigned_bits (wrapped ty z) = sym (wide_kept v ty z e (remains (wrapped v zo) zb z (wrapped_holds v zo) hb gives)) in
           record {
             local = l;
             leads = goes (ap (λ a. Goes (at x m.ops m.end (set_name l k a) w)) (first ∙ ap Number wide)) stays;
@@ -106,10 +106,10 @@ module _ (x : Setting) (P : Local → Type 0) (temporary : (l : Local) (j : ℕ)
 
 -- A new pointer: the old one, moved by a scaled index.
 pub renew_pointer : (x : Setting) (P : Local → Type 0) (temporary : (l : Local) (j : ℕ) (v : Value) → size_in x ≤ j → P l → P (set_name l j v)) (d : Direction) (bytes k t free : ℕ) (old by : Operand) (m : Made) (l : Local) (w : World) (z : ℤ) → size_in x ≤ free → IsBelow free old → P l
-    → value x.unit.statics l.names by ≡ Number (word_of z)
-    → Renewed x P k t free (scale bytes by free (before (Operate k (move_by d) old (scaled bytes by free)) m)) m l w (operate (move_by d) (value x.unit.statics l.names old) (Number (word_of (z *ℤ pos bytes))))
+    → value x.unit.statics l.names by ≡ Number (unsigned_bits z)
+    → Renewed x P k t free (scale bytes by free (instruction_before (Operate k (move_by d) old (scaled bytes by free)) m)) m l w (operate (move_by d) (value x.unit.statics l.names old) (Number (unsigned_bits (z *ℤ pos bytes))))
 renew_pointer x P temporary d bytes k t free old by m l w z size below p same_b =
-    let n = before (Operate k (move_by d) old (scaled bytes by free)) m in
+    let n = instruction_before (Operate k (move_by d) old (scaled bytes by free)) m in
     let c = scale_done x P temporary bytes by free n l w z size p same_b in
     record {
       local = c.local;
@@ -147,14 +147,14 @@ IsNumber (source.Pointer n offset) = ⊥
 
 -- an operator on integers, its result converted to a type
 pub integer_changes : (x : Setting) (o : declared-arithmetic.Arithmetic) (ty v : IntegerType) → is_promoted v ≡ true → Computes o v → Remains o v
-    → Changes x (change.Integer o ty v) (Integer ty) (IsRightValue o v) (λ memory a b. updated o ty v a b)
+    → Changes x (change.Integer o ty v) (Integer ty) (IsRightValue o v) (λ memory a b. updated_value o ty v a b)
 integer_changes x o ty v promoted computes remains = record {
   renews = λ P temporary k t free old by m s want f l w vo vb new size size2 below sound fits p ho hb same_o same_b gives.
       go P temporary k t free old by m s w l vo vb new size p ho hb same_o same_b gives;
   typed = λ memory vo vb new ho hb gives. is_typed memory vo vb new ho hb gives;
 }
   where
-    is_typed : (memory : SourceMemory) (vo vb new : source-value.Value) → IsOf memory (Integer ty) vo → IsRightValue o v vb → updated o ty v vo vb ≡ Some new → IsOf memory (Integer ty) new
+    is_typed : (memory : SourceMemory) (vo vb new : source-value.Value) → IsOf memory (Integer ty) vo → IsRightValue o v vb → updated_value o ty v vo vb ≡ Some new → IsOf memory (Integer ty) new
     is_typed memory (source.Number zo) (source.Number zb) new ho hb gives = by_result (calculated o v (wrapped v zo) zb) gives
       where
         by_result : (r : Option ℤ) → option_and_then (λ a. convert ty a) (option_map source.Number r) ≡ Some new → IsOf memory (Integer ty) new
@@ -166,7 +166,7 @@ integer_changes x o ty v promoted computes remains = record {
     is_typed memory (source.Pointer n i) vb new ho hb gives = absurd ho
 
     go : (P : Local → Type 0) (temporary : (l : Local) (j : ℕ) (u : Value) → size_in x ≤ j → P l → P (set_name l j u)) (k t free : ℕ) (old by : Operand) (m : Made) (s : State) (w : World) (l : Local) (vo vb new : source-value.Value) → size_in x ≤ t → P l → IsOf s.memory (Integer ty) vo → IsRightValue o v vb
-        → SameValue x.program s.memory w.memory vo (value x.unit.statics l.names old) → SameValue x.program s.memory w.memory vb (value x.unit.statics l.names by) → updated o ty v vo vb ≡ Some new
+        → SameValue x.program s.memory w.memory vo (value x.unit.statics l.names old) → SameValue x.program s.memory w.memory vb (value x.unit.statics l.names by) → updated_value o ty v vo vb ≡ Some new
         → (given : Value) × Renewed x P k t free (renew ty k t (λ y. Operate y (operation_for o v) old by) m) m l w given × SameValue x.program s.memory w.memory new given
     go P temporary k t free old by m s w l (source.Number zo) (source.Number zb) new size p ho hb same_o same_b gives = by_result (calculated o v (wrapped v zo) zb) refl gives
       where
@@ -175,30 +175,30 @@ integer_changes x o ty v promoted computes remains = record {
         by_result None e h = cc
         by_result (Some z) e h =
             let same : source.Number (wrapped ty z) ≡ new = some_same h in
-            (Number (word_of (wrapped ty z)), renew_integer x P temporary o ty v promoted computes remains k t free old by m l w zo zb z size p ho hb same_o same_b e, subst (λ a. SameValue x.program s.memory w.memory a (Number (word_of (wrapped ty z)))) same refl)
+            (Number (unsigned_bits (wrapped ty z)), renew_integer x P temporary o ty v promoted computes remains k t free old by m l w zo zb z size p ho hb same_o same_b e, subst (λ a. SameValue x.program s.memory w.memory a (Number (unsigned_bits (wrapped ty z)))) same refl)
     go P temporary k t free old by m s w l (source.Number zo) source.Null new size p ho hb same_o same_b gives = absurd hb
     go P temporary k t free old by m s w l (source.Number zo) (source.Pointer n i) new size p ho hb same_o same_b gives = absurd hb
     go P temporary k t free old by m s w l source.Null vb new size p ho hb same_o same_b gives = absurd ho
     go P temporary k t free old by m s w l (source.Pointer n i) vb new size p ho hb same_o same_b gives = absurd ho
 
 -- a pointer that is moved
-pub pointer_changes : (x : Setting) (d : Direction) (of : ObjectType) → AreSmall x.program → Changes x (change.Pointer d (object_size of)) (PointerType of) IsNumber (λ memory a b. moved_by memory d of a b)
+pub pointer_changes : (x : Setting) (d : Direction) (of : ObjectType) → AreSmall x.program → Changes x (change.Pointer d (object_size of)) (PointerType of) IsNumber (λ memory a b. moved_by_elements memory d of a b)
 pointer_changes x d of small = record {
   renews = λ P temporary k t free old by m s want f l w vo vb new size size2 below sound fits p ho hb same_o same_b gives.
       go P temporary k t free old by m s want f l w vo vb new size2 below sound fits p hb same_o same_b gives;
   typed = λ memory vo vb new ho hb gives. is_typed memory vo vb new ho hb gives;
 }
   where
-    is_typed : (memory : SourceMemory) (vo vb new : source-value.Value) → IsOf memory (PointerType of) vo → IsNumber vb → moved_by memory d of vo vb ≡ Some new → IsOf memory (PointerType of) new
+    is_typed : (memory : SourceMemory) (vo vb new : source-value.Value) → IsOf memory (PointerType of) vo → IsNumber vb → moved_by_elements memory d of vo vb ≡ Some new → IsOf memory (PointerType of) new
     is_typed memory vo (source.Number z) new ho hb gives = moved_typed memory d of vo z new ho gives
     is_typed memory vo source.Null new ho hb gives = absurd hb
     is_typed memory vo (source.Pointer n i) new ho hb gives = absurd hb
 
     go : (P : Local → Type 0) (temporary : (l : Local) (j : ℕ) (u : Value) → size_in x ≤ j → P l → P (set_name l j u)) (k t free : ℕ) (old by : Operand) (m : Made) (s : State) (want : Option ℕ) (f l : Local) (w : World) (vo vb new : source-value.Value) → size_in x ≤ free → IsBelow free old
-        → Sound x.program x.begun s → Fits x want s f w → P l → IsNumber vb → SameValue x.program s.memory w.memory vo (value x.unit.statics l.names old) → SameValue x.program s.memory w.memory vb (value x.unit.statics l.names by) → moved_by s.memory d of vo vb ≡ Some new
-        → (given : Value) × Renewed x P k t free (scale (object_size of) by free (before (Operate k (move_by d) old (scaled (object_size of) by free)) m)) m l w given × SameValue x.program s.memory w.memory new given
+        → Sound x.program x.begun s → Fits x want s f w → P l → IsNumber vb → SameValue x.program s.memory w.memory vo (value x.unit.statics l.names old) → SameValue x.program s.memory w.memory vb (value x.unit.statics l.names by) → moved_by_elements s.memory d of vo vb ≡ Some new
+        → (given : Value) × Renewed x P k t free (scale (object_size of) by free (instruction_before (Operate k (move_by d) old (scaled (object_size of) by free)) m)) m l w given × SameValue x.program s.memory w.memory new given
     go P temporary k t free old by m s want f l w vo (source.Number z) new size below sound fits p hb same_o same_b gives = (
-      operate (move_by d) (value x.unit.statics l.names old) (Number (word_of (z *ℤ pos (object_size of)))),
+      operate (move_by d) (value x.unit.statics l.names old) (Number (unsigned_bits (z *ℤ pos (object_size of)))),
       renew_pointer x P temporary d (object_size of) k t free old by m l w z size below p same_b,
       pointer_moves x want s f w d of vo z new (value x.unit.statics l.names old) sound fits small same_o gives,
     )

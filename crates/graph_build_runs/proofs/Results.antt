@@ -7,17 +7,17 @@ use Rattle.c_meaning_steps.specs.declared.event.Ending.{Ending}
 use Rattle.c_meaning_steps.specs.declared.event.Ending.TheVariants as ending
 use Rattle.c_meaning_values.specs.Memory.{is_usable}
 use Rattle.c_meaning_values.specs.Operations.{is_true}
-use Rattle.c_meaning_steps.specs.States.{State, Evaluated, Gives, Leaves, Ends, Tested, Holds, Fails, NoTest, tested, with}
+use Rattle.c_meaning_steps.specs.States.{State, Evaluated, Gives, Leaves, Ends, Tested, Holds, Fails, NoTest, condition_tested, with}
 use Rattle.graph_core.specs.declared.value.Value.{Value}
 use Rattle.graph_core.specs.declared.value.Value.TheVariants.{Number, Pointer, Odd}
 use Rattle.graph_core.specs.Graphs.{Operand, Name, Constant, StaticAddress, Instruction, End, Block}
 use Rattle.graph_core.specs.Graphs as unit
 use Rattle.graph_core.specs.Memory.{is_live}
-use Rattle.graph_core.specs.Runs.{Activation, Configuration, Event, Exited, TooDeep, Stepped, Goes, Ends as StepEnds, Wild, put, step, value, entered, go_to, branched}
+use Rattle.graph_core.specs.Runs.{Activation, Configuration, Event, Exited, TooDeep, Stepped, Goes, Ends as StepEnds, Wild, with_value_at, step, value, entered, go_to, branched}
 use Rattle.graph_core.specs.Values.{holds}
 use Rattle.graph_core.specs.declared.block.Comparison.TheVariants.{NotEqual}
-use Rattle.graph_build_names.specs.Conversions.{word_of}
-use Rattle.graph_build_steps.specs.Drafts.{Made, Goal, To, Unused, Either, before, leaf, target, follow}
+use Rattle.graph_build_names.specs.Conversions.{unsigned_bits}
+use Rattle.graph_build_steps.specs.Drafts.{Made, Goal, To, Unused, Either, instruction_before, leaf, target, follow}
 use Rattle.event_runs.specs.Agreement.{Pairs}
 use Rattle.graph_build_runs.specs.Stops.{IsStatus}
 use Rattle.graph_build_runs.specs.Correspondence.{SameValue, SameEvent}
@@ -53,7 +53,7 @@ to_label x ops end l w label l' w' = (b : Block) → slice_get x.graph.blocks la
 -- How a run ends there as the source's does.
 abbrev pub EndsBy : Setting → Ending → State → Configuration → List Event → Type 0
 EndsBy x ending.Undefined s c seen = Pairs (SameEvent x.program x.unit) s.events seen
-EndsBy x (ending.Exit z) s c seen = Pairs (SameEvent x.program x.unit) s.events seen × (step x.unit c ≡ StepEnds (Exited (word_of z))) × IsStatus z
+EndsBy x (ending.Exit z) s c seen = Pairs (SameEvent x.program x.unit) s.events seen × (step x.unit c ≡ StepEnds (Exited (unsigned_bits z))) × IsStatus z
 EndsBy x ending.Depth s c seen = Pairs (SameEvent x.program x.unit) s.events seen × (step x.unit c ≡ StepEnds TooDeep)
 EndsBy x ending.Turns s c seen = Pairs (SameEvent x.program x.unit) s.events seen
 
@@ -93,7 +93,7 @@ EitherR x one other t written ops end l w (NoTest e s) = Stuck x ops end l w e s
 abbrev pub Result : Setting → Goal → Operand → ℕ → (ℕ → Bool) → List Instruction → End → Local → World → Evaluated → Type 0
 Result x (To want m) a t written ops end l w r = ToR x want m a t written ops end l w r
 Result x (Unused m) a t written ops end l w r = UnusedR x m t written ops end l w r
-Result x (Either one other inner) a t written ops end l w r = EitherR x one other t written ops end l w (tested r)
+Result x (Either one other inner) a t written ops end l w r = EitherR x one other t written ops end l w (condition_tested r)
 
 -- what C does not define ends the obligation
 pub stuck_now : (x : Setting) (want : Option ℕ) (ops : List Instruction) (end : End) (s : State) (l : Local) (w : World) → Fits x want s l w → Stuck x ops end l w ending.Undefined s
@@ -139,7 +139,7 @@ module _ (x : Setting) (t t2 : ℕ) (f f2 : ℕ → Bool) (ops ops2 : List Instr
   result_after (Unused m) a (Gives v s) h = made_after None m s h
   result_after (Unused m) a (Leaves s) h = made_after None m s h
   result_after (Unused m) a (Ends e s) h = stuck_after e s h
-  result_after (Either one other inner) a r h = test_after one other (tested r) h
+  result_after (Either one other inner) a r h = test_after one other (condition_tested r) h
 
 -- less is said of names that are kept
 pub reached_weaker : (x : Setting) (want : Option ℕ) (t t1 : ℕ) (f f1 : ℕ → Bool) (l : Local) (w : World) (comes : Local → World → Type 0) (s : State) → t ≤ t1 → ((y : ℕ) → y < t → f y ≡ false → f1 y ≡ false)

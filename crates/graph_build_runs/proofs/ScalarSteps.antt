@@ -8,7 +8,7 @@ use Rattle.c_tree.specs.declared.object_type.ValueType.{ValueType}
 use Rattle.c_tree.specs.declared.object_type.Object.TheVariants as object
 use Rattle.c_tree.specs.declared.typed_expression.Given.TheVariants.{New, Old}
 use Rattle.c_tree.specs.TypedExpressions.{RvalueTree, Named}
-use Rattle.c_type_rules.specs.Types.{loaded}
+use Rattle.c_type_rules.specs.Types.{loaded_type}
 use Rattle.c_type_laws.specs.Expressions.{kind_of}
 use Rattle.c_meaning_values.specs.declared.value.Value as source-value
 use Rattle.c_meaning_values.specs.declared.value.Value.TheVariants as source
@@ -16,7 +16,7 @@ use Rattle.c_meaning_values.specs.Memory.{Memory as SourceMemory}
 use Rattle.c_meaning_steps.specs.declared.event.Ending.TheVariants as ending
 use Rattle.c_meaning_steps.specs.States.{State, Evaluated, Gives, Ends, with, on_both}
 use Rattle.c_meaning.specs.Expressions.{Calls, evaluate, designate}
-use Rattle.c_meaning_steps.specs.Steps.{located, store_if, replace_if, one}
+use Rattle.c_meaning_steps.specs.Steps.{left_side_read, store_if, replace_if, one}
 use Rattle.graph_core.specs.declared.value.Value.{Value}
 use Rattle.graph_core.specs.declared.value.Value.TheVariants.{Number}
 use Rattle.graph_core.specs.Graphs.{Operand, Name, Constant, Move}
@@ -27,7 +27,7 @@ use Rattle.graph_build_names.specs.Names.{scalar_of}
 use Rattle.graph_build_layout.specs.Laid.{Laid, behind_move}
 use Rattle.graph_build_layout.specs.Layout.{laid}
 use Rattle.graph_build_names.specs.Writes.{writes}
-use Rattle.graph_build_steps.specs.Drafts.{Made, Goal, To, Unused, Either, before, leaf, note, noted, move_if}
+use Rattle.graph_build_steps.specs.Drafts.{Made, Goal, To, Unused, Either, instruction_before, leaf, note, noted, move_if}
 use Rattle.graph_build_steps.specs.declared.change.Change as declared-change
 use Rattle.graph_build_steps.specs.Steps.{changed, renewed_scalar, left_scalar, one_at}
 use Rattle.graph_build_runs.specs.Typed.{IsOf}
@@ -69,7 +69,7 @@ Older (Either left right inner) t = Unit {0}
 -- The scalar of a variable changes.
 module _ (x : Setting) (calls : Calls) (low : ScalarsFirst x) (apart : ScalarsApart x) (v k : ℕ) (named_by : scalar_of (names_in x) v ≡ Some k) (of : ObjectType) (c : declared-change.Change) (target : ValueType) (HasBy : source-value.Value → Type 0)
     (next : SourceMemory → source-value.Value → source-value.Value → Option source-value.Value) (changes : Changes x c target HasBy next)
-    (holds_target : (s : State) (n : ℕ) (o : ScalarObject x v s.memory n) (u : source-value.Value) → Sound x.program x.begun s → IsOf s.memory (loaded o.object.element) u → IsOf s.memory target u) where
+    (holds_target : (s : State) (n : ℕ) (o : ScalarObject x v s.memory n) (u : source-value.Value) → Sound x.program x.begun s → IsOf s.memory (loaded_type o.object.element) u → IsOf s.memory target u) where
   abbrev word_target : (memory : SourceMemory) (u : source-value.Value) → IsOf memory target u → HasWord u
   word_target memory u is = of_word memory target u is
 
@@ -94,7 +94,7 @@ module _ (x : Setting) (calls : Calls) (low : ScalarsFirst x) (apart : ScalarsAp
   -- `++x` and `--x`
   pub stepped_new : (t : ℕ) (g : Goal) (s : State) (l : Local) (w : World) → size_in x ≤ t → Sound x.program x.begun s → Fits x None s l w → HasBy one
       → Result x g (Name k) t (λ y. k == y) (renewed_scalar c k (Name k) (one_at t) g).ops (renewed_scalar c k (Name k) (one_at t) g).end l w
-      (on_both (located (designate calls (depth_in x) (Named (object.Automatic v) of) s)) (λ p old u. replace_if (next u.memory old one) New p old u))
+      (on_both (left_side_read (designate calls (depth_in x) (Named (object.Automatic v) of) s)) (λ p old u. replace_if (next u.memory old one) New p old u))
   stepped_new t g s l w size sound f one_is =
       let code = renewed_scalar c k (Name k) (one_at t) g in
       located_cases x apart v k named_by calls of s l w sound f (λ r. Result x g (Name k) t (λ y. k == y) code.ops code.end l w (on_both r (λ p old u. replace_if (next u.memory old one) New p old u)))
@@ -174,11 +174,11 @@ module _ (x : Setting) (calls : Calls) (low : ScalarsFirst x) (apart : ScalarsAp
       turned h = grind (arith, nat_tests)
 
   by_same : (t y : ℕ) (m : Made) (n : ℕ) (s : State) (l : Local) (w : World) (vo : source-value.Value) → y < t → size_in x ≤ t → Sound x.program x.begun s → Fits x None s l w → ScalarObject x v s.memory n → IsOf s.memory target vo → HasBy one → SameValue x.program s.memory w.memory vo (l.names k) → (b : Bool) → y == k ≡ b
-      → Result x (To (Some y) m) (Name t) t (λ i. k == i) (if b then before (Move t (Name k)) (left_of t (if b then t + 1 else t) (if b then before (Move k (Name t)) m else m)) else before (Move y (Name k)) (left_of t (if b then t + 1 else t) (if b then before (Move k (Name t)) m else m))).ops
-      (if b then before (Move t (Name k)) (left_of t (if b then t + 1 else t) (if b then before (Move k (Name t)) m else m)) else before (Move y (Name k)) (left_of t (if b then t + 1 else t) (if b then before (Move k (Name t)) m else m))).end l w (replace_if (next s.memory vo one) Old (source.Pointer n 0) vo s)
+      → Result x (To (Some y) m) (Name t) t (λ i. k == i) (if b then instruction_before (Move t (Name k)) (left_of t (if b then t + 1 else t) (if b then instruction_before (Move k (Name t)) m else m)) else instruction_before (Move y (Name k)) (left_of t (if b then t + 1 else t) (if b then instruction_before (Move k (Name t)) m else m))).ops
+      (if b then instruction_before (Move t (Name k)) (left_of t (if b then t + 1 else t) (if b then instruction_before (Move k (Name t)) m else m)) else instruction_before (Move y (Name k)) (left_of t (if b then t + 1 else t) (if b then instruction_before (Move k (Name t)) m else m))).end l w (replace_if (next s.memory vo one) Old (source.Pointer n 0) vo s)
   by_same t y m n s l w vo older size sound fits o ho one_is same true e =
       let is_k : y ≡ k = eqb-true y k e in
-      subst (λ i. Result x (To (Some i) m) (Name t) t (λ i. k == i) (Move t (Name k) ∷ (left_of t (t + 1) (before (Move k (Name t)) m)).ops) (left_of t (t + 1) (before (Move k (Name t)) m)).end l w (replace_if (next s.memory vo one) Old (source.Pointer n 0) vo s)) (sym is_k)
+      subst (λ i. Result x (To (Some i) m) (Name t) t (λ i. k == i) (Move t (Name k) ∷ (left_of t (t + 1) (instruction_before (Move k (Name t)) m)).ops) (left_of t (t + 1) (instruction_before (Move k (Name t)) m)).end l w (replace_if (next s.memory vo one) Old (source.Pointer n 0) vo s)) (sym is_k)
       (kept_old t (To (Some k) m) n s l w vo size sound fits o ho one_is same)
   by_same t y m n s l w vo older size sound fits o ho one_is same false e = wanted_old t y m n s l w vo older e size sound fits o ho one_is same
 
@@ -192,7 +192,7 @@ module _ (x : Setting) (calls : Calls) (low : ScalarsFirst x) (apart : ScalarsAp
   -- `x++` and `x--`
   pub stepped_old : (t : ℕ) (g : Goal) (s : State) (l : Local) (w : World) → size_in x ≤ t → Older g t → Sound x.program x.begun s → Fits x None s l w → HasBy one
       → Result x g (Name t) t (λ y. k == y) (left_scalar c k t g).ops (left_scalar c k t g).end l w
-      (on_both (located (designate calls (depth_in x) (Named (object.Automatic v) of) s)) (λ p old u. replace_if (next u.memory old one) Old p old u))
+      (on_both (left_side_read (designate calls (depth_in x) (Named (object.Automatic v) of) s)) (λ p old u. replace_if (next u.memory old one) Old p old u))
   stepped_old t g s l w size older sound f one_is =
       let code = left_scalar c k t g in
       located_cases x apart v k named_by calls of s l w sound f (λ r. Result x g (Name t) t (λ y. k == y) code.ops code.end l w (on_both r (λ p old u. replace_if (next u.memory old one) Old p old u)))
@@ -224,7 +224,7 @@ module _ (x : Setting) (calls : Calls) (low : ScalarsFirst x) (apart : ScalarsAp
 
     pub updated_scalar : (t : ℕ) (g : Goal) (s : State) (l : Local) (w : World) → size_in x ≤ t → Stands x.graph x.top (whole_of t g).inner → Sound x.program x.begun s → Fits x None s l w
         → Result x g (Name k) t (λ y. k == y || false || writes (names_in x) y e) (whole_of t g).ops (whole_of t g).end l w
-        (on_both (located (designate calls (depth_in x) (Named (object.Automatic v) of) s)) (λ p old u. with (evaluate calls (depth_in x) e u) (λ b z. store_if (next z.memory old b) p z)))
+        (on_both (left_side_read (designate calls (depth_in x) (Named (object.Automatic v) of) s)) (λ p old u. with (evaluate calls (depth_in x) e u) (λ b z. store_if (next z.memory old b) p z)))
     updated_scalar t g s l w size st sound f =
         let code = whole_of t g in
         located_cases x apart v k named_by calls of s l w sound f (λ r. Result x g (Name k) t written code.ops code.end l w (on_both r (λ p old u. with (evaluate calls (depth_in x) e u) (λ b z. store_if (next z.memory old b) p z))))

@@ -11,28 +11,28 @@ use Rattle.c_tree.specs.declared.object_type.ObjectType.{ObjectType}
 use Rattle.c_tree.specs.declared.object_type.Object.TheVariants as named
 use Rattle.c_tree.specs.TypedExpressions.{RvalueTree, Constant, Null, Load, Assign, Named}
 use Rattle.c_type_rules.specs.Integers.{integer}
-use Rattle.c_type_rules.specs.Types.{loaded}
+use Rattle.c_type_rules.specs.Types.{loaded_type}
 use Rattle.c_type_laws.specs.Expressions.{kind_of}
 use Rattle.c_meaning_values.specs.declared.value.Value as source-value
 use Rattle.c_meaning_values.specs.declared.value.Value.TheVariants as source
 use Rattle.c_meaning_values.specs.declared.value.Phase.TheVariants.{Live, Ended}
 use Rattle.c_meaning_steps.specs.declared.event.Ending.TheVariants as ending
 use Rattle.c_meaning_values.specs.Memory.{Object as SourceObject, Memory as SourceMemory, is_usable, is_begun, is_writable, object_of, read, value_in as value_at, write, written_in, index_at, set_value, begun}
-use Rattle.c_meaning_steps.specs.States.{State, Evaluated, Gives, Leaves, Ends, given, with, usable, both, second, on_both}
+use Rattle.c_meaning_steps.specs.States.{State, Evaluated, Gives, Leaves, Ends, value_or_undefined, with, usable, both_operands as both, second, on_both}
 use Rattle.c_meaning.specs.Expressions.{Calls, evaluate}
-use Rattle.c_meaning_steps.specs.Steps.{load, store, stored}
+use Rattle.c_meaning_steps.specs.Steps.{load, store, value_stored}
 use Rattle.graph_core.specs.Graphs as unit
 use Rattle.graph_core.specs.Graphs.{Operand, Name, Instruction, Note, Is, Of, End}
-use Rattle.graph_core.specs.Runs.{Stepped, Goes, Wild, put, step, at_place}
+use Rattle.graph_core.specs.Runs.{Stepped, Goes, Wild, with_value_at, step, at_place}
 use Rattle.graph_core.specs.Values.{is_odd}
 use Rattle.graph_core.specs.declared.value.Shadow.TheVariants.{Known}
-use Rattle.graph_build_names.specs.Conversions.{word_of}
+use Rattle.graph_build_names.specs.Conversions.{unsigned_bits}
 use Rattle.graph_build_layout.specs.declared.laid.Use.TheVariants.{Anywhere}
 use Rattle.graph_build_names.specs.Names.{Names, scalar_of, pick}
 use Rattle.graph_build_layout.specs.Laid.{loaded_laid, assigned_laid, begun_at, use_for}
 use Rattle.graph_build_layout.specs.Layout.{laid, place_laid}
 use Rattle.graph_build_names.specs.Writes.{writes, is_that, is_location_moved}
-use Rattle.graph_build_steps.specs.Drafts.{Made, Goal, To, Unused, Either, before, zero as zero_operand, leaf, note, noted, operated, hold_location, use_of}
+use Rattle.graph_build_steps.specs.Drafts.{Made, Goal, To, Unused, Either, instruction_before, zero as zero_operand, leaf, note, noted, operated, hold_location, use_of}
 use Rattle.graph_build_steps.specs.Rules.{element_of}
 use Rattle.graph_build_code.specs.Code.{code, code_place}
 use Rattle.graph_build_steps.specs.Steps.{assigned_memory}
@@ -54,14 +54,14 @@ use Rattle.graph_build_runs.proofs.Objects.{first_index, Owned, owned_at, begun_
 use Rattle.graph_build_runs.proofs.Operands.{Apart, Does, code_in, value_in, written_by, or_false}
 
 pub constant_does : (x : Setting) (calls : Calls) (z : ℤ) (type : IntegerType) → holds (integer type) z ≡ true → Does x calls (Constant z type)
-constant_does x calls z type fits t g s l w size st sound f aims = leaf_done x g (unit.Constant (word_of z)) t (λ y. false) (source.Number z) s l w f refl (in_word type z fits)
+constant_does x calls z type fits t g s l w size st sound f aims = leaf_done x g (unit.Constant (unsigned_bits z)) t (λ y. false) (source.Number z) s l w f refl (in_word type z fits)
 
 pub null_does : (x : Setting) (calls : Calls) → Does x calls Null
 null_does x calls t g s l w size st sound f aims = leaf_done x g (unit.Constant 0) t (λ y. false) source.Null s l w f refl tt
 
 -- the one value of an object is of its type
-pub one_typed : (memory : SourceMemory) (o : SourceObject) (v : source-value.Value) → o.values ≡ v ∷ [] → AllByRecursion (IsOf memory (loaded o.element)) o.values → IsOf memory (loaded o.element) v
-one_typed memory o v e all = let h : AllByRecursion (IsOf memory (loaded o.element)) (v ∷ []) = subst (AllByRecursion (IsOf memory (loaded o.element))) e all in h.0
+pub one_typed : (memory : SourceMemory) (o : SourceObject) (v : source-value.Value) → o.values ≡ v ∷ [] → AllByRecursion (IsOf memory (loaded_type o.element)) o.values → IsOf memory (loaded_type o.element) v
+one_typed memory o v e all = let h : AllByRecursion (IsOf memory (loaded_type o.element)) (v ∷ []) = subst (AllByRecursion (IsOf memory (loaded_type o.element))) e all in h.0
 
 -- The value of a scalar stands in its name.
 module _ (x : Setting) (calls : Calls) (sc : Scalar) (v : ℕ) (of : ObjectType) (k : ℕ) (named_by : scalar_of (names_in x) v ≡ Some k) where
@@ -78,20 +78,20 @@ module _ (x : Setting) (calls : Calls) (sc : Scalar) (v : ℕ) (of : ObjectType)
     used u true e same word = leaf_done x g (Name k) t (λ y. false) u s l w f same word
 
     reads : (n : ℕ) (o : SourceObject) → slice_get s.memory n ≡ Some o → o.owner ≡ Variable v (depth_in x) → (b : Bool) → is_begun o.phase ≡ b
-        → Result x g (Name k) t (λ y. false) (leaf g (Name k)).ops (leaf g (Name k)).end l w (with (given (if b then slice_get o.values (index_at o 0) else None) s) usable)
+        → Result x g (Name k) t (λ y. false) (leaf g (Name k)).ops (leaf g (Name k)).end l w (with (value_or_undefined (if b then slice_get o.values (index_at o 0) else None) s) usable)
     reads n o is owner false e = stuck
     reads n o is owner true e =
         let c = f.own.scalars v k n o named_by is owner (begun_live o.phase e) in
         let found : slice_get o.values (index_at o 0) ≡ Some c.value = ap (slice_get o.values) (first_index o.element) ∙ ap (λ vs. slice_get vs 0) c.holds in
-        subst (λ r. Result x g (Name k) t (λ y. false) (leaf g (Name k)).ops (leaf g (Name k)).end l w (with (given r s) usable)) (sym found)
-        (used c.value (is_usable s.memory c.value) refl (c.named refl) (of_word s.memory (loaded o.element) c.value (one_typed s.memory o c.value c.holds (sound.typed n o is))))
+        subst (λ r. Result x g (Name k) t (λ y. false) (leaf g (Name k)).ops (leaf g (Name k)).end l w (with (value_or_undefined r s) usable)) (sym found)
+        (used c.value (is_usable s.memory c.value) refl (c.named refl) (of_word s.memory (loaded_type o.element) c.value (one_typed s.memory o c.value c.holds (sound.typed n o is))))
 
     found_by : (r : Option ℕ) → object_of (Variable v (depth_in x)) s.memory ≡ r
-        → Result x g (Name k) t (λ y. false) (leaf g (Name k)).ops (leaf g (Name k)).end l w (with (given (option_map (λ n. source.Pointer n 0) r) s) load)
+        → Result x g (Name k) t (λ y. false) (leaf g (Name k)).ops (leaf g (Name k)).end l w (with (value_or_undefined (option_map (λ n. source.Pointer n 0) r) s) load)
     found_by None e = stuck
     found_by (Some n) e =
         let o = owned_at (Variable v (depth_in x)) s.memory n e in
-        subst (λ q. Result x g (Name k) t (λ y. false) (leaf g (Name k)).ops (leaf g (Name k)).end l w (with (given (option_and_then (λ p. value_at p 0) q) s) usable)) (sym o.is)
+        subst (λ q. Result x g (Name k) t (λ y. false) (leaf g (Name k)).ops (leaf g (Name k)).end l w (with (value_or_undefined (option_and_then (λ p. value_at p 0) q) s) usable)) (sym o.is)
         (reads n o.object o.is o.owner_is (is_begun o.object.phase) refl)
 
   abbrev by_name : ℕ → Goal → Option ℕ → Made
@@ -122,12 +122,12 @@ module _ (x : Setting) (calls : Calls) (apart : ScalarsApart x) (sc : Scalar) (v
     -- the object takes the value
     takes : (n : ℕ) (o : SourceObject) (u : source-value.Value) (s1 : State) (l1 : Local) (w1 : World) → Sound x.program x.begun s1 → Fits x (Some k) s1 l1 w1 → slice_get s1.memory n ≡ Some o → o.owner ≡ Variable v (depth_in x) → o.phase ≢ Ended
         → SameValue x.program s1.memory w1.memory u (l1.names k) → HasWord u → (b : Bool) → is_writable o 0 ≡ b
-        → Then t (λ y. false) (noted k g).ops (noted k g).end l1 w1 (stored (if b then Some (begun (set_value s1.memory n (index_at o 0) u) n) else None) u s1)
+        → Then t (λ y. false) (noted k g).ops (noted k g).end l1 w1 (value_stored (if b then Some (begun (set_value s1.memory n (index_at o 0) u) n) else None) u s1)
     takes n o u s1 l1 w1 sound1 f1 is owner alive same word false eb = ended_result x g (Name k) t (λ y. false) (noted k g).ops (noted k g).end l1 w1 ending.Undefined s1 (stuck_now x (Some k) (noted k g).ops (noted k g).end s1 l1 w1 f1)
     takes n o u s1 l1 w1 sound1 f1 is owner alive same word true eb =
         let a = subst (λ q. IsDeclared x.program q o) owner (sound1.declared n o is) in
         let one : length o.values ≡ 1 = a.3 ∙ apart.single v k a.0 named_by a.1 in
-        let l2 : Local = record l1 { shadows = put l1.shadows k (Known (l1.names k)) } in
+        let l2 : Local = record l1 { shadows = with_value_at l1.shadows k (Known (l1.names k)) } in
         let after : State = record s1 { memory = slice_set s1.memory n (record o { values = slice_set o.values 0 u; phase = Live }) } in
         let written : begun (set_value s1.memory n (index_at o 0) u) n ≡ slice_set s1.memory n (record o { values = slice_set o.values 0 u; phase = Live }) =
         ap (λ i. begun (set_value s1.memory n i u) n) (first_index o.element) ∙ written_is s1.memory n 0 o u is in
@@ -147,7 +147,7 @@ module _ (x : Setting) (calls : Calls) (apart : ScalarsApart x) (sc : Scalar) (v
 
     assigns : (r : Option ℕ) → object_of (Variable v (depth_in x)) s.memory ≡ r
         → Then t (λ y. is_that y (Some k) || false || writes (names_in x) y e) (code_in x e t (To (Some k) (noted k g))).ops (code_in x e t (To (Some k) (noted k g))).end l w
-        (on_both (both (given (option_map (λ n. source.Pointer n 0) r) s) (evaluate calls (depth_in x) e)) store)
+        (on_both (both (value_or_undefined (option_map (λ n. source.Pointer n 0) r) s) (evaluate calls (depth_in x) e)) store)
     assigns None h =
         ended_result x g (Name k) t (λ y. is_that y (Some k) || false || writes (names_in x) y e) (code_in x e t (To (Some k) (noted k g))).ops (code_in x e t (To (Some k) (noted k g))).end l w ending.Undefined s
         (stuck_now x None (code_in x e t (To (Some k) (noted k g))).ops (code_in x e t (To (Some k) (noted k g))).end s l w f)
@@ -161,7 +161,7 @@ module _ (x : Setting) (calls : Calls) (apart : ScalarsApart x) (sc : Scalar) (v
         (let gave = gave_by x.program x.begun s.memory (kind_of x.program x.tree e) (evaluate calls (depth_in x) e s) u s1 e1 (typed_e s sound) in
         let o = owned_at (Variable v (depth_in x)) s.memory n h in
         let o1 = gave.later n o.object o.is in
-        subst (λ q. Then t (λ y. false) (noted k g).ops (noted k g).end h1.reached.local h1.reached.world (stored (option_and_then (written_in s1.memory n 0 u) q) u s1)) (sym o1.is)
+        subst (λ q. Then t (λ y. false) (noted k g).ops (noted k g).end h1.reached.local h1.reached.world (value_stored (option_and_then (written_in s1.memory n 0 u) q) u s1)) (sym o1.is)
         (takes n o1.object u s1 h1.reached.local h1.reached.world gave.sound h1.reached.fits o1.is (o1.owner ∙ o.owner_is) (λ over. o.alive (o1.phase.open_before over)) h1.same (kind_word s1.memory (kind_of x.program x.tree e) u gave.is)
         (is_writable o1.object 0) refl))))
 

@@ -5,16 +5,16 @@ use Rattle.std.proofs.lemmas.Bool.{eqb-true}
 use Rattle.std.proofs.lemmas.Int.{ints}
 use Rattle.std.proofs.lemmas.Nat.{mul-mod_second}
 use Rattle.word_base.specs.Types.{unsigned_type, bits_of}
-use Rattle.word_base.specs.WordOperations.{operated as operated_words}
+use Rattle.word_base.specs.WordOperations.{word_operation as operated_words}
 use Rattle.word_base.specs.declared.operation.Operation.TheVariants as operation
 use Rattle.graph_core.specs.declared.value.Value.{Value}
 use Rattle.graph_core.specs.declared.value.Value.TheVariants.{Number}
 use Rattle.graph_core.specs.Graphs.{Operand, Name, Constant, StaticAddress, Instruction, End}
 use Rattle.graph_core.specs.Runs.{Goes, step, value}
 use Rattle.graph_core.specs.Values.{operate}
-use Rattle.graph_build_names.specs.Conversions.{word_of}
+use Rattle.graph_build_names.specs.Conversions.{unsigned_bits}
 use Rattle.graph_build_names.specs.Scales.{shift_from, shift_of, scaled}
-use Rattle.graph_build_steps.specs.Drafts.{Made, before, scaling, scale}
+use Rattle.graph_build_steps.specs.Drafts.{Made, instruction_before, scaling, scale}
 use Rattle.graph_build_runs.proofs.Leads.{Setting, size_in, Local, World, set_name, at, stays, goes, put_here, put_elsewhere}
 use Rattle.graph_build_runs.proofs.Results.{Passes}
 use Rattle.graph_build_runs.proofs.Products.{word_times}
@@ -24,7 +24,7 @@ pub record Scaled (x : Setting) (P : Local → Type 0) (bytes : ℕ) (by : Opera
   pub local : Local
   pub leads : Passes x (scale bytes by free m).ops (scale bytes by free m).end l w m.ops m.end local w
   pub holds : P local
-  pub index : value x.unit.statics local.names (scaled bytes by free) ≡ Number (word_of (z *ℤ pos bytes))
+  pub index : value x.unit.statics local.names (scaled bytes by free) ≡ Number (unsigned_bits (z *ℤ pos bytes))
   pub kept : (y : ℕ) → y == free ≡ false → local.names y ≡ l.names y
   pub shadows : local.shadows ≡ l.shadows
 
@@ -45,37 +45,37 @@ times_one (pos n) = ap pos (omega arith)
 times_one (negsuc n) = omega (arith, ints)
 
 -- what the instruction that scales an index computes
-scaling_gives : (bytes free : ℕ) (by : Operand) (z : ℤ) (x : Setting) (l : Local) (w : World) (ops : List Instruction) (end : End) → value x.unit.statics l.names by ≡ Number (word_of z) → (r : Option ℕ) → shift_of bytes ≡ r
-    → step x.unit (at x (scaling r bytes free by ∷ ops) end l w) ≡ Goes (at x ops end (set_name l free (Number (word_of (z *ℤ pos bytes)))) w)
+scaling_gives : (bytes free : ℕ) (by : Operand) (z : ℤ) (x : Setting) (l : Local) (w : World) (ops : List Instruction) (end : End) → value x.unit.statics l.names by ≡ Number (unsigned_bits z) → (r : Option ℕ) → shift_of bytes ≡ r
+    → step x.unit (at x (scaling r bytes free by ∷ ops) end l w) ≡ Goes (at x ops end (set_name l free (Number (unsigned_bits (z *ℤ pos bytes)))) w)
 unfolding operated_words
 scaling_gives bytes free by z x l w ops end is (Some k) e =
     let c = shift_is bytes k e in
     let lt = c.1 in
     let small : k % 32 ≡ k = omega (arith, lt) in
     ap (λ v. Goes (at x ops end (set_name l free (operate operation.Sll v (Number k))) w)) is
-    ∙ ap (λ n. Goes (at x ops end (set_name l free (Number (word_of z * 2 ^ n % 4294967296))) w)) small ∙ ap (λ n. Goes (at x ops end (set_name l free (Number (word_of z * n % 4294967296))) w)) c.0
+    ∙ ap (λ n. Goes (at x ops end (set_name l free (Number (unsigned_bits z * 2 ^ n % 4294967296))) w)) small ∙ ap (λ n. Goes (at x ops end (set_name l free (Number (unsigned_bits z * n % 4294967296))) w)) c.0
     ∙ ap (λ n. Goes (at x ops end (set_name l free (Number n)) w)) (word_times z bytes)
 scaling_gives bytes free by z x l w ops end is None e =
     let one : bits_of unsigned_type (pos (1 * bytes)) ≡ bytes % 4294967296 = omega arith in
     ap (λ v. Goes (at x ops end (set_name l free (operate operation.Mul v (Number (bits_of unsigned_type (pos (1 * bytes)))))) w)) is
-    ∙ ap (λ n. Goes (at x ops end (set_name l free (Number (word_of z * n % 4294967296))) w)) one ∙ ap (λ n. Goes (at x ops end (set_name l free (Number n)) w)) (mul-mod_second (word_of z) bytes 4294967296 ∙ word_times z bytes)
+    ∙ ap (λ n. Goes (at x ops end (set_name l free (Number (unsigned_bits z * n % 4294967296))) w)) one ∙ ap (λ n. Goes (at x ops end (set_name l free (Number n)) w)) (mul-mod_second (unsigned_bits z) bytes 4294967296 ∙ word_times z bytes)
 
 module _ (x : Setting) (P : Local → Type 0) (temporary : (l : Local) (j : ℕ) (v : Value) → size_in x ≤ j → P l → P (set_name l j v)) where
   -- an index that is no constant, of elements of one byte or of more
-  scale_by : (bytes free : ℕ) (by : Operand) (m : Made) (l : Local) (w : World) (z : ℤ) → size_in x ≤ free → P l → value x.unit.statics l.names by ≡ Number (word_of z) → (b : Bool) → bytes == 1 ≡ b
-      → (local : Local) × (Passes x (if not b then before (scaling (shift_of bytes) bytes free by) m else m).ops (if not b then before (scaling (shift_of bytes) bytes free by) m else m).end l w m.ops m.end local w) × P local
-      × (value x.unit.statics local.names (if b then by else Name free) ≡ Number (word_of (z *ℤ pos bytes))) × ((y : ℕ) → y == free ≡ false → local.names y ≡ l.names y) × (local.shadows ≡ l.shadows)
+  scale_by : (bytes free : ℕ) (by : Operand) (m : Made) (l : Local) (w : World) (z : ℤ) → size_in x ≤ free → P l → value x.unit.statics l.names by ≡ Number (unsigned_bits z) → (b : Bool) → bytes == 1 ≡ b
+      → (local : Local) × (Passes x (if not b then instruction_before (scaling (shift_of bytes) bytes free by) m else m).ops (if not b then instruction_before (scaling (shift_of bytes) bytes free by) m else m).end l w m.ops m.end local w) × P local
+      × (value x.unit.statics local.names (if b then by else Name free) ≡ Number (unsigned_bits (z *ℤ pos bytes))) × ((y : ℕ) → y == free ≡ false → local.names y ≡ l.names y) × (local.shadows ≡ l.shadows)
   scale_by bytes free by m l w z size p is true e =
       let one = eqb-true bytes 1 e in
-      (l, stays, p, is ∙ ap (λ k. Number (word_of k)) (sym (times_one z)) ∙ ap (λ k. Number (word_of (z *ℤ pos k))) (sym one), (λ y ne. refl), refl)
+      (l, stays, p, is ∙ ap (λ k. Number (unsigned_bits k)) (sym (times_one z)) ∙ ap (λ k. Number (unsigned_bits (z *ℤ pos k))) (sym one), (λ y ne. refl), refl)
   scale_by bytes free by m l w z size p is false e =
-      let given = Number (word_of (z *ℤ pos bytes)) in
+      let given = Number (unsigned_bits (z *ℤ pos bytes)) in
       (set_name l free given, goes (scaling_gives bytes free by z x l w m.ops m.end is (shift_of bytes) refl) stays, temporary l free given size p, put_here l.names free given, (λ y ne. put_elsewhere l.names free y given ne), refl)
 
-  pub scale_done : (bytes : ℕ) (by : Operand) (free : ℕ) (m : Made) (l : Local) (w : World) (z : ℤ) → size_in x ≤ free → P l → value x.unit.statics l.names by ≡ Number (word_of z) → Scaled x P bytes by free m l w z
+  pub scale_done : (bytes : ℕ) (by : Operand) (free : ℕ) (m : Made) (l : Local) (w : World) (z : ℤ) → size_in x ≤ free → P l → value x.unit.statics l.names by ≡ Number (unsigned_bits z) → Scaled x P bytes by free m l w z
   scale_done bytes (Constant word) free m l w z size p is =
-      let same : word ≡ word_of z = number_same is in
-      let product : bits_of unsigned_type (pos (word * bytes)) ≡ word_of (z *ℤ pos bytes) = ap (λ k. k * bytes % 4294967296) same ∙ word_times z bytes in
+      let same : word ≡ unsigned_bits z = number_same is in
+      let product : bits_of unsigned_type (pos (word * bytes)) ≡ unsigned_bits (z *ℤ pos bytes) = ap (λ k. k * bytes % 4294967296) same ∙ word_times z bytes in
       record { local = l; leads = stays; holds = p; index = ap Number product; kept = λ y ne. refl; shadows = refl }
     where
       number_same : {i j : ℕ} → Number i ≡ Number j → i ≡ j

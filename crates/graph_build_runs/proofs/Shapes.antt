@@ -9,7 +9,7 @@ use Rattle.c_tree.specs.declared.object_type.ObjectType.TheVariants as of-object
 use Rattle.c_tree.specs.declared.object_type.ValueType.{ValueType}
 use Rattle.c_tree.specs.declared.object_type.ValueType.TheVariants.{Void, Integer, Pointer}
 use Rattle.c_tree.specs.TypedExpressions.{RvalueTree, LvalueTree, Constant, Null, Load, Decay, AddressOf, Convert, Discard, Signed, Not, Arithmetic, Compare, ComparePointers, Move, MoveFrom, Difference, And, Or, Conditional, Comma, Assign, Update, UpdatePointer, Step, StepPointer, Call, Named, Target, Element, ElementFrom}
-use Rattle.c_type_rules.specs.Types.{loaded, pointed_to, same_value}
+use Rattle.c_type_rules.specs.Types.{loaded_type, pointed_to, same_value}
 use Rattle.c_type_rules.specs.ValueTypes.{object_type, decayed, results_of, type_of, given_by, is_void, is_pointer}
 use Rattle.c_type_laws.specs.Kind.{Kind, Wrong, NullPointer, Of}
 use Rattle.c_type_laws.specs.Kinds.{of_if, is_scalar_type, is_promoted, is_of, is_typed, is_scalar, is_pointer as is_pointer_kind, is_integer, is_counted, joined, holds_scalar, holds_pointer, is_array, is_callee, taken_by}
@@ -30,8 +30,8 @@ pub array_of : (o : ObjectType) → is_array o ≡ true → (el : Scalar) × (co
 array_of (of-object.Scalar s) h = cc
 array_of (of-object.Array el count) h = (el, count, refl)
 
-pub pointer_object : (o el : ObjectType) → holds_pointer o el ≡ true → (s : Scalar) × (o ≡ of-object.Scalar s) × (loaded s ≡ Pointer el)
-pointer_object (of-object.Scalar s) el h = (s, refl, value_is (loaded s) (Pointer el) h)
+pub pointer_object : (o el : ObjectType) → holds_pointer o el ≡ true → (s : Scalar) × (o ≡ of-object.Scalar s) × (loaded_type s ≡ Pointer el)
+pointer_object (of-object.Scalar s) el h = (s, refl, value_is (loaded_type s) (Pointer el) h)
 pointer_object (of-object.Array s count) el h = cc
 
 pub if_typed : (b : Bool) (k : Kind) → is_typed (if b then k else Wrong) ≡ true → (b ≡ true) × (is_typed k ≡ true)
@@ -201,7 +201,7 @@ module _ (x : Setting) where
   pub shape : (e : RvalueTree) → Shape (K e) (T e)
   shape (Constant z t) = shape_if _ (Integer t)
   shape Null = refl
-  shape (Load s l) = shape_if _ (loaded s)
+  shape (Load s l) = shape_if _ (loaded_type s)
   shape (Decay l) = shape_if _ (decayed (object_type l))
   shape (AddressOf l) = shape_if _ (Pointer (object_type l))
   shape (Convert t e) = shape_if _ (Integer t)
@@ -218,7 +218,7 @@ module _ (x : Setting) where
   shape (Or a b) = shape_if _ (Integer Int)
   shape (Conditional c a b) = by_choice (is_scalar (K c)) (joined (K a) (K b)) (T a) (joined_shape (K a) (K b) (T a) (shape a))
   shape (Comma a b) = by_choice (is_typed (K a)) (K b) (T b) (shape b)
-  shape (Assign s l e) = shape_if _ (loaded s)
+  shape (Assign s l e) = shape_if _ (loaded_type s)
   shape (Update o t u l e) = shape_if _ (Integer t)
   shape (UpdatePointer d of l e) = shape_if _ (Pointer of)
   shape (Step d g t u l) = shape_if _ (Integer t)
@@ -235,7 +235,7 @@ module _ (x : Setting) where
   scalar_by NullPointer t h s = refl
   scalar_by (Of u) t h s = ap is_scalar_type (value_is u t h) ∙ s
 
-  pub loaded_scalar : (s : Scalar) → is_scalar_type (loaded s) ≡ true
+  pub loaded_scalar : (s : Scalar) → is_scalar_type (loaded_type s) ≡ true
   loaded_scalar s = by (s.stars == 0)
     where
       by : (b : Bool) → is_scalar_type (if b then Integer s.base else Pointer (of-object.Scalar (pointed_to s))) ≡ true
@@ -293,8 +293,8 @@ module _ (x : Setting) where
     whole_of (Conditional c a b) h = shape_whole (K a) (T a) (shape a) (joined_scalar (K a) (K b) (if_both (is_scalar (K c)) (joined (K a) (K b)) h))
     whole_of (Comma a b) h = whole_of b (if_both (is_typed (K a)) (K b) h)
     whole_of (Assign s l e) h =
-        let c = three_true (holds_scalar (object_type l) s) (is_place x.program x.tree l) (is_of (K e) (loaded s)) (scalar_if (holds_scalar (object_type l) s && is_place x.program x.tree l && is_of (K e) (loaded s)) (loaded s) h) in
-        whole_of e (scalar_by (K e) (loaded s) c.2 (loaded_scalar s))
+        let c = three_true (holds_scalar (object_type l) s) (is_place x.program x.tree l) (is_of (K e) (loaded_type s)) (scalar_if (holds_scalar (object_type l) s && is_place x.program x.tree l && is_of (K e) (loaded_type s)) (loaded_type s) h) in
+        whole_of e (scalar_by (K e) (loaded_type s) c.2 (loaded_scalar s))
     whole_of (Update o t u l e) h = tt
     whole_of (UpdatePointer d of l e) h = tt
     whole_of (Step d g t u l) h = tt

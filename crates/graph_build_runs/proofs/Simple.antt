@@ -6,7 +6,7 @@ use Rattle.c_type_laws.specs.Kinds.{is_of}
 use Rattle.c_type_laws.specs.Expressions.{kind_of}
 use Rattle.c_meaning_steps.specs.States.{State, Next, Broken, Continued, Returned, on_effect}
 use Rattle.c_meaning.specs.Activations as activations
-use Rattle.c_meaning.specs.Statements.{value_at, run, result}
+use Rattle.c_meaning.specs.Statements.{value_at, expression_run, result}
 use Rattle.c_flow.specs.declared.edge.Ways.{Ways}
 use Rattle.graph_core.specs.Graphs.{Return, Block}
 use Rattle.graph_core.specs.Runs.{Configuration, Event}
@@ -43,7 +43,7 @@ module _ (k : Activity) (law : Lawful k) (scope : List ℕ) (low : ℕ) (w : Way
       place_begins k law scope spot (going (coding_in k) w.by_continue b.inner) b.block b.here low low [] w Continued (λ c es l u s leads sound fits h ready. arrives_now k c es low low w.by_continue b.inner (place_at k spot.at) l u s leads sound fits)
 
   -- An expression whose value is not used.
-  pub run_goes : (e : RvalueTree) → Works k (place_at k spot.at) e → Begins k scope spot.at (λ t i. coded (coding_in k) spot.at e t (Unused (going (coding_in k) w.next i))) → GoesOn k low low [] w scope (Some spot.at) (run k.calls (here_in k) spot e)
+  pub run_goes : (e : RvalueTree) → Works k (place_at k spot.at) e → Begins k scope spot.at (λ t i. coded (coding_in k) spot.at e t (Unused (going (coding_in k) w.next i))) → GoesOn k low low [] w scope (Some spot.at) (expression_run k.calls (here_in k) spot e)
   run_goes e works b =
       let m = going (coding_in k) w.next b.inner in
       place_begins k law scope spot (coded (coding_in k) spot.at e b.free (Unused m)) b.block b.here low low [] w (λ s. on_effect (value_at k.calls (here_in k) spot e s) Next)

@@ -4,7 +4,7 @@ use Rattle.std.specs.Prelude.{if◌then◌else◌}
 use Rattle.c_tree.specs.TypedExpressions.{RvalueTree}
 use Rattle.graph_core.specs.Graphs.{Operand, Instruction, Block, Graph}
 use Rattle.graph_build_names.specs.Names.{Names, pick}
-use Rattle.graph_build_steps.specs.Drafts.{Made, Goal, To, Unused, Either, leaf, follow, closed, label_of, move_if, operated}
+use Rattle.graph_build_steps.specs.Drafts.{Made, Goal, To, Unused, Either, leaf, follow, with_inner_block, label_of, move_if, operated}
 use Rattle.graph_build_code.specs.Code.{code}
 
 -- inner blocks, the first one with so many closed before it, stand at the end of a graph of so many blocks, the last one that is closed first
@@ -29,10 +29,10 @@ stands_back g top from (x ∷ a) b h =
 abbrev pub block_of : ℕ → Made → Block
 block_of place m = record { place = Some place; instructions = m.ops; end = m.end }
 
-pub closed_inner : (g : Graph) (top place : ℕ) (m : Made) → Stands g top (closed place m) → Stands g top m.inner
+pub closed_inner : (g : Graph) (top place : ℕ) (m : Made) → Stands g top (with_inner_block place m) → Stands g top m.inner
 closed_inner g top place m h = stands_front g top 0 m.inner (block_of place m ∷ []) h
 
-pub closed_block : (g : Graph) (top place : ℕ) (m : Made) → Stands g top (closed place m) → slice_get g.blocks (label_of top m) ≡ Some (block_of place m)
+pub closed_block : (g : Graph) (top place : ℕ) (m : Made) → Stands g top (with_inner_block place m) → slice_get g.blocks (label_of top m) ≡ Some (block_of place m)
 closed_block g top place m h =
     let e : 0 + length m.inner ≡ length m.inner = omega arith in
     subst (λ k. slice_get g.blocks (top - (k + 1)) ≡ Some (block_of place m)) e (stands_back g top 0 m.inner (block_of place m ∷ []) h).0

@@ -8,7 +8,7 @@ use Rattle.c_places.specs.Places.{brought, brought_by_start, brought_by_body}
 use Rattle.c_meaning_steps.specs.States.{State, Outcome, Next, Holds}
 use Rattle.c_meaning.specs.Statements.{declare, declare_all, begin_loop, step, test_at, loop, for_round, then_do, is_same_number, by_label, execute, execute_all, execute_case, execute_default}
 use Rattle.c_flow.specs.declared.edge.Ways.{Ways}
-use Rattle.c_flow.specs.Flow.{start, start_of_all, start_of_declarators, start_of_for, round_of, within_loop}
+use Rattle.c_flow.specs.Flow.{start_place, start_of_all, start_of_declarators, start_of_for, round_of, within_loop}
 use Rattle.graph_build_statements.specs.Forms.{default_start}
 use Rattle.graph_build_runs.proofs.Activities.{Activity, here_in}
 use Rattle.graph_build_runs.proofs.Outcomes.{GoesOn}
@@ -116,30 +116,30 @@ module _ (k : Activity) (law : Lawful k) where
 
   mutual
     -- The blocks of a statement do what the statement means.
-    pub statement_goes : {w : Ways} {scope : List ℕ} {low : ℕ} {s : TypedStatementTree} → Formed k w scope low s → GoesOn k low (behind low s) (brought s) w scope (start s w.next) (execute k.calls (here_in k) s)
+    pub statement_goes : {w : Ways} {scope : List ℕ} {low : ℕ} {s : TypedStatementTree} → Formed k w scope low s → GoesOn k low (behind low s) (brought s) w scope (start_place s w.next) (execute k.calls (here_in k) s)
     statement_goes (block {w = w} {scope = scope} {low = low} {all = all} f) = block_goes k scope low (behind_all low all) (brought_by_body all) w (start_of_all all w.next) (execute_all k.calls (here_in k) all) (statements_go f)
     statement_goes (declaration d) = declares_go d
     statement_goes (empty {w = w} {scope = scope} {low = low} {spot = spot} b) = empty_goes k law scope low w spot b
     statement_goes (runs {w = w} {scope = scope} {low = low} {spot = spot} {e = e} works b) = run_goes k law scope low w spot e works b
     statement_goes (chosen {w = w} {scope = scope} {low = low} {spot = spot} {e = e} {s = s} works b plain f) =
-        chosen_goes k law scope low w spot e works (start s w.next) w.next (execute k.calls (here_in k) s) Next b (plain_goes s low w scope (start s w.next) (execute k.calls (here_in k) s) plain (statement_goes f)) (nothing_goes low w scope)
+        chosen_goes k law scope low w spot e works (start_place s w.next) w.next (execute k.calls (here_in k) s) Next b (plain_goes s low w scope (start_place s w.next) (execute k.calls (here_in k) s) plain (statement_goes f)) (nothing_goes low w scope)
     statement_goes (either {w = w} {scope = scope} {low = low} {spot = spot} {e = e} {s = s} {r = r} works b plain_s plain_r f g) =
-        chosen_goes k law scope low w spot e works (start s w.next) (start r w.next) (execute k.calls (here_in k) s) (execute k.calls (here_in k) r) b (plain_goes s low w scope (start s w.next) (execute k.calls (here_in k) s) plain_s (statement_goes f))
-        (plain_goes r low w scope (start r w.next) (execute k.calls (here_in k) r) plain_r (statement_goes g))
+        chosen_goes k law scope low w spot e works (start_place s w.next) (start_place r w.next) (execute k.calls (here_in k) s) (execute k.calls (here_in k) r) b (plain_goes s low w scope (start_place s w.next) (execute k.calls (here_in k) s) plain_s (statement_goes f))
+        (plain_goes r low w scope (start_place r w.next) (execute k.calls (here_in k) r) plain_r (statement_goes g))
     statement_goes (while_loop {w = w} {scope = scope} {low = low} {spot = spot} {e = e} {s = s} works b plain f) =
-        while_goes k law scope low w spot e (start s (Some spot.at)) (execute k.calls (here_in k) s) works b (plain_goes s low (within_loop spot.at w) scope (start s (Some spot.at)) (execute k.calls (here_in k) s) plain (statement_goes f))
+        while_goes k law scope low w spot e (start_place s (Some spot.at)) (execute k.calls (here_in k) s) works b (plain_goes s low (within_loop spot.at w) scope (start_place s (Some spot.at)) (execute k.calls (here_in k) s) plain (statement_goes f))
     statement_goes (do_loop {w = w} {scope = scope} {low = low} {spot = spot} {e = e} {s = s} there works b plain f) =
-        do_goes k law scope low w spot e (start s (Some spot.at)) (execute k.calls (here_in k) s) there works b (plain_goes s low (within_loop spot.at w) scope (start s (Some spot.at)) (execute k.calls (here_in k) s) plain (statement_goes f))
+        do_goes k law scope low w spot e (start_place s (Some spot.at)) (execute k.calls (here_in k) s) there works b (plain_goes s low (within_loop spot.at w) scope (start_place s (Some spot.at)) (execute k.calls (here_in k) s) plain (statement_goes f))
     statement_goes (for_loop {w = w} {scope = scope} {low = low} {begin = begin} {spot = spot} {e = e} {p = p} {s = s} formed works b step_formed plain f) =
         let inside = scope ++ brought_by_start begin in
-        let body = plain_goes s (behind_start low begin) (within_loop (round_of p spot.at) w) inside (start s (Some (round_of p spot.at))) (execute k.calls (here_in k) s) plain (statement_goes f) in
-        let whole = for_goes k law inside (behind_start low begin) w spot e (Some (round_of p spot.at)) (start s (Some (round_of p spot.at))) (execute k.calls (here_in k) s) (step k.calls (here_in k) p) works b body (step_does w (behind_start low begin) step_formed) in
+        let body = plain_goes s (behind_start low begin) (within_loop (round_of p spot.at) w) inside (start_place s (Some (round_of p spot.at))) (execute k.calls (here_in k) s) plain (statement_goes f) in
+        let whole = for_goes k law inside (behind_start low begin) w spot e (Some (round_of p spot.at)) (start_place s (Some (round_of p spot.at))) (execute k.calls (here_in k) s) (step k.calls (here_in k) p) works b body (step_does w (behind_start low begin) step_formed) in
         block_goes k scope low (behind_start low begin) (brought_by_start begin ++ []) w (start_of_for begin spot.at) (λ z. then_do (begin_loop k.calls (here_in k) begin z) (loop (for_round (here_in k) spot (test_at k.calls (here_in k) spot e) (execute k.calls (here_in k) s) (step k.calls (here_in k) p))))
         (for_whole w scope low begin spot.at (loop (for_round (here_in k) spot (test_at k.calls (here_in k) spot e) (execute k.calls (here_in k) s) (step k.calls (here_in k) p))) formed whole)
     statement_goes (endless_loop {w = w} {scope = scope} {low = low} {begin = begin} {spot = spot} {p = p} {s = s} formed b step_formed plain f) =
         let inside = scope ++ brought_by_start begin in
-        let body = plain_goes s (behind_start low begin) (within_loop (round_of p spot.at) w) inside (start s (Some (round_of p spot.at))) (execute k.calls (here_in k) s) plain (statement_goes f) in
-        let whole = endless_goes k law inside (behind_start low begin) w spot (Some (round_of p spot.at)) (start s (Some (round_of p spot.at))) (execute k.calls (here_in k) s) (step k.calls (here_in k) p) b body (step_does w (behind_start low begin) step_formed) in
+        let body = plain_goes s (behind_start low begin) (within_loop (round_of p spot.at) w) inside (start_place s (Some (round_of p spot.at))) (execute k.calls (here_in k) s) plain (statement_goes f) in
+        let whole = endless_goes k law inside (behind_start low begin) w spot (Some (round_of p spot.at)) (start_place s (Some (round_of p spot.at))) (execute k.calls (here_in k) s) (step k.calls (here_in k) p) b body (step_does w (behind_start low begin) step_formed) in
         block_goes k scope low (behind_start low begin) (brought_by_start begin ++ []) w (start_of_for begin spot.at) (λ z. then_do (begin_loop k.calls (here_in k) begin z) (loop (for_round (here_in k) spot (λ x. Holds x) (execute k.calls (here_in k) s) (step k.calls (here_in k) p))))
         (for_whole w scope low begin spot.at (loop (for_round (here_in k) spot (λ x. Holds x) (execute k.calls (here_in k) s) (step k.calls (here_in k) p))) formed whole)
     statement_goes (switch {w = w} {scope = scope} {low = low} {spot = spot} {e = e} {all = all} {t = t} tested labels works b plain f) =
@@ -153,7 +153,7 @@ module _ (k : Activity) (law : Lawful k) where
     pub statements_go : {w : Ways} {scope : List ℕ} {low : ℕ} {all : TypedStatementTrees} → FormedAll k w scope low all → GoesOn k low (behind_all low all) (brought_by_body all) w scope (start_of_all all w.next) (execute_all k.calls (here_in k) all)
     statements_go (none_left {w = w} {scope = scope} {low = low}) = nothing_goes low w scope
     statements_go (first_of {w = w} {scope = scope} {low = low} {s = s} {rest = rest} f more) =
-        first_goes k scope low (behind low s) (behind_all (behind low s) rest) w (start s (start_of_all rest w.next)) (start_of_all rest w.next) (brought s) (brought_by_body rest) (execute k.calls (here_in k) s) (execute_all k.calls (here_in k) rest) (above f) (all_above more)
+        first_goes k scope low (behind low s) (behind_all (behind low s) rest) w (start_place s (start_of_all rest w.next)) (start_of_all rest w.next) (brought s) (brought_by_body rest) (execute k.calls (here_in k) s) (execute_all k.calls (here_in k) rest) (above f) (all_above more)
         (statement_goes f) (statements_go more)
     statements_go (at_case rest) = statements_go rest
     statements_go (at_default rest) = statements_go rest

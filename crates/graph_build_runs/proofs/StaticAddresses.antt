@@ -5,7 +5,7 @@ use Rattle.std.specs.List.{AllByRecursion}
 use Rattle.std.specs.Option.{option_map_or}
 use Rattle.std.proofs.lemmas.Bool.Decides.{nat_tests}
 use Rattle.std.proofs.lemmas.List.{length-map}
-use Rattle.word_base.specs.Types.{holds, number_of}
+use Rattle.word_base.specs.Types.{holds, number_of_bits}
 use Rattle.c_tree.specs.declared.types.IntegerType.{IntegerType}
 use Rattle.c_tree.specs.declared.object_type.Scalar.{Scalar}
 use Rattle.c_tree.specs.declared.object_type.ObjectType.TheVariants as of-object
@@ -15,12 +15,12 @@ use Rattle.c_tree.specs.declared.object_type.ValueType.TheVariants.{Integer, Poi
 use Rattle.c_tree.specs.declared.program.Relocation as source-relocation
 use Rattle.c_tree.specs.Programs.{StaticTree, LiteralTree, ProgramTree}
 use Rattle.c_type_rules.specs.Integers.{integer}
-use Rattle.c_type_rules.specs.Types.{loaded, pointed_to}
+use Rattle.c_type_rules.specs.Types.{loaded_type, pointed_to}
 use Rattle.c_places.specs.Places.{numbers_from}
 use Rattle.c_meaning_values.specs.declared.value.Value as source-value
 use Rattle.c_meaning_values.specs.declared.value.Value.TheVariants as source
 use Rattle.c_meaning_values.specs.declared.value.Phase.TheVariants.{Live, Ended}
-use Rattle.c_meaning_values.specs.Types.{element_of, count_of, scalar_size, size_by_stars, integer_size}
+use Rattle.c_meaning_values.specs.Types.{element_scalar, value_count, scalar_size, size_by_stars, integer_size}
 use Rattle.c_meaning.specs.StaticStorage as source-storage
 use Rattle.c_meaning.specs.StaticStorage.{static_object, literal_object, first_memory}
 use Rattle.graph_core.specs.declared.value.Value.{Value}
@@ -30,7 +30,7 @@ use Rattle.graph_core.specs.Graphs.{StaticObject}
 use Rattle.graph_core.specs.Memory as unit-memory
 use Rattle.graph_core.specs.Memory.{Object, Memory, bytes_of, static_bytes}
 use Rattle.graph_core.specs.Values.{as_element, pointer_at, size_of}
-use Rattle.graph_build_names.specs.Conversions.{word_of}
+use Rattle.graph_build_names.specs.Conversions.{unsigned_bits}
 use Rattle.graph_build_steps.specs.Rules as rule
 use Rattle.graph_build_runs.specs.Typed.{IsOf, IsPointerTo, PointsInto}
 use Rattle.graph_build_runs.specs.Correspondence.{SameObject, SamePointer, points, SameValue, SameValues}
@@ -61,7 +61,7 @@ module _ (p : ProgramTree) where
     lives = refl;
     element = element_same v.of;
     count = unit_length (statics_of p) (static_of p v) 0 (object_count v.of) ∙ count_same v.of
-        ∙ sym (length-map (numbers_from 0 (count_of v.of)) (λ i. source-storage.first_value p v (element_of v.of) (i * scalar_size (element_of v.of))) ∙ numbers_length 0 (count_of v.of));
+        ∙ sym (length-map (numbers_from 0 (value_count v.of)) (λ i. source-storage.first_value p v (element_scalar v.of) (i * scalar_size (element_scalar v.of))) ∙ numbers_length 0 (value_count v.of));
   }
 
   -- and so has a literal.
@@ -80,9 +80,9 @@ module _ (p : ProgramTree) where
       let q = unit_object (statics_of p) n o in
       let there = unit_static p n w h.1 in
       let bytes : bytes_of q ≡ static_bytes o = ap (λ k. k * size_of o.element) (unit_length (statics_of p) o 0 o.count) in
-      let size : size_of o.element ≡ scalar_size (element_of w.of) = ap size_of (element_same w.of) ∙ element_size (element_of w.of) in
-      let room : static_bytes o ≡ count_of w.of * scalar_size (element_of w.of) = ap (λ k. k * size_of o.element) (count_same w.of) ∙ ap (λ k. count_of w.of * k) size in
-      let less = times_within h.3 (count_of w.of) (scalar_size (element_of w.of)) h.5 in
+      let size : size_of o.element ≡ scalar_size (element_scalar w.of) = ap size_of (element_same w.of) ∙ element_size (element_scalar w.of) in
+      let room : static_bytes o ≡ value_count w.of * scalar_size (element_scalar w.of) = ap (λ k. k * size_of o.element) (count_same w.of) ∙ ap (λ k. value_count w.of * k) size in
+      let less = times_within h.3 (value_count w.of) (scalar_size (element_scalar w.of)) h.5 in
       let at = h.4 in
       let within : offset ≤ static_bytes o = omega (arith, at, less, room) in
       points (static_object p n w) (static_there p n w h.1) (λ over. static_open over) tt n q (unit_at n o there) (static_same n w) (subst (λ k. offset ≤ k) (sym bytes) within)
@@ -115,7 +115,7 @@ module _ (p : ProgramTree) where
         element_is = h.2;
         index = h.3;
         at = h.4 ∙ ap (λ s. h.3 * scalar_size s) h.2;
-        within = subst (λ k. h.3 ≤ k) (sym (length-map (numbers_from 0 (count_of w.of)) (λ i. source-storage.first_value p w (element_of w.of) (i * scalar_size (element_of w.of))) ∙ numbers_length 0 (count_of w.of))) h.5;
+        within = subst (λ k. h.3 ≤ k) (sym (length-map (numbers_from 0 (value_count w.of)) (λ i. source-storage.first_value p w (element_scalar w.of) (i * scalar_size (element_scalar w.of))) ∙ numbers_length 0 (value_count w.of))) h.5;
         stands = tt;
       }
   points_into e offset (object.Literal n) h =
@@ -150,11 +150,11 @@ module _ (p : ProgramTree) where
   unit_value bytes all el size index = option_map_or (as_element el) (unit-memory.address_at (statics_of p) (map (relocation_of p) all) (index * size)) (as_element el (unit.Number (unit-memory.spelled (take size (drop (index * size) bytes)))))
 
   abbrev source_value : (bytes : List ℕ) → List source-relocation.Relocation → IntegerType → (stars place : ℕ) → source-value.Value
-  source_value bytes all base stars place = if stars == 0 then source.Number (number_of (integer base) (source-storage.spelled (take (integer_size base) (drop place bytes)))) else source-storage.address_at p all place
+  source_value bytes all base stars place = if stars == 0 then source.Number (number_of_bits (integer base) (source-storage.spelled (take (integer_size base) (drop place bytes)))) else source-storage.address_at p all place
 
   value_same : (base : IntegerType) (stars : ℕ) (bytes : List ℕ) (all : List source-relocation.Relocation) (index : ℕ) → Bytes bytes → (stars ≡ 0 → all ≡ []) → (stars ≢ 0 → AllByRecursion (λ b. b ≡ 0) bytes) → AreAddresses p (record { base = base; stars = stars }) all
       → SameValue p (first_memory p) others_first (source_value bytes all base stars (index * size_by_stars base stars)) (unit_value bytes all (rule.element_of (record { base = base; stars = stars })) (size_by_stars base stars) index)
-      × IsOf (first_memory p) (loaded (record { base = base; stars = stars })) (source_value bytes all base stars (index * size_by_stars base stars))
+      × IsOf (first_memory p) (loaded_type (record { base = base; stars = stars })) (source_value bytes all base stars (index * size_by_stars base stars))
   value_same base zero bytes all index in_bytes numbers zeros addresses =
       let place = index * integer_size base in
       let rest = drop place bytes in
@@ -162,7 +162,7 @@ module _ (p : ProgramTree) where
       let r = numbered base rest (dropped_all (λ b. b < 256) place bytes in_bytes) in
       let value : unit_value bytes all (rule.element_of (record { base = base; stars = 0 })) (integer_size base) index ≡ as_element (rule.element_of (record { base = base; stars = 0 })) (unit.Number (unit-memory.spelled (take (integer_size base) rest))) =
       ap (λ xs. unit_value bytes xs (rule.element_of (record { base = base; stars = 0 })) (integer_size base) index) (numbers refl) in
-      (value ∙ r.0 ∙ ap (λ k. unit.Number (word_of (number_of (integer base) k))) (sym spells), subst (λ k. holds (integer base) (number_of (integer base) k) ≡ true) (sym spells) r.1)
+      (value ∙ r.0 ∙ ap (λ k. unit.Number (unsigned_bits (number_of_bits (integer base) k))) (sym spells), subst (λ k. holds (integer base) (number_of_bits (integer base) k) ≡ true) (sym spells) r.1)
   value_same base (suc stars) bytes all index in_bytes numbers zeros addresses =
       let e : Scalar = record { base = base; stars = suc stars } in
       let all_zero = zeros (λ h. none h) in
@@ -171,8 +171,8 @@ module _ (p : ProgramTree) where
       let same = word_same e all addresses (index * 4) (as_element (rule.element_of e) (unit.Number (unit-memory.spelled (take 4 (drop (index * 4) bytes))))) word in
       let kept = subst (λ el. SameValue p (first_memory p) others_first (source-storage.address_at p all (index * 4)) (option_map_or (as_element el) (unit-memory.address_at (statics_of p) (map (relocation_of p) all) (index * 4)) (as_element (rule.element_of e) (unit.Number (unit-memory.spelled (take 4 (drop (index * 4) bytes)))))))
       (sym (word_element base stars)) same in (
-        subst (λ b. SameValue p (first_memory p) others_first (if b then source.Number (number_of (integer base) (source-storage.spelled (take (integer_size base) (drop (index * 4) bytes)))) else source-storage.address_at p all (index * 4)) (unit_value bytes all (rule.element_of e) 4 index)) (sym (no_zero stars)) kept,
-        subst (λ b. IsOf (first_memory p) (if b then Integer base else Pointer (of-object.Scalar (pointed_to e))) (if b then source.Number (number_of (integer base) (source-storage.spelled (take (integer_size base) (drop (index * 4) bytes)))) else source-storage.address_at p all (index * 4))) (sym (no_zero stars)) (word_typed e all addresses (index * 4)),
+        subst (λ b. SameValue p (first_memory p) others_first (if b then source.Number (number_of_bits (integer base) (source-storage.spelled (take (integer_size base) (drop (index * 4) bytes)))) else source-storage.address_at p all (index * 4)) (unit_value bytes all (rule.element_of e) 4 index)) (sym (no_zero stars)) kept,
+        subst (λ b. IsOf (first_memory p) (if b then Integer base else Pointer (of-object.Scalar (pointed_to e))) (if b then source.Number (number_of_bits (integer base) (source-storage.spelled (take (integer_size base) (drop (index * 4) bytes)))) else source-storage.address_at p all (index * 4))) (sym (no_zero stars)) (word_typed e all addresses (index * 4)),
       )
     where
       none : suc stars ≡ 0 → ⊥
@@ -180,11 +180,11 @@ module _ (p : ProgramTree) where
 
   -- The values of a static variable, in both runs.
   pub static_values : (v : StaticTree) → StaticFits p v → (count index : ℕ)
-      → SameValues p (first_memory p) others_first (map (λ i. source-storage.first_value p v (element_of v.of) (i * scalar_size (element_of v.of))) (numbers_from index count)) (unit-memory.first_values (statics_of p) (static_of p v) index count)
-      × AllByRecursion (IsOf (first_memory p) (loaded (element_of v.of))) (map (λ i. source-storage.first_value p v (element_of v.of) (i * scalar_size (element_of v.of))) (numbers_from index count))
+      → SameValues p (first_memory p) others_first (map (λ i. source-storage.first_value p v (element_scalar v.of) (i * scalar_size (element_scalar v.of))) (numbers_from index count)) (unit-memory.first_values (statics_of p) (static_of p v) index count)
+      × AllByRecursion (IsOf (first_memory p) (loaded_type (element_scalar v.of))) (map (λ i. source-storage.first_value p v (element_scalar v.of) (i * scalar_size (element_scalar v.of))) (numbers_from index count))
   static_values v fits zero index = (tt, tt)
   static_values v fits (suc count) index =
-      let e = element_of v.of in
+      let e = element_scalar v.of in
       let one = value_same e.base e.stars v.bytes v.relocations index fits.bytes fits.numbers fits.zeros fits.addresses in
       let other : unit-memory.first_value (statics_of p) (static_of p v) index ≡ unit_value v.bytes v.relocations (rule.element_of e) (scalar_size e) index =
       ap (λ el. unit_value v.bytes v.relocations el (size_of el) index) (element_same v.of) ∙ ap (λ size. unit_value v.bytes v.relocations (rule.element_of e) size index) (element_size e) in

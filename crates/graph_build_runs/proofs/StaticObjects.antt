@@ -9,7 +9,7 @@ use Rattle.c_tree.specs.declared.object_type.Object as designator
 use Rattle.c_tree.specs.declared.object_type.Object.TheVariants as object
 use Rattle.c_tree.specs.declared.program.Relocation as source-relocation
 use Rattle.c_tree.specs.Programs.{StaticTree, LiteralTree, ProgramTree}
-use Rattle.c_meaning_values.specs.Types.{element_of, count_of}
+use Rattle.c_meaning_values.specs.Types.{element_scalar, value_count}
 use Rattle.c_meaning_values.specs.Memory.{Object as SourceObject}
 use Rattle.c_meaning.specs.StaticStorage.{static_object, literal_object, static_objects, literal_objects, first_memory}
 use Rattle.graph_core.specs.declared.value.Owner.TheVariants as unit-owner
@@ -53,11 +53,11 @@ literal_of l = record { element = Unsigned8; count = length l.bytes; bytes = l.b
 abbrev pub statics_of : ProgramTree → List StaticObject
 statics_of p = map (static_of p) p.statics ++ map literal_of p.literals
 
-pub element_same : (of : ObjectType) → object_element of ≡ rule.element_of (element_of of)
+pub element_same : (of : ObjectType) → object_element of ≡ rule.element_of (element_scalar of)
 element_same (of-object.Scalar s) = refl
 element_same (of-object.Array s count) = refl
 
-pub count_same : (of : ObjectType) → object_count of ≡ count_of of
+pub count_same : (of : ObjectType) → object_count of ≡ value_count of
 count_same (of-object.Scalar s) = refl
 count_same (of-object.Array s count) = refl
 

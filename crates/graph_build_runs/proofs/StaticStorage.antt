@@ -8,11 +8,11 @@ use Rattle.word_base.specs.Types.{holds}
 use Rattle.c_tree.specs.declared.types.IntegerType.TheVariants.{Char}
 use Rattle.c_tree.specs.Programs.{ProgramTree}
 use Rattle.c_type_rules.specs.Integers.{integer}
-use Rattle.c_type_rules.specs.Types.{loaded}
+use Rattle.c_type_rules.specs.Types.{loaded_type}
 use Rattle.c_places.specs.Places.{numbers_from}
 use Rattle.c_meaning_values.specs.declared.value.Value.TheVariants as source
 use Rattle.c_meaning_values.specs.declared.value.Phase.TheVariants.{Live}
-use Rattle.c_meaning_values.specs.Types.{element_of, count_of, scalar_size}
+use Rattle.c_meaning_values.specs.Types.{element_scalar, value_count, scalar_size}
 use Rattle.c_meaning_values.specs.Memory.{Object as SourceObject, Memory as SourceMemory}
 use Rattle.c_meaning_steps.specs.States.{State}
 use Rattle.c_meaning.specs.StaticStorage as source-storage
@@ -33,7 +33,7 @@ use Rattle.graph_build_runs.proofs.StaticValues.{Bytes, StaticsFit, literal_valu
 use Rattle.graph_build_runs.proofs.StaticAddresses.{numbers_length, others_first, unit_at, static_same, literal_same, static_values}
 
 -- bytes are of type char
-bytes_typed : (memory : SourceMemory) (bytes : List ℕ) → Bytes bytes → AllByRecursion (IsOf memory (loaded (record { base = Char; stars = 0 }))) (map (λ byte. source.Number (pos byte)) bytes)
+bytes_typed : (memory : SourceMemory) (bytes : List ℕ) → Bytes bytes → AllByRecursion (IsOf memory (loaded_type (record { base = Char; stars = 0 }))) (map (λ byte. source.Number (pos byte)) bytes)
 bytes_typed memory [] h = tt
 bytes_typed memory (b ∷ bytes) h = (byte b h.0, bytes_typed memory bytes h.1)
   where
@@ -52,7 +52,7 @@ module _ (p : ProgramTree) (fit : StaticsFit p) where
           object = unit_object (statics_of p) n (static_of p v);
           is = unit_at p n (static_of p v) (unit_static p n v found.1);
           same = static_same p n v;
-          values = λ live. subst (λ count. SameValues p (first_memory p) (others_first p) (static_object p n v).values (unit-memory.first_values (statics_of p) (static_of p v) 0 count)) (sym (count_same v.of)) (static_values p v (fit.statics n v found.1) (count_of v.of) 0).0;
+          values = λ live. subst (λ count. SameValues p (first_memory p) (others_first p) (static_object p n v).values (unit-memory.first_values (statics_of p) (static_of p v) 0 count)) (sym (count_same v.of)) (static_values p v (fit.statics n v found.1) (value_count v.of) 0).0;
         })
     | inr found ↦
         let l = found.1 in
@@ -92,7 +92,7 @@ module _ (p : ProgramTree) (fit : StaticsFit p) where
   declared_first n o is = elim (first_found p n o is) [
     | inl found ↦
         let v = found.0 in
-        subst (λ z. IsDeclared p z.owner z) (sym found.2) (v, found.1, refl, length-map (numbers_from 0 (count_of v.of)) (λ i. source-storage.first_value p v (element_of v.of) (i * scalar_size (element_of v.of))) ∙ numbers_length 0 (count_of v.of))
+        subst (λ z. IsDeclared p z.owner z) (sym found.2) (v, found.1, refl, length-map (numbers_from 0 (value_count v.of)) (λ i. source-storage.first_value p v (element_scalar v.of) (i * scalar_size (element_scalar v.of))) ∙ numbers_length 0 (value_count v.of))
     | inr found ↦ let l = found.1 in subst (λ z. IsDeclared p z.owner z) (sym found.4) (l, found.3, refl, length-map l.bytes (λ byte. source.Number (pos byte)))
   ]
 
@@ -102,10 +102,10 @@ module _ (p : ProgramTree) (fit : StaticsFit p) where
     | inr found ↦ ap (λ z. z.phase) found.4
   ]
 
-  typed_first : (n : ℕ) (o : SourceObject) → slice_get (first_memory p) n ≡ Some o → AllByRecursion (IsOf (first_memory p) (loaded o.element)) o.values
+  typed_first : (n : ℕ) (o : SourceObject) → slice_get (first_memory p) n ≡ Some o → AllByRecursion (IsOf (first_memory p) (loaded_type o.element)) o.values
   typed_first n o is = elim (first_found p n o is) [
-    | inl found ↦ subst (λ z. AllByRecursion (IsOf (first_memory p) (loaded z.element)) z.values) (sym found.2) (static_values p found.0 (fit.statics n found.0 found.1) (count_of found.0.of) 0).1
-    | inr found ↦ subst (λ z. AllByRecursion (IsOf (first_memory p) (loaded z.element)) z.values) (sym found.4) (bytes_typed (first_memory p) found.1.bytes (fit.literals found.0 found.1 found.3))
+    | inl found ↦ subst (λ z. AllByRecursion (IsOf (first_memory p) (loaded_type z.element)) z.values) (sym found.2) (static_values p found.0 (fit.statics n found.0 found.1) (value_count found.0.of) 0).1
+    | inr found ↦ subst (λ z. AllByRecursion (IsOf (first_memory p) (loaded_type z.element)) z.values) (sym found.4) (bytes_typed (first_memory p) found.1.bytes (fit.literals found.0 found.1 found.3))
   ]
 
   -- an owner in static storage has one number

@@ -1,7 +1,7 @@
 -- What static storage holds as a run begins is the same in a program's run and in its unit's.
 use Rattle.std.proofs.Common.{◌≡◌, ◌≢◌, ℕ, zero, suc, ◌+◌, ◌*◌, ◌%◌, ◌<◌, ◌≤◌, List, [], ◌∷◌, length, map, take, drop, Some, true, slice_get, refl, sym, ap, ◌∙◌, subst, arith, pos}
 use Rattle.std.specs.List.{AllByRecursion}
-use Rattle.word_base.specs.Types.{holds, number_of}
+use Rattle.word_base.specs.Types.{holds, number_of_bits}
 use Rattle.word_base.specs.WordOperations.{truncated}
 use Rattle.c_tree.specs.declared.types.IntegerType.{IntegerType}
 use Rattle.c_tree.specs.declared.types.IntegerType.TheVariants.{Char, SignedChar, UnsignedChar, Short, UnsignedShort, Int, UnsignedInt, Long, UnsignedLong}
@@ -13,7 +13,7 @@ use Rattle.c_tree.specs.Programs.{StaticTree, LiteralTree, ProgramTree}
 use Rattle.c_type_rules.specs.Integers.{integer}
 use Rattle.c_type_rules.specs.Types.{pointed_to}
 use Rattle.c_meaning_values.specs.declared.value.Value.TheVariants as source
-use Rattle.c_meaning_values.specs.Types.{element_of, count_of, scalar_size, integer_size}
+use Rattle.c_meaning_values.specs.Types.{element_scalar, value_count, scalar_size, integer_size}
 use Rattle.c_meaning_values.specs.Memory.{Memory as SourceMemory}
 use Rattle.c_meaning.specs.StaticStorage as source-storage
 use Rattle.c_meaning.specs.StaticStorage.{static_object, literal_object, first_memory}
@@ -23,7 +23,7 @@ use Rattle.graph_core.specs.Graphs.{StaticObject}
 use Rattle.graph_core.specs.Memory as unit-memory
 use Rattle.graph_core.specs.Memory.{Object, Memory, bytes_of, static_bytes, element_in}
 use Rattle.graph_core.specs.Values.{as_element}
-use Rattle.graph_build_names.specs.Conversions.{word_of}
+use Rattle.graph_build_names.specs.Conversions.{unsigned_bits}
 use Rattle.graph_build_steps.specs.Rules as rule
 use Rattle.graph_build_steps.specs.Rules.{truncation_to}
 use Rattle.graph_build_runs.specs.Correspondence.{SameValues}
@@ -33,7 +33,7 @@ use Rattle.graph_build_runs.proofs.StaticObjects.{literal_of}
 
 -- A word of a static object of pointers holds the address of an object of static storage: of an element of a static one, or directly behind the last, or the beginning of a literal.
 abbrev pub IsAddress : ProgramTree → (pointer : Scalar) → (offset : ℕ) → designator.Object → Type 0
-IsAddress p e offset (object.Static n) = (w : StaticTree) × (slice_get p.statics n ≡ Some w) × (element_of w.of ≡ pointed_to e) × (i : ℕ) × (offset ≡ i * scalar_size (element_of w.of)) × (i ≤ count_of w.of)
+IsAddress p e offset (object.Static n) = (w : StaticTree) × (slice_get p.statics n ≡ Some w) × (element_scalar w.of ≡ pointed_to e) × (i : ℕ) × (offset ≡ i * scalar_size (element_scalar w.of)) × (i ≤ value_count w.of)
 IsAddress p e offset (object.Literal n) = (l : LiteralTree) × (slice_get p.literals n ≡ Some l) × (record { base = Char; stars = 0 } ≡ pointed_to e) × (offset ≡ 0)
 IsAddress p e offset (object.Automatic x) = ⊥
 
@@ -47,9 +47,9 @@ Bytes all = AllByRecursion (λ b. b < 256) all
 -- A static object holds bytes; addresses stand in pointers alone, and a pointer that is none is null.
 pub record StaticFits (p : ProgramTree) (v : StaticTree) : Type 0 where
   pub bytes : Bytes v.bytes
-  pub numbers : (element_of v.of).stars ≡ 0 → v.relocations ≡ []
-  pub zeros : (element_of v.of).stars ≢ 0 → AllByRecursion (λ b. b ≡ 0) v.bytes
-  pub addresses : AreAddresses p (element_of v.of) v.relocations
+  pub numbers : (element_scalar v.of).stars ≡ 0 → v.relocations ≡ []
+  pub zeros : (element_scalar v.of).stars ≢ 0 → AllByRecursion (λ b. b ≡ 0) v.bytes
+  pub addresses : AreAddresses p (element_scalar v.of) v.relocations
 
 -- What is asked of a program's static storage.
 pub record StaticsFit (p : ProgramTree) : Type 0 where
@@ -93,17 +93,17 @@ both_spell (b ∷ all) = ap (λ n. b + 256 * n) (both_spell all)
 
 -- The number of a type that bits are, as an element of the unit keeps them, and that it is of its type.
 abbrev Numbered : IntegerType → ℕ → Type 0
-Numbered t n = (as_element (rule.element_of (record { base = t; stars = 0 })) (unit.Number n) ≡ unit.Number (word_of (number_of (integer t) n))) × (holds (integer t) (number_of (integer t) n) ≡ true)
+Numbered t n = (as_element (rule.element_of (record { base = t; stars = 0 })) (unit.Number n) ≡ unit.Number (unsigned_bits (number_of_bits (integer t) n))) × (holds (integer t) (number_of_bits (integer t) n) ≡ true)
 
-narrow_bits : (t : IntegerType) (n low : ℕ) → low ≡ n → n ≡ n % 4294967296 → truncated (truncation_to t) (n % 4294967296) ≡ word_of (number_of (integer t) low) → holds (integer t) (number_of (integer t) low) ≡ true
-    → (truncated (truncation_to t) n ≡ word_of (number_of (integer t) n)) × (holds (integer t) (number_of (integer t) n) ≡ true)
-narrow_bits t n low same word h is = (ap (truncated (truncation_to t)) word ∙ h ∙ ap (λ k. word_of (number_of (integer t) k)) same, subst (λ k. holds (integer t) (number_of (integer t) k) ≡ true) same is)
+narrow_bits : (t : IntegerType) (n low : ℕ) → low ≡ n → n ≡ n % 4294967296 → truncated (truncation_to t) (n % 4294967296) ≡ unsigned_bits (number_of_bits (integer t) low) → holds (integer t) (number_of_bits (integer t) low) ≡ true
+    → (truncated (truncation_to t) n ≡ unsigned_bits (number_of_bits (integer t) n)) × (holds (integer t) (number_of_bits (integer t) n) ≡ true)
+narrow_bits t n low same word h is = (ap (truncated (truncation_to t)) word ∙ h ∙ ap (λ k. unsigned_bits (number_of_bits (integer t) k)) same, subst (λ k. holds (integer t) (number_of_bits (integer t) k) ≡ true) same is)
 
 word_holds : (n : ℕ) → n % 4294967296 ≡ n → holds (integer UnsignedInt) (pos n) ≡ true
 word_holds n e = subst (λ k. holds (integer UnsignedInt) (pos k) ≡ true) e (wrapped_holds UnsignedInt (pos n))
 
-wide_bits : (t : IntegerType) (n low : ℕ) → low ≡ n → word_of (number_of (integer t) low) ≡ low → holds (integer t) (number_of (integer t) low) ≡ true → (unit.Number n ≡ unit.Number (word_of (number_of (integer t) n))) × (holds (integer t) (number_of (integer t) n) ≡ true)
-wide_bits t n low same h is = (ap unit.Number (sym (subst (λ k. word_of (number_of (integer t) k) ≡ k) same h)), subst (λ k. holds (integer t) (number_of (integer t) k) ≡ true) same is)
+wide_bits : (t : IntegerType) (n low : ℕ) → low ≡ n → unsigned_bits (number_of_bits (integer t) low) ≡ low → holds (integer t) (number_of_bits (integer t) low) ≡ true → (unit.Number n ≡ unit.Number (unsigned_bits (number_of_bits (integer t) n))) × (holds (integer t) (number_of_bits (integer t) n) ≡ true)
+wide_bits t n low same h is = (ap unit.Number (sym (subst (λ k. unsigned_bits (number_of_bits (integer t) k) ≡ k) same h)), subst (λ k. holds (integer t) (number_of_bits (integer t) k) ≡ true) same is)
 
 pub numbered : (t : IntegerType) (all : List ℕ) → Bytes all → Numbered t (unit-memory.spelled (take (integer_size t) all))
 numbered Char all h = let n = unit-memory.spelled (take 1 all) in let lt = spelled_one all h in let r = narrow_bits Char n (n % 256) (omega (arith, lt)) (omega (arith, lt)) (truncated_word Char (pos n) refl) (wrapped_holds Char (pos n)) in (ap unit.Number r.0, r.1)
@@ -117,7 +117,7 @@ numbered Long all h = let n = unit-memory.spelled (take 4 all) in let lt = spell
 numbered UnsignedLong all h = let n = unit-memory.spelled (take 4 all) in let lt = spelled_four all h in wide_bits UnsignedLong n (n % 4294967296) (omega (arith, lt)) (kept_word UnsignedInt UnsignedLong (pos n) refl (word_holds n (omega (arith, lt)))) (wrapped_holds UnsignedLong (pos n))
 
 -- a literal's bytes
-byte_same : (b : ℕ) → b < 256 → as_element Unsigned8 (unit.Number (b + 256 * 0)) ≡ unit.Number (word_of (pos b))
+byte_same : (b : ℕ) → b < 256 → as_element Unsigned8 (unit.Number (b + 256 * 0)) ≡ unit.Number (unsigned_bits (pos b))
 byte_same b lt =
     let whole : b + 256 * 0 ≡ b = omega arith in
     let n : b ≡ b % 4294967296 = omega (arith, lt) in

@@ -25,7 +25,7 @@ use Rattle.graph_core.specs.declared.value.Value.TheVariants.{Number}
 use Rattle.graph_core.specs.declared.block.Comparison.TheVariants as branch
 use Rattle.graph_core.specs.Graphs.{Operand, Constant, Branch, Block}
 use Rattle.graph_core.specs.Runs.{Configuration, Event, entered, branched, value, step}
-use Rattle.graph_build_names.specs.Conversions.{word_of}
+use Rattle.graph_build_names.specs.Conversions.{unsigned_bits}
 use Rattle.graph_build_layout.specs.declared.laid.Use.TheVariants.{Anywhere}
 use Rattle.graph_build_layout.specs.Layout.{laid}
 use Rattle.graph_build_steps.specs.Drafts.{Made, To, label_of}
@@ -70,7 +70,7 @@ module _ (k : Activity) (at : ℕ) (a : Operand) where
       (tests_front rest next other ends (closed_inner k.setting.graph k.setting.top (place_at k at) (tests (coding_in k) at a rest next other ends) h))
   tests_front (default rest) next other inner h = tests_front rest next other inner h
 
-  module _ (t : IntegerType) (promoted : is_promoted t ≡ true) (z : ℤ) (is : holds (integer t) z ≡ true) (c : Configuration) (es : List Event) (l : Local) (u : World) (given : value k.setting.unit.statics l.names a ≡ Number (word_of z)) where
+  module _ (t : IntegerType) (promoted : is_promoted t ≡ true) (z : ℤ) (is : holds (integer t) z ≡ true) (c : Configuration) (es : List Event) (l : Local) (u : World) (given : value k.setting.unit.statics l.names a ≡ Number (unsigned_bits z)) where
     -- The tests lead to the label of a number, or to where `default` leads.
     pub tests_lead : (number : ℕ) (all : TypedStatementTrees) (next other : Option ℕ) (inner : List Block) → AreLabels t all → Stands k.setting.graph k.setting.top (tests (coding_in k) at a all next other inner).inner
         → Leads k.setting.unit c es (before_in k (place_at k at) (tests (coding_in k) at a all next other inner).ops (tests (coding_in k) at a all next other inner).end (in_block number l) u) u.seen
@@ -83,12 +83,12 @@ module _ (k : Activity) (at : ℕ) (a : Operand) where
         let ends = with_end (coding_in k) at to inner in
         let m = tests (coding_in k) at a rest next other ends in
         let inner_st = closed_inner k.setting.graph k.setting.top (place_at k at) m st in
-        let end = Branch branch.Equal a (Constant (word_of j)) (label_for (coding_in k) to inner) (label_of k.setting.top m) in
-        let compares = branch_compares t promoted z j is labels.0 (placed k (place_at k at) []) Equal a (Constant (word_of j)) (label_for (coding_in k) to inner) (label_of k.setting.top m) (in_block number l) u given refl in
+        let end = Branch branch.Equal a (Constant (unsigned_bits j)) (label_for (coding_in k) to inner) (label_of k.setting.top m) in
+        let compares = branch_compares t promoted z j is labels.0 (placed k (place_at k at) []) Equal a (Constant (unsigned_bits j)) (label_for (coding_in k) to inner) (label_of k.setting.top m) (in_block number l) u given refl in
         by (is_same_number z j) compares (λ leads2. tests_lead (label_of k.setting.top m) rest next other ends labels.1 inner_st leads2) inner_st
       where
-        by : (same : Bool) → step k.setting.unit (before_in k (place_at k at) [] (Branch branch.Equal a (Constant (word_of j)) (label_for (coding_in k) (start_of_all rest next) inner) (label_of k.setting.top (tests (coding_in k) at a rest next other (with_end (coding_in k) at (start_of_all rest next) inner)))) (in_block number l) u)
-            ≡ branched (before_in k (place_at k at) [] (Branch branch.Equal a (Constant (word_of j)) (label_for (coding_in k) (start_of_all rest next) inner) (label_of k.setting.top (tests (coding_in k) at a rest next other (with_end (coding_in k) at (start_of_all rest next) inner)))) (in_block number l) u) (Some same)
+        by : (same : Bool) → step k.setting.unit (before_in k (place_at k at) [] (Branch branch.Equal a (Constant (unsigned_bits j)) (label_for (coding_in k) (start_of_all rest next) inner) (label_of k.setting.top (tests (coding_in k) at a rest next other (with_end (coding_in k) at (start_of_all rest next) inner)))) (in_block number l) u)
+            ≡ branched (before_in k (place_at k at) [] (Branch branch.Equal a (Constant (unsigned_bits j)) (label_for (coding_in k) (start_of_all rest next) inner) (label_of k.setting.top (tests (coding_in k) at a rest next other (with_end (coding_in k) at (start_of_all rest next) inner)))) (in_block number l) u) (Some same)
             (label_for (coding_in k) (start_of_all rest next) inner) (label_of k.setting.top (tests (coding_in k) at a rest next other (with_end (coding_in k) at (start_of_all rest next) inner)))
             → (Leads k.setting.unit c es (before_in k (place_at k at) (tests (coding_in k) at a rest next other (with_end (coding_in k) at (start_of_all rest next) inner)).ops (tests (coding_in k) at a rest next other (with_end (coding_in k) at (start_of_all rest next) inner)).end
             (in_block (label_of k.setting.top (tests (coding_in k) at a rest next other (with_end (coding_in k) at (start_of_all rest next) inner))) l) u) u.seen
@@ -98,13 +98,13 @@ module _ (k : Activity) (at : ℕ) (a : Operand) where
         by true goes_by later inner_st =
             let ends = with_end (coding_in k) at (start_of_all rest next) inner in
             let m = tests (coding_in k) at a rest next other ends in
-            let end = Branch branch.Equal a (Constant (word_of j)) (label_for (coding_in k) (start_of_all rest next) inner) (label_of k.setting.top m) in
+            let end = Branch branch.Equal a (Constant (unsigned_bits j)) (label_for (coding_in k) (start_of_all rest next) inner) (label_of k.setting.top m) in
             label_comes k c es at (start_of_all rest next) inner (place_at k at) l u (tests_front rest next other ends inner_st)
             (λ b is_b. then_leads leads (goes (goes_by ∙ ap (entered (before_in k (place_at k at) [] end (in_block number l) u) (label_for (coding_in k) (start_of_all rest next) inner)) is_b) stays))
         by false goes_by later inner_st =
             let ends = with_end (coding_in k) at (start_of_all rest next) inner in
             let m = tests (coding_in k) at a rest next other ends in
-            let end = Branch branch.Equal a (Constant (word_of j)) (label_for (coding_in k) (start_of_all rest next) inner) (label_of k.setting.top m) in
+            let end = Branch branch.Equal a (Constant (unsigned_bits j)) (label_for (coding_in k) (start_of_all rest next) inner) (label_of k.setting.top m) in
             later (then_leads leads (goes (goes_by ∙ ap (entered (before_in k (place_at k at) [] end (in_block number l) u) (label_of k.setting.top m)) (closed_block k.setting.graph k.setting.top (place_at k at) m st)) stays))
 
 -- what has a promoted integer type is a number of it
@@ -153,7 +153,7 @@ module _ (k : Activity) (law : Lawful k) (scope : List ℕ) (low : ℕ) (w : Way
       (λ v s2 l2 u2 leads2 sound2 fits2 since same kind.
       (let n = number_tested (kind_of k.setting.program k.setting.tree e) t tested s2.memory v kind in
       let is : v ≡ source.Number n.1.0 = n.1.1 in
-      let given : value k.setting.unit.statics l2.names tested_in ≡ Number (word_of n.1.0) = subst (λ q. SameValue k.setting.program s2.memory u2.memory q (value k.setting.unit.statics l2.names tested_in)) is same in
+      let given : value k.setting.unit.statics l2.names tested_in ≡ Number (unsigned_bits n.1.0) = subst (λ q. SameValue k.setting.program s2.memory u2.memory q (value k.setting.unit.statics l2.names tested_in)) is same in
       let to = tests_lead k spot.at tested_in t n.0 n.1.0 n.1.2 c es l2 u2 given l2.block all w.next (default_start all w.next) b.inner labels stands leads2 in
       subst (λ q. Runs k c es low low [] s2.memory w (go_by q s2)) (sym is)
       (switch_runs k c es low s2.memory w (by_label (has_case n.1.0 all) (case_go n.1.0) default_go s2)

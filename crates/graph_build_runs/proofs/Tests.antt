@@ -14,8 +14,8 @@ use Rattle.graph_core.specs.declared.value.Value.{Value}
 use Rattle.graph_core.specs.declared.value.Value.TheVariants.{Number, Pointer, Odd}
 use Rattle.graph_core.specs.declared.block.Comparison.TheVariants.{NotEqual}
 use Rattle.graph_core.specs.Memory.{Memory, bytes_of}
-use Rattle.graph_core.specs.Values.{holds, same, truth, is_true as is_known}
-use Rattle.graph_build_names.specs.Conversions.{word_of}
+use Rattle.graph_core.specs.Values.{holds, same, truth_word, is_true as is_known}
+use Rattle.graph_build_names.specs.Conversions.{unsigned_bits}
 use Rattle.graph_build_runs.specs.Correspondence.{SameObject, SamePointer, points, ended, SameValue}
 use Rattle.graph_build_runs.proofs.Words.{InWord}
 
@@ -26,12 +26,12 @@ HasWord source.Null = Unit {0}
 HasWord (source.Pointer n offset) = Unit {0}
 
 -- a number is true where its word is not 0
-pub true_word : (z : ℤ) → InWord z → not (word_of z == 0) ≡ is_true (source.Number z)
+pub true_word : (z : ℤ) → InWord z → not (unsigned_bits z == 0) ≡ is_true (source.Number z)
 true_word (pos zero) h = refl
-true_word (pos (suc n)) h = let lt : suc n < 4294967296 = h in let some : word_of (pos (suc n)) ≢ 0 = λ e. absurd (omega (arith, lt, e)) in let e : word_of (pos (suc n)) == 0 ≡ false = grind (arith, nat_tests, some) in ap not e
-true_word (negsuc n) h = let lt : n < 2147483648 = h in let some : word_of (negsuc n) ≢ 0 = λ e. absurd (omega (arith, lt, e)) in let e : word_of (negsuc n) == 0 ≡ false = grind (arith, nat_tests, some) in ap not e
+true_word (pos (suc n)) h = let lt : suc n < 4294967296 = h in let some : unsigned_bits (pos (suc n)) ≢ 0 = λ e. absurd (omega (arith, lt, e)) in let e : unsigned_bits (pos (suc n)) == 0 ≡ false = grind (arith, nat_tests, some) in ap not e
+true_word (negsuc n) h = let lt : n < 2147483648 = h in let some : unsigned_bits (negsuc n) ≢ 0 = λ e. absurd (omega (arith, lt, e)) in let e : unsigned_bits (negsuc n) == 0 ≡ false = grind (arith, nat_tests, some) in ap not e
 
-word_test : (live : ℕ → Bool) (b : Bool) → option_map not (is_known (truth b)) ≡ Some (not b)
+word_test : (live : ℕ → Bool) (b : Bool) → option_map not (is_known (truth_word b)) ≡ Some (not b)
 word_test live true = refl
 word_test live false = refl
 
@@ -42,7 +42,7 @@ over_ended phase e = ap (λ q. not (is_over q)) e
 pub test_value : (p : ProgramTree) (memory : SourceMemory) (others : Memory) (live : ℕ → Bool) (v : source-value.Value) (w : Value) → SameValue p memory others v w → HasWord v → is_usable memory v ≡ true
     → holds live NotEqual w (Number 0) ≡ Some (is_true v)
 test_value p memory others live (source.Number z) w same word usable =
-    ap (λ k. holds live NotEqual k (Number 0)) same ∙ word_test live (word_of z == 0) ∙ ap Some (true_word z word)
+    ap (λ k. holds live NotEqual k (Number 0)) same ∙ word_test live (unsigned_bits z == 0) ∙ ap Some (true_word z word)
 test_value p memory others live source.Null w same word usable = ap (λ k. holds live NotEqual k (Number 0)) same
 test_value p memory others live (source.Pointer n offset) w (points o is begun inside m q at object within e) word usable = ap (λ k. holds live NotEqual k (Number 0)) e
 test_value p memory others live (source.Pointer n offset) w (ended o is over known) word usable =

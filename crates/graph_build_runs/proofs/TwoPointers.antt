@@ -16,8 +16,8 @@ use Rattle.c_meaning_steps.specs.States.{State}
 use Rattle.graph_core.specs.declared.value.Value.{Value}
 use Rattle.graph_core.specs.declared.value.Value.TheVariants.{Number, Pointer, Odd}
 use Rattle.graph_core.specs.Memory.{bytes_of, is_live}
-use Rattle.graph_core.specs.Values.{operate, between, same, truth as truth_of}
-use Rattle.graph_build_names.specs.Conversions.{word_of}
+use Rattle.graph_core.specs.Values.{operate, between, same, truth_word as truth_of}
+use Rattle.graph_build_names.specs.Conversions.{unsigned_bits}
 use Rattle.graph_build_runs.specs.Correspondence.{owner_of, SamePointer, SameValue}
 use Rattle.graph_build_runs.proofs.Words.{word_difference}
 use Rattle.graph_build_runs.proofs.Leads.{Setting, Local, World}
@@ -33,7 +33,7 @@ IsPointer (source.Number z) = ⊥
 IsPointer source.Null = Unit {0}
 IsPointer (source.Pointer n offset) = Unit {0}
 
-no_number : (live : ℕ → Bool) (b : Bool) → (if b then Number 1 else Number 0) ≡ Number (word_of (truth b))
+no_number : (live : ℕ → Bool) (b : Bool) → (if b then Number 1 else Number 0) ≡ Number (unsigned_bits (truth b))
 no_number live true = refl
 no_number live false = refl
 
@@ -75,7 +75,7 @@ module _ (x : Setting) (want : Option ℕ) (s : State) (l : Local) (w : World) (
 
   -- The unit tells of two pointers what the source does: whether they are one.
   pub same_pointers : (v u : source-value.Value) (a b : Value) → IsPointer v → IsPointer u → is_usable s.memory v ≡ true → is_usable s.memory u ≡ true → SameValue x.program s.memory w.memory v a → SameValue x.program s.memory w.memory u b
-      → same (is_live w.memory) a b ≡ Number (word_of (truth (is_same_pointer v u)))
+      → same (is_live w.memory) a b ≡ Number (unsigned_bits (truth (is_same_pointer v u)))
   same_pointers (source.Number z) u a b pv pu uv uu sv su = absurd pv
   same_pointers source.Null (source.Number z) a b pv pu uv uu sv su = absurd pu
   same_pointers source.Null source.Null a b pv pu uv uu sv su = ap (λ k. same (is_live w.memory) k b) sv ∙ ap (same (is_live w.memory) (Number 0)) su
@@ -107,11 +107,11 @@ module _ (x : Setting) (want : Option ℕ) (s : State) (l : Local) (w : World) (
       word_test false = refl
 
   -- How many bytes lie between two pointers into one object.
-  pub distance_pointers : (n i j : ℕ) (a b : Value) → i < 4294967296 → j < 4294967296 → is_usable s.memory (source.Pointer n i) ≡ true → SamePointer x.program s.memory w.memory n i a → SamePointer x.program s.memory w.memory n j b → operate operation.Sub a b ≡ Number (word_of (pos i -ℤ pos j))
+  pub distance_pointers : (n i j : ℕ) (a b : Value) → i < 4294967296 → j < 4294967296 → is_usable s.memory (source.Pointer n i) ≡ true → SamePointer x.program s.memory w.memory n i a → SamePointer x.program s.memory w.memory n j b → operate operation.Sub a b ≡ Number (unsigned_bits (pos i -ℤ pos j))
   distance_pointers n i j a b below_i below_j usable sa sb =
       let c = usable_leads x want s l w n i a f usable sa in
       let d = usable_leads x want s l w n j b f usable sb in
       let numbers : (c.leading.number == d.leading.number) ≡ true = let e = same_numbers n n i j a b c d refl in grind (arith, nat_tests, e) in
-      let words : (i + (4294967296 - j)) % 4294967296 ≡ (word_of (pos i) + (4294967296 - word_of (pos j))) % 4294967296 = omega (arith, below_i, below_j) in
+      let words : (i + (4294967296 - j)) % 4294967296 ≡ (unsigned_bits (pos i) + (4294967296 - unsigned_bits (pos j))) % 4294967296 = omega (arith, below_i, below_j) in
       ap (λ k. operate operation.Sub k b) c.leading.given_is ∙ ap (operate operation.Sub (Pointer c.leading.number (bytes_of c.leading.object) i)) d.leading.given_is
       ∙ ap (λ t. if t then between operation.Sub i j else Odd) numbers ∙ ap Number (words ∙ word_difference (pos i) (pos j) (pos i -ℤ pos j) refl)

@@ -13,7 +13,7 @@ use Rattle.c_meaning_values.specs.declared.value.Value.TheVariants as source
 use Rattle.c_meaning_values.specs.Memory.{Memory, is_usable}
 use Rattle.c_meaning_values.specs.Operations.{is_true}
 use Rattle.c_meaning_steps.specs.declared.event.Ending.TheVariants.{Undefined}
-use Rattle.c_meaning_steps.specs.States.{State, Evaluated, Gives, Leaves, Ends, Tested, Holds, Fails, NoTest, tested, tested_usable, by_truth}
+use Rattle.c_meaning_steps.specs.States.{State, Evaluated, Gives, Leaves, Ends, Tested, Holds, Fails, NoTest, condition_tested, tested_usable, by_truth}
 use Rattle.c_meaning.specs.Expressions.{Calls, evaluate}
 use Rattle.graph_build_runs.specs.Typed.{StandsWhole, PointsInto, IsOf}
 use Rattle.graph_build_runs.proofs.Words.{in_word}
@@ -101,7 +101,7 @@ KeepsTest p began before (Holds s) = Left p began before s
 KeepsTest p began before (Fails s) = Left p began before s
 KeepsTest p began before (NoTest e s) = Unit {0}
 
-pub keeps_tested : (p : ProgramTree) (began before : Memory) (k : Kind) (r : Evaluated) → Keeps p began before k r → KeepsTest p began before (tested r)
+pub keeps_tested : (p : ProgramTree) (began before : Memory) (k : Kind) (r : Evaluated) → Keeps p began before k r → KeepsTest p began before (condition_tested r)
 keeps_tested p began before k (Gives v s) h = by_usable (is_usable s.memory v)
   where
     by_true : (b : Bool) → KeepsTest p began before (by_truth b s)

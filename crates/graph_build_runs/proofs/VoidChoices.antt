@@ -5,7 +5,7 @@ use Rattle.c_tree.specs.TypedExpressions.{RvalueTree, Conditional}
 use Rattle.c_type_laws.specs.Expressions.{kind_of}
 use Rattle.c_type_laws.specs.Kind.{Kind}
 use Rattle.c_meaning_values.specs.declared.value.Value as source-value
-use Rattle.c_meaning_steps.specs.States.{State, Evaluated, Gives, Leaves, Ends, Tested, Holds, Fails, NoTest, tested, on_test}
+use Rattle.c_meaning_steps.specs.States.{State, Evaluated, Gives, Leaves, Ends, Tested, Holds, Fails, NoTest, condition_tested, on_test}
 use Rattle.c_meaning.specs.Expressions.{Calls, evaluate}
 use Rattle.c_type_rules.specs.ValueTypes.{type_of, is_void}
 use Rattle.graph_core.specs.Graphs.{Constant, Instruction, End, Jump, Block}
@@ -15,7 +15,7 @@ use Rattle.graph_build_names.specs.Names.{pick}
 use Rattle.graph_build_layout.specs.Laid.{Laid, behind_move, void_arms_laid, arms_laid}
 use Rattle.graph_build_layout.specs.Layout.{laid}
 use Rattle.graph_build_names.specs.Writes.{writes}
-use Rattle.graph_build_steps.specs.Drafts.{Made, Goal, Unused, Either, ending, zero as zero_operand, leaf, closed, label_of}
+use Rattle.graph_build_steps.specs.Drafts.{Made, Goal, Unused, Either, ending, zero as zero_operand, leaf, with_inner_block, label_of}
 use Rattle.graph_build_steps.specs.Steps.{arm_use, arm_value, arm_goal}
 use Rattle.graph_build_runs.proofs.Leads.{Setting, names_in, size_in, depth_in, Local, World, at, stays, goes, then_leads, in_block}
 use Rattle.graph_build_runs.proofs.Kept.{Sound, Fits, ScalarsFirst, fits_in_block}
@@ -47,13 +47,13 @@ module _ (x : Setting) (calls : Calls) (low : ScalarsFirst x) (c a b : RvalueTre
   to_join g inner = ending (Jump (label_of x.top (join_in g))) inner
 
   abbrev other_in : ℕ → Goal → Made
-  other_in t g = code_in x b (from_b t) (Unused (to_join g (closed x.place (join_in g))))
+  other_in t g = code_in x b (from_b t) (Unused (to_join g (with_inner_block x.place (join_in g))))
 
   abbrev one_in : ℕ → Goal → Made
-  one_in t g = code_in x a (from_a t) (Unused (to_join g (closed x.place (other_in t g))))
+  one_in t g = code_in x a (from_a t) (Unused (to_join g (with_inner_block x.place (other_in t g))))
 
   abbrev test_in : ℕ → Goal → Made
-  test_in t g = code_in x c t (Either (label_of x.top (one_in t g)) (label_of x.top (other_in t g)) (closed x.place (one_in t g)))
+  test_in t g = code_in x c t (Either (label_of x.top (one_in t g)) (label_of x.top (other_in t g)) (with_inner_block x.place (one_in t g)))
 
   abbrev all_written : ℕ → Bool
   all_written y = writes (names_in x) y c || writes (names_in x) y a || writes (names_in x) y b
@@ -68,14 +68,14 @@ module _ (x : Setting) (calls : Calls) (low : ScalarsFirst x) (c a b : RvalueTre
         let top = tops_a (from_a t) (omega (arith, size, le)) in
         pick_between (names_in x) t (laid (names_in x) a Nothing (from_a t)).top t (omega arith) (omega (arith, le, top))
 
-    one_stands : Stands x.graph x.top (closed x.place (one_in t g))
-    one_stands = grows_c t (Either (label_of x.top (one_in t g)) (label_of x.top (other_in t g)) (closed x.place (one_in t g))) st
+    one_stands : Stands x.graph x.top (with_inner_block x.place (one_in t g))
+    one_stands = grows_c t (Either (label_of x.top (one_in t g)) (label_of x.top (other_in t g)) (with_inner_block x.place (one_in t g))) st
 
-    other_stands : Stands x.graph x.top (closed x.place (other_in t g))
-    other_stands = grows_a (from_a t) (Unused (to_join g (closed x.place (other_in t g)))) (closed_inner x.graph x.top x.place (one_in t g) one_stands)
+    other_stands : Stands x.graph x.top (with_inner_block x.place (other_in t g))
+    other_stands = grows_a (from_a t) (Unused (to_join g (with_inner_block x.place (other_in t g)))) (closed_inner x.graph x.top x.place (one_in t g) one_stands)
 
-    join_stands : Stands x.graph x.top (closed x.place (join_in g))
-    join_stands = grows_b (from_b t) (Unused (to_join g (closed x.place (join_in g)))) (closed_inner x.graph x.top x.place (other_in t g) other_stands)
+    join_stands : Stands x.graph x.top (with_inner_block x.place (join_in g))
+    join_stands = grows_b (from_b t) (Unused (to_join g (with_inner_block x.place (join_in g)))) (closed_inner x.graph x.top x.place (other_in t g) other_stands)
 
     -- behind an arm
     arm_ends : (k : Kind) (before_memory : Memory) (from : ℕ) (f : ℕ → Bool) (inner : List Block) (ops : List Instruction) (end : End) (l1 : Local) (w1 : World) (r : Evaluated) → t ≤ from → ((memory : Memory) (v : source-value.Value) → HasKind memory k v → ⊥) → Keeps x.program x.begun before_memory k r
@@ -116,9 +116,9 @@ module _ (x : Setting) (calls : Calls) (low : ScalarsFirst x) (c a b : RvalueTre
     decides : (r : Tested) → KeepsTest x.program x.begun s.memory r → EitherR x (label_of x.top (one_in t g)) (label_of x.top (other_in t g)) t (written_by x c) (test_in t g).ops (test_in t g).end l w r
         → Result x g (Constant 0) t all_written (test_in t g).ops (test_in t g).end l w (on_test r (evaluate calls (depth_in x) a) (evaluate calls (depth_in x) b))
     decides (Holds s1) keeps h =
-        arm_decides a (from_a t) (closed x.place (other_in t g)) (one_in t g) typed_a none_a above_a spares_a refl (closed_block x.graph x.top x.place (one_in t g) one_stands) (closed_inner x.graph x.top x.place (one_in t g) one_stands) does_a s1 keeps h
+        arm_decides a (from_a t) (with_inner_block x.place (other_in t g)) (one_in t g) typed_a none_a above_a spares_a refl (closed_block x.graph x.top x.place (one_in t g) one_stands) (closed_inner x.graph x.top x.place (one_in t g) one_stands) does_a s1 keeps h
     decides (Fails s1) keeps h =
-        arm_decides b (from_b t) (closed x.place (join_in g)) (other_in t g) typed_b none_b above_b spares_b refl (closed_block x.graph x.top x.place (other_in t g) other_stands) (closed_inner x.graph x.top x.place (other_in t g) other_stands) does_b s1 keeps h
+        arm_decides b (from_b t) (with_inner_block x.place (join_in g)) (other_in t g) typed_b none_b above_b spares_b refl (closed_block x.graph x.top x.place (other_in t g) other_stands) (closed_inner x.graph x.top x.place (other_in t g) other_stands) does_b s1 keeps h
     decides (NoTest e s1) keeps h = ended_result x g (Constant 0) t all_written (test_in t g).ops (test_in t g).end l w e s1 h
 
   -- the code where a value is chosen, and where nothing is
@@ -127,9 +127,9 @@ module _ (x : Setting) (calls : Calls) (low : ScalarsFirst x) (c a b : RvalueTre
       let at = behind_move (not nothing) t in
       let at_a = pick (names_in x) at (laid (names_in x) c UseTested at).top in let at_b = pick (names_in x) at (laid (names_in x) a (arm_use nothing t) at_a).top in
       let m = leaf g (arm_value nothing t) in
-      let y = code_in x b at_b (arm_goal nothing t (ending (Jump (label_of x.top m)) (closed x.place m))) in
-      let z = code_in x a at_a (arm_goal nothing t (ending (Jump (label_of x.top m)) (closed x.place y))) in
-      code_in x c at (Either (label_of x.top z) (label_of x.top y) (closed x.place z))
+      let y = code_in x b at_b (arm_goal nothing t (ending (Jump (label_of x.top m)) (with_inner_block x.place m))) in
+      let z = code_in x a at_a (arm_goal nothing t (ending (Jump (label_of x.top m)) (with_inner_block x.place y))) in
+      code_in x c at (Either (label_of x.top z) (label_of x.top y) (with_inner_block x.place z))
 
   abbrev laid_by : Bool → ℕ → Laid
   laid_by nothing t =
@@ -139,5 +139,5 @@ module _ (x : Setting) (calls : Calls) (low : ScalarsFirst x) (c a b : RvalueTre
   pub void_choice_does : Does x calls (Conditional c a b)
   void_choice_does t g s l w size st sound fits aims =
       subst (λ nothing. Stands x.graph x.top (choice_by nothing t g).inner → Result x g (laid_by nothing t).value t all_written (choice_by nothing t g).ops (choice_by nothing t g).end l w (evaluate calls (depth_in x) (Conditional c a b) s)) (sym void)
-      (λ st'. decides t g s l w size st' sound fits (tested (evaluate calls (depth_in x) c s)) (keeps_tested x.program x.begun s.memory (kind_of x.program x.tree c) (evaluate calls (depth_in x) c s) (typed_c s sound))
-      (does_c t (Either (label_of x.top (one_in t g)) (label_of x.top (other_in t g)) (closed x.place (one_in t g))) s l w size st' sound fits tt)) st
+      (λ st'. decides t g s l w size st' sound fits (condition_tested (evaluate calls (depth_in x) c s)) (keeps_tested x.program x.begun s.memory (kind_of x.program x.tree c) (evaluate calls (depth_in x) c s) (typed_c s sound))
+      (does_c t (Either (label_of x.top (one_in t g)) (label_of x.top (other_in t g)) (with_inner_block x.place (one_in t g))) s l w size st' sound fits tt)) st

@@ -5,12 +5,12 @@ use Rattle.c_tree.specs.declared.types.IntegerType.{IntegerType}
 use Rattle.c_tree.specs.declared.types.IntegerType.TheVariants.{Char, SignedChar, UnsignedChar, Short, UnsignedShort, Int, UnsignedInt, Long, UnsignedLong}
 use Rattle.c_tree.specs.declared.object_type.ObjectType.{ObjectType}
 use Rattle.c_tree.specs.declared.object_type.ObjectType.TheVariants as of-object
-use Rattle.c_meaning_values.specs.Types.{scalar_size, size_by_stars, size, element_of, count_of}
+use Rattle.c_meaning_values.specs.Types.{scalar_size, size_by_stars, size, element_scalar, value_count}
 use Rattle.c_meaning_values.specs.Memory.{Memory, bytes_of}
 use Rattle.graph_build_runs.specs.Typed.{StandsWhole, PointsInto}
 
 -- at the beginning of an object that has as many values
-pub stands_first : (of : ObjectType) (values : ℕ) → count_of of ≤ values → StandsWhole of values 0
+pub stands_first : (of : ObjectType) (values : ℕ) → value_count of ≤ values → StandsWhole of values 0
 stands_first (of-object.Scalar s) values le = tt
 stands_first (of-object.Array e n) values le = (0, omega arith, le)
 
@@ -30,13 +30,13 @@ stands_at memory (of-object.Scalar s) n offset c = (c.index, c.at)
 stands_at memory (of-object.Array e k) n offset c = (c.stands.0, c.stands.1)
 
 -- the bytes of an object by the type of its elements
-bytes_by : (memory : Memory) (of : ObjectType) (n offset : ℕ) (c : PointsInto memory of n offset) → bytes_of c.object ≡ length c.object.values * scalar_size (element_of of)
+bytes_by : (memory : Memory) (of : ObjectType) (n offset : ℕ) (c : PointsInto memory of n offset) → bytes_of c.object ≡ length c.object.values * scalar_size (element_scalar of)
 bytes_by memory of n offset c = ap (λ e. length c.object.values * scalar_size e) c.element_is
 
 -- a pointer's offset is no greater than its object
 pub offset_within : (memory : Memory) (of : ObjectType) (n offset : ℕ) (c : PointsInto memory of n offset) → offset ≤ bytes_of c.object
 offset_within memory of n offset c =
-    let le = mul-le-mul_right (scalar_size (element_of of)) c.within in
+    let le = mul-le-mul_right (scalar_size (element_scalar of)) c.within in
     let at = c.at in
     let bytes = bytes_by memory of n offset c in
     omega (arith, le, at, bytes)

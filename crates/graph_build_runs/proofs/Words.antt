@@ -7,9 +7,9 @@ use Rattle.c_tree.specs.declared.types.IntegerType.{IntegerType}
 use Rattle.c_tree.specs.declared.types.IntegerType.TheVariants.{Char, SignedChar, UnsignedChar, Short, UnsignedShort, Int, UnsignedInt, Long, UnsignedLong}
 use Rattle.word_base.specs.Types.{holds, in_range, converted, modulo, unsigned_type, int_type}
 use Rattle.word_base.specs.Types as word
-use Rattle.word_base.specs.Operations.{kept, sum, difference}
+use Rattle.word_base.specs.Operations.{result_of_type, sum, difference}
 use Rattle.c_type_rules.specs.Integers.{integer}
-use Rattle.graph_build_names.specs.Conversions.{word_of}
+use Rattle.graph_build_names.specs.Conversions.{unsigned_bits}
 pub use Rattle.base_laws.proofs.Booleans.{two_true as both_true}
 
 -- a number that 32 bits can say, with a sign or without one
@@ -39,12 +39,12 @@ in_word UnsignedLong (pos n) h = let le : n ≤ 4294967295 = leb-true n 42949672
 in_word UnsignedLong (negsuc n) h = cc
 
 -- a word is below 2^32
-pub word_below : (z : ℤ) → word_of z < 4294967296
+pub word_below : (z : ℤ) → unsigned_bits z < 4294967296
 word_below (pos n) = omega arith
 word_below (negsuc n) = omega arith
 
 -- the sum of words is the word of the sum, and so is their difference
-pub word_sum : (a b z : ℤ) → a +ℤ b ≡ z → (word_of a + word_of b) % 4294967296 ≡ word_of z
+pub word_sum : (a b z : ℤ) → a +ℤ b ≡ z → (unsigned_bits a + unsigned_bits b) % 4294967296 ≡ unsigned_bits z
 word_sum (pos i) (pos j) (pos n) e = omega (arith, ints, e)
 word_sum (pos i) (pos j) (negsuc n) e = omega (arith, ints, e)
 word_sum (pos i) (negsuc j) (pos n) e = omega (arith, ints, e)
@@ -54,7 +54,7 @@ word_sum (negsuc i) (pos j) (negsuc n) e = omega (arith, ints, e)
 word_sum (negsuc i) (negsuc j) (pos n) e = omega (arith, ints, e)
 word_sum (negsuc i) (negsuc j) (negsuc n) e = omega (arith, ints, e)
 
-pub word_difference : (a b z : ℤ) → a -ℤ b ≡ z → (word_of a + (4294967296 - word_of b)) % 4294967296 ≡ word_of z
+pub word_difference : (a b z : ℤ) → a -ℤ b ≡ z → (unsigned_bits a + (4294967296 - unsigned_bits b)) % 4294967296 ≡ unsigned_bits z
 word_difference (pos i) (pos j) (pos n) e = omega (arith, ints, e)
 word_difference (pos i) (pos j) (negsuc n) e = omega (arith, ints, e)
 word_difference (pos i) (negsuc j) (pos n) e = omega (arith, ints, e)
@@ -73,21 +73,21 @@ in_range_is t y z h = go (holds t y) refl h
     go false e k = cc
 
 -- a number converted to 32 bits has the same word
-pub word_unsigned : (y : ℤ) → word_of (converted unsigned_type y) ≡ word_of y
+pub word_unsigned : (y : ℤ) → unsigned_bits (converted unsigned_type y) ≡ unsigned_bits y
 word_unsigned (pos n) = omega arith
 word_unsigned (negsuc n) = omega arith
 
-pub kept_word_int : (y z : ℤ) → kept int_type y ≡ Some z → word_of y ≡ word_of z
-kept_word_int y z h = ap word_of (in_range_is int_type y z h).1
+pub kept_word_int : (y z : ℤ) → result_of_type int_type y ≡ Some z → unsigned_bits y ≡ unsigned_bits z
+kept_word_int y z h = ap unsigned_bits (in_range_is int_type y z h).1
 
-pub kept_word_unsigned : (y z : ℤ) → kept unsigned_type y ≡ Some z → word_of y ≡ word_of z
-kept_word_unsigned y z h = let same : converted unsigned_type y ≡ z = cc in sym (word_unsigned y) ∙ ap word_of same
+pub kept_word_unsigned : (y z : ℤ) → result_of_type unsigned_type y ≡ Some z → unsigned_bits y ≡ unsigned_bits z
+kept_word_unsigned y z h = let same : converted unsigned_type y ≡ z = cc in sym (word_unsigned y) ∙ ap unsigned_bits same
 
 -- such a number is one that 32 bits can say
-pub kept_in_int : (y z : ℤ) → kept int_type y ≡ Some z → InWord z
+pub kept_in_int : (y z : ℤ) → result_of_type int_type y ≡ Some z → InWord z
 kept_in_int y z h = let r = in_range_is int_type y z h in in_word Int z (ap (holds int_type) (sym r.1) ∙ r.0)
 
-pub kept_in_unsigned : (y z : ℤ) → kept unsigned_type y ≡ Some z → InWord z
+pub kept_in_unsigned : (y z : ℤ) → result_of_type unsigned_type y ≡ Some z → InWord z
 kept_in_unsigned y z h = subst InWord same (below y)
   where
     same : converted unsigned_type y ≡ z

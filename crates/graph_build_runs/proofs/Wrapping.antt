@@ -14,7 +14,7 @@ use Rattle.c_meaning_values.specs.declared.value.Value.{Value}
 use Rattle.c_meaning_values.specs.declared.value.Value.TheVariants as source
 use Rattle.c_meaning_values.specs.Memory.{Memory}
 use Rattle.c_meaning_values.specs.Operations.{convert}
-use Rattle.c_meaning_steps.specs.States.{State, Evaluated, Gives, Leaves, Ends, given, mapped}
+use Rattle.c_meaning_steps.specs.States.{State, Evaluated, Gives, Leaves, Ends, value_or_undefined, mapped}
 use Rattle.c_meaning.specs.Expressions.{Calls, evaluate}
 use Rattle.graph_build_runs.proofs.Leads.{Setting, depth_in}
 use Rattle.graph_build_runs.proofs.Later.{later_refl}

@@ -4,15 +4,15 @@ use Rattle.std.specs.Prelude.{if◌then◌else◌, nat_le, option_map, option_an
 use Rattle.std.proofs.lemmas.Bool.Decides.{nat_tests}
 use Rattle.c_tree.specs.declared.object_type.Scalar.{Scalar}
 use Rattle.c_tree.specs.declared.object_type.ObjectType.TheVariants as of-object
-use Rattle.c_type_rules.specs.Types.{loaded}
+use Rattle.c_type_rules.specs.Types.{loaded_type}
 use Rattle.c_meaning_values.specs.declared.value.Value as source-value
 use Rattle.c_meaning_values.specs.declared.value.Value.TheVariants as source
 use Rattle.c_meaning_values.specs.declared.value.Phase.{Phase}
 use Rattle.c_meaning_values.specs.declared.value.Phase.TheVariants.{Initialising, Live, Ended}
 use Rattle.c_meaning_steps.specs.declared.event.Ending.TheVariants as ending
 use Rattle.c_meaning_values.specs.Memory.{Object as SourceObject, Memory as SourceMemory, is_over, is_literal, is_writable, index_at, set_value, begun, written_in as written_there}
-use Rattle.c_meaning_steps.specs.States.{State, Evaluated, Gives, Ends, given}
-use Rattle.c_meaning_steps.specs.Steps.{store, stored as kept_in}
+use Rattle.c_meaning_steps.specs.States.{State, Evaluated, Gives, Ends, value_or_undefined as given}
+use Rattle.c_meaning_steps.specs.Steps.{store, value_stored as kept_in}
 use Rattle.graph_core.specs.declared.value.Value.{Value}
 use Rattle.graph_core.specs.declared.instruction.Element as declared-element
 use Rattle.graph_core.specs.Graphs.{Operand, Location, Instruction, Store, End}
@@ -61,7 +61,7 @@ pub record StoredAs (x : Setting) (want : Option ℕ) (s : State) (l : Local) (w
   pub same : SameValue x.program after memory v u
 
 module _ (x : Setting) (want : Option ℕ) (s : State) (l : Local) (w : World) (sc : Scalar) (n offset : ℕ) (given : Value) (v : source-value.Value) (u : Value) (sound : Sound x.program x.begun s) (f : Fits x want s l w) (c : PointsInto s.memory (of-object.Scalar sc) n offset)
-    (pointer : SamePointer x.program s.memory w.memory n offset given) (typed : IsOf s.memory (loaded sc) v) (same : SameValue x.program s.memory w.memory v u) where
+    (pointer : SamePointer x.program s.memory w.memory n offset given) (typed : IsOf s.memory (loaded_type sc) v) (same : SameValue x.program s.memory w.memory v u) where
   abbrev after_in : SourceMemory
   after_in = slice_set s.memory n (record c.object { values = slice_set c.object.values (index_at c.object offset) v; phase = Live })
 
@@ -94,7 +94,7 @@ module _ (x : Setting) (want : Option ℕ) (s : State) (l : Local) (w : World) (
 
 -- A value is stored where a pointer points: nothing is defined, or both memories take it.
 pub store_cases : (x : Setting) (want : Option ℕ) (s : State) (l : Local) (w : World) (sc : Scalar) (p : source-value.Value) (given : Value) (v : source-value.Value) (u : Value) → Sound x.program x.begun s → Fits x want s l w → IsPointerTo s.memory (of-object.Scalar sc) p
-    → SameValue x.program s.memory w.memory p given → IsOf s.memory (loaded sc) v → SameValue x.program s.memory w.memory v u → (R : Evaluated → Type 0) → R (Ends ending.Undefined s)
+    → SameValue x.program s.memory w.memory p given → IsOf s.memory (loaded_type sc) v → SameValue x.program s.memory w.memory v u → (R : Evaluated → Type 0) → R (Ends ending.Undefined s)
     → ((after : SourceMemory) → StoredAs x want s l w sc given v u after → R (Gives v (record s { memory = after }))) → R (store p v s)
 store_cases x want s l w sc (source.Number z) given v u sound f is pointer typed same R undefined next = absurd is
 store_cases x want s l w sc source.Null given v u sound f is pointer typed same R undefined next = undefined

@@ -7,15 +7,23 @@ use Rattle.c_tree.specs.Programs.{AutomaticTree, StaticTree, LiteralTree, Progra
 use Rattle.c_type_rules.specs.Integers.{integer}
 use Rattle.c_places.specs.Places.{Place, places_of_program, visible}
 use Rattle.c_meaning_values.specs.declared.value.Phase.TheVariants.{Live}
-use Rattle.c_meaning_values.specs.Types.{element_of, count_of}
+use Rattle.c_meaning_values.specs.Types.{element_scalar, value_count}
 use Rattle.c_meaning_values.specs.Memory.{Object, Memory, contents}
 use Rattle.c_meaning_steps.specs.States.{Shown}
 
 -- An object has the elements of its owner's type, and as many.
 abbrev pub IsDeclared : ProgramTree → Owner → Object → Type 0
-IsDeclared p (Static n) o = (v : StaticTree) × (slice_get p.statics n ≡ Some v) × (o.element ≡ element_of v.of) × (length o.values ≡ count_of v.of)
-IsDeclared p (Literal n) o = (l : LiteralTree) × (slice_get p.literals n ≡ Some l) × (o.element ≡ record { base = Char; stars = 0 }) × (length o.values ≡ length l.bytes)
-IsDeclared p (Variable x depth) o = (a : AutomaticTree) × (slice_get p.automatics x ≡ Some a) × (o.element ≡ element_of a.of) × (length o.values ≡ count_of a.of)
+IsDeclared p (Static n) o =
+    (v : StaticTree) × (slice_get p.statics n ≡ Some v) × (o.element ≡ element_scalar v.of)
+    × (length o.values ≡ value_count v.of)
+IsDeclared p (Literal n) o =
+    (l : LiteralTree) × (slice_get p.literals n ≡ Some l) × (o.element ≡ record {
+      base = Char;
+      stars = 0;
+    }) × (length o.values ≡ length l.bytes)
+IsDeclared p (Variable x depth) o =
+    (a : AutomaticTree) × (slice_get p.automatics x ≡ Some a) × (o.element ≡ element_scalar a.of)
+    × (length o.values ≡ value_count a.of)
 
 -- So has each object of a memory.
 abbrev pub AreDeclared : ProgramTree → Memory → Type 0
@@ -37,7 +45,8 @@ StaticsLive p memory = (n : ℕ) (v : StaticTree) → slice_get p.statics n ≡ 
 abbrev pub shown_of : (depth : ℕ) → Memory → ℕ → Shown
 shown_of depth memory x = record { variable = x; values = contents (Variable x depth) memory }
 
--- A stop is at a place of the program, which is no entry; it shows what is visible there, with what it holds; each object is as its owner is declared, and those of static variables live.
+-- A stop is at a place of the program, which is no entry; it shows what is visible there, with what it holds; each
+-- object is as its owner is declared, and those of static variables live.
 pub record IsStopOf (p : ProgramTree) (place depth : ℕ) (shown : List Shown) (memory : Memory) : Type 0 where
   pub some : 1 ≤ place
   pub at : Place

@@ -23,7 +23,9 @@ module _ (c : Coding) where
   -- the first name behind those that elements use
   abbrev pub elements_reached : List RvalueTree → (free : ℕ) → ℕ
   elements_reached [] t = t
-  elements_reached (e ∷ more) t = max (laid c.names (bare e) Anywhere t).top (elements_reached more (pick c.names t (laid c.names (bare e) Anywhere t).top))
+  elements_reached (e ∷ more) t =
+      max (laid c.names (bare e) Anywhere t).top
+      (elements_reached more (pick c.names t (laid c.names (bare e) Anywhere t).top))
 
   -- the first name behind those that an initializer uses
   abbrev pub initial_reached : (scalar : Option ℕ) → InitialTree → (free : ℕ) → ℕ
@@ -60,7 +62,8 @@ module _ (c : Coding) where
   result_reached (Some e) t = reached e Anywhere t
 
   abbrev mutual
-    -- the same of a statement, in the order in which code is made: of a `for` its first part, its condition, its body and its step
+    -- the same of a statement, in the order in which code is made: of a `for` its first part, its condition, its body
+    -- and its step
     pub statement_reached : TypedStatementTree → (free : ℕ) → ℕ
     statement_reached (Block all) t = statements_reached all t
     statement_reached (Declaration all) t = declared_reached all t
@@ -70,7 +73,8 @@ module _ (c : Coding) where
     statement_reached (IfElse spot e s r) t = statement_reached r (statement_reached s (reached e Tested t))
     statement_reached (While spot e s) t = statement_reached s (reached e Tested t)
     statement_reached (DoWhile s spot e) t = reached e Tested (statement_reached s t)
-    statement_reached (For begin spot e step s) t = step_reached step (statement_reached s (condition_reached e (start_reached begin t)))
+    statement_reached (For begin spot e step s) t =
+        step_reached step (statement_reached s (condition_reached e (start_reached begin t)))
     statement_reached (Switch spot e all) t = statements_reached all (reached e Anywhere t)
     statement_reached (Break spot) t = t
     statement_reached (Continue spot) t = t

@@ -7,7 +7,7 @@ ghost use Rattle.c_tree.specs.TypedStatements.{declared_view, initial_view};
 ghost use Rattle.c_type_rules.specs.Integers.{scalar_size};
 ghost use Rattle.graph_core.specs.Graphs as unit;
 ghost use Rattle.graph_core.specs.Graphs.{location_view};
-ghost use Rattle.graph_build_steps.specs.Drafts.{before, made_of};
+ghost use Rattle.graph_build_steps.specs.Drafts.{instruction_before, made_of};
 ghost use Rattle.graph_build_statements.specs.Coding.{coding_view, part_view};
 ghost use Rattle.graph_build_statements.specs.Declaring.{add_declared, cleared, copied_words, declare, declare_array, declare_kept, declare_scalar, declare_single, object_type_of, store_elements, words_of};
 
@@ -66,7 +66,7 @@ fn copied_words(form: &Form<'_>, literal: u32, bytes: u64) -> Result<u32, AllocE
 fn cleared_words(object: u32, words: u32, covered: u32, draft: Draft) -> Result<Draft, AllocError>
     ensures { IfOk result (λ d.
         made_of d ≡
-        (if nat_le words covered then made_of draft else before (unit.Zero object words) (made_of draft))) }
+        (if nat_le words covered then made_of draft else instruction_before (unit.Zero object words) (made_of draft))) }
 {
     if words <= covered {
         Ok(draft)

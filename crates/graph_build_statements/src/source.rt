@@ -2,7 +2,7 @@
 
 ghost use Rattle.std.specs.Prelude.{◌≡◌, IfOk};
 ghost use Rattle.c_tree.specs.Programs.{program_view};
-ghost use Rattle.c_places.specs.Places.{number_at, places_of_program};
+ghost use Rattle.c_places.specs.Places.{place_number_at, places_of_program};
 ghost use Rattle.graph_build_statements.specs.Numbering.{AreNumbered};
 
 use c_flow::number_in;
@@ -19,7 +19,7 @@ pub struct Source<'a> {
 
 /// The number of the place at a position.
 pub fn place_number(source: &Source<'_>, at: u32) -> u32
-    ensures { result ≡ number_at (places_of_program (program_view source.now.program.now)) at }
+    ensures { result ≡ place_number_at (places_of_program (program_view source.now.program.now)) at }
 {
     number_in(source.positions, at)
 }

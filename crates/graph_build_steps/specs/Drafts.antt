@@ -19,20 +19,22 @@ use Rattle.graph_build_steps.specs.declared.goal.Goal.TheVariants as goal
 use Rattle.graph_build_steps.specs.declared.draft.Fork as declared-fork
 use Rattle.graph_build_steps.specs.Rules.{less_by, truncation_to}
 use Rattle.graph_build_names.specs.Conversions.{is_narrow}
-use Rattle.graph_build_names.specs.Operands.{is_two_pointers, operand_at, located}
+use Rattle.graph_build_names.specs.Operands.{is_two_pointers, operand_at, located_at}
 use Rattle.graph_build_names.specs.Scales.{is_scaled, scaled, shift_of}
 use Rattle.graph_build_layout.specs.declared.laid.Use.{Use}
 use Rattle.graph_build_layout.specs.declared.laid.Use.TheVariants.{Anywhere, In, Nothing, Tested}
 use Rattle.graph_build_names.specs.Names.{Names, pick}
 use Rattle.graph_build_layout.specs.Laid.{Pair, behind_move}
 
--- What follows in a block that is being built, and the inner blocks that stand: the last one in order of evaluation first.
+-- What follows in a block that is being built, and the inner blocks that stand: the last one in order of evaluation
+-- first.
 pub record Made : Type 0 where
   pub ops : List Instruction
   pub end : End
   pub inner : List Block
 
--- What a value is for: to stand anywhere or in a scalar, and what follows; for nothing, and what follows; to be tested, and where to go by it.
+-- What a value is for: to stand anywhere or in a scalar, and what follows; for nothing, and what follows; to be tested,
+-- and where to go by it.
 pub data Goal : Type 0 where
   To : (want : Option ℕ) → Made → Goal
   Unused : Made → Goal
@@ -40,7 +42,12 @@ pub data Goal : Type 0 where
 
 -- the draft that the code has: its last instruction stands first
 abbrev pub made_of : declared-draft.Draft → Made
-made_of d = record { ops = map instruction_view (reverse d.ops.items); end = end_view d.end; inner = map block_view d.inner.items }
+made_of d =
+    record {
+      ops = map instruction_view (reverse d.ops.items);
+      end = end_view d.end;
+      inner = map block_view d.inner.items;
+    }
 
 abbrev pub goal_of : declared-goal.Goal → Goal
 goal_of (goal.To want d) = To (option_map (λ (n : declared-name.Name). n.0) want) (made_of d)
@@ -68,8 +75,8 @@ use_of (Unused m) = Nothing
 use_of (Either one other inner) = Tested
 
 -- an instruction before what was made
-abbrev pub before : Instruction → Made → Made
-before i m = record { ops = i ∷ m.ops; end = m.end; inner = m.inner }
+abbrev pub instruction_before : Instruction → Made → Made
+instruction_before i m = record { ops = i ∷ m.ops; end = m.end; inner = m.inner }
 
 -- the end of a block, and the blocks behind it
 abbrev pub ending : End → List Block → Made
@@ -86,7 +93,7 @@ tested a one other inner = ending (Branch branch.NotEqual a zero one other) inne
 -- what follows a value that stands in an operand
 abbrev pub leaf : Goal → Operand → Made
 leaf (To None m) a = m
-leaf (To (Some x) m) a = before (unit.Move x a) m
+leaf (To (Some x) m) a = instruction_before (unit.Move x a) m
 leaf (Unused m) a = m
 leaf (Either one other inner) a = tested a one other inner
 
@@ -110,7 +117,7 @@ scaling None size t a = Operate t operation.Mul a (scaled size (unit.Constant 1)
 
 -- a name becomes an index times a size, by a shift or a multiplication, where that is not the index itself
 abbrev pub scale : ℕ → Operand → ℕ → Made → Made
-scale size a t m = if is_scaled size a then before (scaling (shift_of size) size t a) m else m
+scale size a t m = if is_scaled size a then instruction_before (scaling (shift_of size) size t a) m else m
 
 -- a distance in bytes becomes one in elements
 abbrev pub unscaling : Option ℕ → (size : ℕ) → (x t : ℕ) → Instruction
@@ -119,11 +126,11 @@ unscaling None size x t = Operate x operation.Div (unit.Name t) (scaled size (un
 
 -- an operand is moved to a temporary, if it has to be
 abbrev pub move_if : Bool → ℕ → Operand → Made → Made
-move_if moved t a m = if moved then before (unit.Move t a) m else m
+move_if moved t a m = if moved then instruction_before (unit.Move t a) m else m
 
 -- a scalar has its own value from here on
 abbrev pub note : ℕ → Made → Made
-note x m = before (Note x (Is (Of (unit.Name x)))) m
+note x m = instruction_before (Note x (Is (Of (unit.Name x)))) m
 
 -- a scalar is written anew, noted, and then its value is used
 abbrev pub noted : ℕ → Goal → Made
@@ -131,17 +138,26 @@ noted x g = note x (leaf g (unit.Name x))
 
 -- a comparison as a value: by one instruction or by two
 abbrev pub compare_by : declared-comparison.Comparison → (signed : Bool) → (x t : ℕ) → (a b : Operand) → Made → Made
-compare_by comparison.Less s x t a b m = before (Operate x (less_by s) a b) m
-compare_by comparison.Greater s x t a b m = before (Operate x (less_by s) b a) m
-compare_by comparison.LessEqual s x t a b m = before (Operate t (less_by s) b a) (before (Operate x operation.Xor (unit.Name t) (unit.Constant 1)) m)
-compare_by comparison.GreaterEqual s x t a b m = before (Operate t (less_by s) a b) (before (Operate x operation.Xor (unit.Name t) (unit.Constant 1)) m)
-compare_by comparison.Equal s x t a b m = before (Operate t operation.Xor a b) (before (Operate x operation.Sltu (unit.Name t) (unit.Constant 1)) m)
-compare_by comparison.NotEqual s x t a b m = before (Operate t operation.Xor a b) (before (Operate x operation.Sltu zero (unit.Name t)) m)
+compare_by comparison.Less s x t a b m = instruction_before (Operate x (less_by s) a b) m
+compare_by comparison.Greater s x t a b m = instruction_before (Operate x (less_by s) b a) m
+compare_by comparison.LessEqual s x t a b m =
+    instruction_before (Operate t (less_by s) b a)
+    (instruction_before (Operate x operation.Xor (unit.Name t) (unit.Constant 1)) m)
+compare_by comparison.GreaterEqual s x t a b m =
+    instruction_before (Operate t (less_by s) a b)
+    (instruction_before (Operate x operation.Xor (unit.Name t) (unit.Constant 1)) m)
+compare_by comparison.Equal s x t a b m =
+    instruction_before (Operate t operation.Xor a b)
+    (instruction_before (Operate x operation.Sltu (unit.Name t) (unit.Constant 1)) m)
+compare_by comparison.NotEqual s x t a b m =
+    instruction_before (Operate t operation.Xor a b)
+    (instruction_before (Operate x operation.Sltu zero (unit.Name t)) m)
 
 -- the same of pointers: they are equal where they point to one place of one object
 abbrev pub compare_pointers_by : declared-comparison.Comparison → (x t : ℕ) → (a b : Operand) → Made → Made
-compare_pointers_by comparison.Equal x t a b m = before (Same x a b) m
-compare_pointers_by comparison.NotEqual x t a b m = before (Same t a b) (before (Operate x operation.Xor (unit.Name t) (unit.Constant 1)) m)
+compare_pointers_by comparison.Equal x t a b m = instruction_before (Same x a b) m
+compare_pointers_by comparison.NotEqual x t a b m =
+    instruction_before (Same t a b) (instruction_before (Operate x operation.Xor (unit.Name t) (unit.Constant 1)) m)
 compare_pointers_by o x t a b m = compare_by o false x t a b m
 
 -- by which comparison of a block's end a number is less, and by which it is not
@@ -161,7 +177,8 @@ branch_by comparison.GreaterEqual s a b one other = Branch (not_less s) a b one 
 branch_by comparison.Equal s a b one other = Branch branch.Equal a b one other
 branch_by comparison.NotEqual s a b one other = Branch branch.NotEqual a b one other
 
--- Of a graph of so many blocks, the label of an inner block that is finished next: inner blocks stand at the end of the graph, in order of evaluation.
+-- Of a graph of so many blocks, the label of an inner block that is finished next: inner blocks stand at the end of the
+-- graph, in order of evaluation.
 abbrev pub next_label : (top : ℕ) → List Block → ℕ
 next_label top inner = top - (length inner + 1)
 
@@ -170,12 +187,13 @@ abbrev pub label_of : (top : ℕ) → Made → ℕ
 label_of top m = next_label top m.inner
 
 -- the inner blocks with one more, in a place
-abbrev pub closed : (place : ℕ) → Made → List Block
-closed place m = m.inner ++ record { place = Some place; instructions = m.ops; end = m.end } ∷ []
+abbrev pub with_inner_block : (place : ℕ) → Made → List Block
+with_inner_block place m = m.inner ++ record { place = Some place; instructions = m.ops; end = m.end } ∷ []
 
 -- a block that writes a word to a name and goes on
 abbrev pub arm : (place own word label : ℕ) → List Block → List Block
-arm place own w label inner = closed place (record { ops = unit.Move own (unit.Constant w) ∷ []; end = Jump label; inner = inner })
+arm place own w label inner =
+    with_inner_block place (record { ops = unit.Move own (unit.Constant w) ∷ []; end = Jump label; inner = inner })
 
 -- two ways to go by a test
 pub record Fork : Type 0 where
@@ -188,8 +206,12 @@ abbrev pub forked : (place top : ℕ) → Goal → (own : ℕ) → Fork
 forked place top (Either one other inner) own = record { one = one; other = other; inner = inner }
 forked place top g own =
     let m = leaf g (unit.Name own) in
-    let false_arm = arm place own 0 (label_of top m) (closed place m) in
-    record { one = next_label top false_arm; other = next_label top (closed place m); inner = arm place own 1 (label_of top m) false_arm }
+    let false_arm = arm place own 0 (label_of top m) (with_inner_block place m) in
+    record {
+      one = next_label top false_arm;
+      other = next_label top (with_inner_block place m);
+      inner = arm place own 1 (label_of top m) false_arm;
+    }
 
 -- a value that stands where its layout says, then tested if it is to be
 abbrev pub valued : Goal → Operand → Goal
@@ -202,24 +224,26 @@ hold_location moved t l m = move_if moved t (operand_at l) m
 
 -- a location of which the address was moved to a temporary, if it had to be
 abbrev pub held_location : Bool → ℕ → Location → Location
-held_location moved t l = if moved then located l (unit.Name t) else l
+held_location moved t l = if moved then located_at l (unit.Name t) else l
 
 -- the value that an assignment to memory leaves
 abbrev pub stored : declared-element.Element → Location → Operand → Goal → Made
-stored e l a (To want m) = before (Store e l a) m
-stored e l a (Unused m) = before (Store e l a) m
-stored e l a (Either one other inner) = before (Store e l a) (tested a one other inner)
+stored e l a (To want m) = instruction_before (Store e l a) m
+stored e l a (Unused m) = instruction_before (Store e l a) m
+stored e l a (Either one other inner) = instruction_before (Store e l a) (tested a one other inner)
 
 -- the old value of a scalar is kept where it is wanted
 abbrev pub keep_old : Use → (x t : ℕ) → Made → Made
 keep_old Nothing x t m = m
-keep_old (In y) x t m = if y == x then before (unit.Move t (unit.Name x)) m else before (unit.Move y (unit.Name x)) m
-keep_old u x t m = before (unit.Move t (unit.Name x)) m
+keep_old (In y) x t m =
+    if y == x then instruction_before (unit.Move t (unit.Name x)) m
+    else instruction_before (unit.Move y (unit.Name x)) m
+keep_old u x t m = instruction_before (unit.Move t (unit.Name x)) m
 
 -- what becomes of the value that a scalar had before an increment
 abbrev pub use_old : Goal → (x t : ℕ) → Made
 use_old (Unused k) x t = k
-use_old (To (Some y) k) x t = if y == x then before (unit.Move x (unit.Name t)) k else k
+use_old (To (Some y) k) x t = if y == x then instruction_before (unit.Move x (unit.Name t)) k else k
 use_old (To None k) x t = k
 use_old (Either one other inner) x t = tested (unit.Name t) one other inner
 
@@ -246,13 +270,15 @@ used g = g
 
 -- a call: without a target where it gives nothing or nothing uses what it gives
 abbrev pub called_by : (void : Bool) → Goal → ℕ → (Option ℕ → Instruction) → Made
-called_by true g own i = before (i None) (leaf g zero)
-called_by false (Unused m) own i = before (i None) m
-called_by false g own i = before (i (Some (target g own))) (follow g own)
+called_by true g own i = instruction_before (i None) (leaf g zero)
+called_by false (Unused m) own i = instruction_before (i None) m
+called_by false g own i = instruction_before (i (Some (target g own))) (follow g own)
 
 -- a new value of a scalar or of memory, in its type: by way of one more name where that is narrow
 abbrev pub renew : named.IntegerType → (x t : ℕ) → (ℕ → Instruction) → Made → Made
-renew ty x t i m = if is_narrow ty then before (i t) (before (Truncate x (truncation_to ty) (unit.Name t)) m) else before (i x) m
+renew ty x t i m =
+    if is_narrow ty then instruction_before (i t) (instruction_before (Truncate x (truncation_to ty) (unit.Name t)) m)
+    else instruction_before (i x) m
 
 -- the fork that the code has
 abbrev pub fork_view : declared-fork.Fork → Fork
@@ -261,27 +287,33 @@ fork_view f = record { one = f.one.0; other = f.other.0; inner = map block_view 
 module _ (n : Names) where
   -- one operation on a value
   abbrev pub operated : Goal → (begun free : ℕ) → (ℕ → Instruction) → Made
-  operated g begun free i = before (i (target g (pick n begun free))) (follow g (pick n begun free))
+  operated g begun free i = instruction_before (i (target g (pick n begun free))) (follow g (pick n begun free))
 
   -- a pointer and a scaled index
-  abbrev pub code_scaled_pair : Goal → (begun : ℕ) → declared-operation.Operation → (bytes : ℕ) → (pointer index : Operand) → (free : ℕ) → Made
+  abbrev pub code_scaled_pair : Goal → (begun : ℕ) → declared-operation.Operation → (bytes : ℕ)
+      → (pointer index : Operand) → (free : ℕ) → Made
   code_scaled_pair g begun o bytes p i free =
-      scale bytes i free (operated g begun (behind_move (is_scaled bytes i) free) (λ x. Operate x o p (scaled bytes i free)))
+      scale bytes i free
+      (operated g begun (behind_move (is_scaled bytes i) free) (λ x. Operate x o p (scaled bytes i free)))
 
   -- a comparison as a value
-  abbrev pub compared_value : Goal → (signed : Bool) → declared-comparison.Comparison → (begun : ℕ) → (two : Bool) → Pair → Made
+  abbrev pub compared_value : Goal → (signed : Bool) → declared-comparison.Comparison → (begun : ℕ) → (two : Bool)
+      → Pair → Made
   compared_value g signed o begun two q =
-      let own = pick n begun (behind_move two q.next) in compare_by o signed (target g own) (pick n begun q.next) q.left q.right (follow g own)
+      let own = pick n begun (behind_move two q.next) in
+      compare_by o signed (target g own) (pick n begun q.next) q.left q.right (follow g own)
 
   -- a comparison, as a condition or as a value
-  abbrev pub compared : Goal → (signed : Bool) → declared-comparison.Comparison → (begun : ℕ) → (two : Bool) → Pair → Made
+  abbrev pub compared : Goal → (signed : Bool) → declared-comparison.Comparison → (begun : ℕ) → (two : Bool) → Pair
+      → Made
   compared (Either one other inner) signed o begun two q = ending (branch_by o signed q.left q.right one other) inner
   compared g signed o begun two q = compared_value g signed o begun two q
 
   -- the same of pointers
   abbrev pub compared_pointers_value : Goal → declared-comparison.Comparison → (begun : ℕ) → Pair → Made
   compared_pointers_value g o begun q =
-      let own = pick n begun (behind_move (is_two_pointers o) q.next) in compare_pointers_by o (target g own) (pick n begun q.next) q.left q.right (follow g own)
+      let own = pick n begun (behind_move (is_two_pointers o) q.next) in
+      compare_pointers_by o (target g own) (pick n begun q.next) q.left q.right (follow g own)
 
   -- two pointers are compared: tested, or told by 0 and 1
   abbrev pub compared_pointers : Goal → declared-comparison.Comparison → (begun : ℕ) → Pair → Made

@@ -36,7 +36,8 @@ integer_element t = element_of (record { base = t; stars = 0 })
 -- the truncation to 8 or 16 bits, signed or not
 abbrev pub truncation_by : ℕ → Bool → declared-truncation.Truncation
 truncation_by width signed =
-    if signed then (if width == 8 then truncation.Signed8 else truncation.Signed16) else (if width == 8 then truncation.Unsigned8 else truncation.Unsigned16)
+    if signed then (if width == 8 then truncation.Signed8 else truncation.Signed16)
+    else (if width == 8 then truncation.Unsigned8 else truncation.Unsigned16)
 
 -- how a value becomes one of a narrow type
 abbrev pub truncation_to : named.IntegerType → declared-truncation.Truncation

@@ -4,7 +4,7 @@ ghost use Rattle.std.specs.Prelude.{◌≡◌, IfOk};
 ghost use Rattle.graph_core.specs.Graphs as unit;
 ghost use Rattle.graph_core.specs.Graphs.{operand_view};
 ghost use Rattle.graph_build_names.specs.Names.{names_view};
-ghost use Rattle.graph_build_steps.specs.Drafts.{closed, ending, goal_of, made_of};
+ghost use Rattle.graph_build_steps.specs.Drafts.{with_inner_block, ending, goal_of, made_of};
 ghost use Rattle.graph_build_steps.specs.Steps.{arm_goal, arm_use, arm_value, object_address};
 
 use crate::site::Site;
@@ -80,7 +80,7 @@ pub fn leading_to(
     to: Label,
     draft: Draft,
 ) -> Result<Draft, AllocError>
-    ensures { IfOk result (λ d. made_of d ≡ ending (unit.Jump to.0) (closed site.now.place.0 (made_of draft))) }
+    ensures { IfOk result (λ d. made_of d ≡ ending (unit.Jump to.0) (with_inner_block site.now.place.0 (made_of draft))) }
 {
     let inner = closed(site.place, draft)?;
     Ok(ending(alloc, End::Jump(to), inner))

@@ -3,7 +3,7 @@
 ghost use Rattle.std.specs.Prelude.{◌≡◌, IfOk};
 ghost use Rattle.c_tree.specs.declared.typed_expression.Comparison.TheVariants.{LessEqual};
 ghost use Rattle.graph_core.specs.Graphs.{end_view, operand_view};
-ghost use Rattle.graph_build_steps.specs.Drafts.{before, branch_by, compare_by, compare_pointers_by, computing, less, made_of, not_less};
+ghost use Rattle.graph_build_steps.specs.Drafts.{instruction_before, branch_by, compare_by, compare_pointers_by, computing, less, made_of, not_less};
 
 use crate::{Computation, Draft, compute, less_by};
 use c_tree::Comparison as SourceComparison;
@@ -20,7 +20,7 @@ fn by_two(
     draft: Draft,
 ) -> Result<Draft, AllocError>
     ensures { IfOk result (λ d.
-        made_of d ≡ before (computing first between.0) (before (computing second target.0) (made_of draft))) }
+        made_of d ≡ instruction_before (computing first between.0) (instruction_before (computing second target.0) (made_of draft))) }
 {
     let draft = compute(draft, target, second)?;
     compute(draft, between, first)

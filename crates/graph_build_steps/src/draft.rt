@@ -4,7 +4,7 @@ ghost use Rattle.std.specs.Prelude.{◌≡◌, ◌∷◌, IfOk, None, map, optio
 ghost use Rattle.graph_core.specs.Graphs as form;
 ghost use Rattle.graph_core.specs.Graphs.{block_view, end_view, location_view, operand_view};
 ghost use Rattle.graph_core.specs.declared.name.Name as declared-name;
-ghost use Rattle.graph_build_steps.specs.Drafts.{before, closed, computing, ending, made_of, move_if, next_label, note};
+ghost use Rattle.graph_build_steps.specs.Drafts.{instruction_before, with_inner_block, computing, ending, made_of, move_if, next_label, note};
 
 use debug_records::Place;
 use graph_core::{
@@ -56,7 +56,7 @@ pub fn ending(alloc: Global, end: End, inner: Vec<Block>) -> Draft
 
 /// A computation that writes a name, before what follows.
 pub fn compute(draft: Draft, target: Name, computation: Computation) -> Result<Draft, AllocError>
-    ensures { IfOk result (λ d. made_of d ≡ before (computing computation target.0) (made_of draft)) }
+    ensures { IfOk result (λ d. made_of d ≡ instruction_before (computing computation target.0) (made_of draft)) }
 {
     let mut made = draft;
     let instruction = match computation {
@@ -107,7 +107,7 @@ pub fn store(
     draft: Draft,
 ) -> Result<Draft, AllocError>
     ensures { IfOk result (λ d.
-        made_of d ≡ before (form.Store element (location_view to) (operand_view value)) (made_of draft)) }
+        made_of d ≡ instruction_before (form.Store element (location_view to) (operand_view value)) (made_of draft)) }
 {
     let mut made = draft;
     made.ops.push(Instr::Store { element, to, value })?;
@@ -116,7 +116,7 @@ pub fn store(
 
 /// Words of an object that are set to zero, before what follows.
 pub fn clear(object: u32, words: u32, draft: Draft) -> Result<Draft, AllocError>
-    ensures { IfOk result (λ d. made_of d ≡ before (form.Zero object words) (made_of draft)) }
+    ensures { IfOk result (λ d. made_of d ≡ instruction_before (form.Zero object words) (made_of draft)) }
 {
     let mut made = draft;
     made.ops.push(Instr::Zero { object, words })?;
@@ -125,7 +125,7 @@ pub fn clear(object: u32, words: u32, draft: Draft) -> Result<Draft, AllocError>
 
 /// Words of the bytes that initialise arrays that are copied into an object, before what follows.
 pub fn copy(object: u32, bytes: u32, words: u32, draft: Draft) -> Result<Draft, AllocError>
-    ensures { IfOk result (λ d. made_of d ≡ before (form.CopyWords object bytes words) (made_of draft)) }
+    ensures { IfOk result (λ d. made_of d ≡ instruction_before (form.CopyWords object bytes words) (made_of draft)) }
 {
     let mut made = draft;
     made.ops.push(Instr::CopyWords {
@@ -144,7 +144,7 @@ pub fn call(
     draft: Draft,
 ) -> Result<Draft, AllocError>
     ensures { IfOk result (λ d.
-        made_of d ≡ before
+        made_of d ≡ instruction_before
         (form.Call (option_map (λ (n : declared-name.Name). n.0) target) callee
         (map operand_view arguments.items))
         (made_of draft)) }
@@ -198,7 +198,7 @@ pub fn next_label(top: u32, inner: &[Block]) -> Label
 
 /// The inner blocks of a draft with itself as one more, in a place.
 pub fn closed(place: Place, draft: Draft) -> Result<Vec<Block>, AllocError>
-    ensures { IfOk result (λ v. map block_view v.items ≡ closed place.0 (made_of draft)) }
+    ensures { IfOk result (λ v. map block_view v.items ≡ with_inner_block place.0 (made_of draft)) }
 {
     let mut instructions = draft.ops;
     instructions.reverse();

@@ -10,7 +10,7 @@ ghost use Rattle.graph_build_names.specs.Names.{names_view};
 ghost use Rattle.graph_build_layout.specs.Laid.{laid_view, pair_view};
 ghost use Rattle.graph_build_steps.specs.Drafts.{goal_of, label_of, leaf, made_of, operated, unscaling, zero};
 ghost use Rattle.graph_build_steps.specs.Rules.{truncation_to};
-ghost use Rattle.graph_build_steps.specs.Steps.{distance, finished, signed};
+ghost use Rattle.graph_build_steps.specs.Steps.{element_distance, finished, signed};
 
 use crate::{
     Computation, Draft, Goal, compared, compared_pointers, compute, is_signed, leaf, move_by,
@@ -91,7 +91,7 @@ fn distance(
     goal: Goal,
 ) -> Result<Draft, AllocError>
     ensures { IfOk result (λ d.
-        made_of d ≡ distance (names_view site.now.names.now) size (goal_of goal) begun (pair_view pair)) }
+        made_of d ≡ element_distance (names_view site.now.names.now) size (goal_of goal) begun (pair_view pair)) }
 {
     let bytes = Computation::Operate(Operation::Sub, pair.left, pair.right);
     if size == 1 {

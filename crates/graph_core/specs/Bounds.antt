@@ -1,4 +1,5 @@
--- How much a valid unit, and a run of it, may have. What is said "of a function" is asked of each; what all functions together may have goes by the unit's room.
+-- How much a valid unit, and a run of it, may have. What is said "of a function" is asked of each; what all functions
+-- together may have goes by the unit's room.
 use Rattle.std.specs.Prelude.{ℕ}
 use Rattle.memory_map.specs.declared.map.Room.{Room}
 use Rattle.memory_map.specs.declared.map.Room.TheVariants.{Small, Large}

@@ -34,4 +34,6 @@ pub record KeepsCounts (u : UnitForm) : Type 0 where
   pub blocks : total (λ (g : Graph). length g.blocks) u.graphs ≤ most_blocks u.room
   pub markers : length (markers_of u.graphs) ≤ most_markers u.room
   pub arguments : total arguments_of u.graphs ≤ most_arguments u.room
-  pub statics : total (λ o. taken_by (static_bytes o)) u.statics + total (λ (b : List ℕ). taken_by (length b)) u.array_bytes ≤ most_static_bytes
+  pub statics : total (λ o. taken_by (static_bytes o)) u.statics
+      + total (λ (b : List ℕ). taken_by (length b)) u.array_bytes
+      ≤ most_static_bytes

@@ -54,7 +54,8 @@ pub data NoteValue : Type 0 where
   Is : Recipe → NoteValue
   Gone : (change : ℕ) → NoteValue
 
--- Where a load reads and a store writes: in an automatic object, so many bytes behind its beginning, at the beginning of a static object, or where a value points.
+-- Where a load reads and a store writes: in an automatic object, so many bytes behind its beginning, at the beginning
+-- of a static object, or where a value points.
 pub data Location : Type 0 where
   Automatic : (object offset : ℕ) → Location
   Static : (object : ℕ) → Location
@@ -92,13 +93,15 @@ pub data Binding : Type 0 where
   ToScalar : ℕ → Binding
   ToObject : ℕ → Binding
 
--- A scalar variable: its number; that of its type, which equal types alone share; and the place of its declarator, or of the function's entry where it is a parameter.
+-- A scalar variable: its number; that of its type, which equal types alone share; and the place of its declarator, or
+-- of the function's entry where it is a parameter.
 pub record Scalar : Type 0 where
   pub variable : ℕ
   pub of : ℕ
   pub place : ℕ
 
--- The graph of a function. Its first names are its scalars; behind them come the temporaries, last those that code motion made.
+-- The graph of a function. Its first names are its scalars; behind them come the temporaries, last those that code
+-- motion made.
 pub record Graph : Type 0 where
   pub entry : ℕ
   pub parameters : List Binding
@@ -108,7 +111,8 @@ pub record Graph : Type 0 where
   pub first_moved : ℕ
   pub blocks : List Block
 
--- An object of static storage: what its elements are, how many it has, its first bytes, and the elements that hold addresses.
+-- An object of static storage: what its elements are, how many it has, its first bytes, and the elements that hold
+-- addresses.
 pub record StaticObject : Type 0 where
   pub element : Element
   pub count : ℕ
@@ -122,8 +126,8 @@ pub record Logged : Type 0 where
   pub place : ℕ
   pub variable : ℕ
 
--- A unit: a graph for each function, the number of main, what is in static storage, the bytes that initialise arrays, the flow of the program from place to place with what the places
--- assign, the changes that passes made, and the room.
+-- A unit: a graph for each function, the number of main, what is in static storage, the bytes that initialise arrays,
+-- the flow of the program from place to place with what the places assign, the changes that passes made, and the room.
 pub record UnitForm : Type 0 where
   pub graphs : List Graph
   pub main : ℕ
@@ -170,7 +174,8 @@ instruction_view (instr.Load x e l) = Load x.0 e (location_view l)
 instruction_view (instr.Store e l a) = Store e (location_view l) (operand_view a)
 instruction_view (instr.Zero object words) = Zero object words
 instruction_view (instr.CopyWords object bytes words) = CopyWords object bytes words
-instruction_view (instr.Call x f all) = Call (option_map (λ (n : declared-name.Name). n.0) x) f (map operand_view all.items)
+instruction_view (instr.Call x f all) =
+    Call (option_map (λ (n : declared-name.Name). n.0) x) f (map operand_view all.items)
 
 -- the end of a block that the code has
 abbrev pub end_view : declared-end.End → End
@@ -181,7 +186,11 @@ end_view (end.Return a) = Return (option_map operand_view a)
 -- the block that the code has
 abbrev pub block_view : declared-block.Block → Block
 block_view b =
-    record { place = option_map (λ (p : declared-place.Place). p.0) b.place; instructions = map instruction_view b.instructions.items; end = end_view b.end }
+    record {
+      place = option_map (λ (p : declared-place.Place). p.0) b.place;
+      instructions = map instruction_view b.instructions.items;
+      end = end_view b.end;
+    }
 
 -- the binding that the code has
 abbrev pub binding_view : declared-binding.Binding → Binding
@@ -206,7 +215,8 @@ graph_view g = record {
 
 -- the static object that the code has
 abbrev pub static_view : declared-static.StaticObject → StaticObject
-static_view o = record { element = o.element; count = o.count; bytes = o.bytes.items; relocations = o.relocations.items }
+static_view o =
+    record { element = o.element; count = o.count; bytes = o.bytes.items; relocations = o.relocations.items }
 
 -- the bytes that the code has
 abbrev pub bytes_view : declared-bytes.Bytes → List ℕ

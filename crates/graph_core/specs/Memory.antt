@@ -35,17 +35,19 @@ abbrev pub is_live : Memory → ℕ → Bool
 is_live memory n = option_map_or (λ o. o.live) (slice_get memory n) false
 
 -- a pointer to the beginning of an object
-abbrev pub address_of : Memory → ℕ → Value
-address_of memory n = option_map_or (λ o. Pointer n (bytes_of o) 0) (slice_get memory n) Odd
+abbrev pub pointer_to_object : Memory → ℕ → Value
+pointer_to_object memory n = option_map_or (λ o. Pointer n (bytes_of o) 0) (slice_get memory n) Odd
 
 -- the address of so many bytes behind the beginning of an object
 abbrev pub address_in : Memory → (object offset : ℕ) → Value
 address_in memory n offset = option_map_or (λ o. pointer_at n (bytes_of o) offset) (slice_get memory n) Odd
 
--- Which of an object's values an access by an element reaches at an offset in bytes: the object lives, its elements are as wide, and one stands there.
+-- Which of an object's values an access by an element reaches at an offset in bytes: the object lives, its elements are
+-- as wide, and one stands there.
 abbrev pub index_in : Element → (offset : ℕ) → Object → Option ℕ
 index_in e offset o =
-    if o.live && size_of e == size_of o.element && offset % size_of e == 0 && nat_lt (offset / size_of e) (length o.values)
+    if o.live && size_of e == size_of o.element && offset % size_of e == 0
+    && nat_lt (offset / size_of e) (length o.values)
     then Some (offset / size_of e) else None
 
 -- what an access by an element reads of an object at an offset in bytes, if it reaches a value
@@ -103,18 +105,24 @@ with_object memory n o = slice_set memory n o
 -- So many words of an object become zero.
 abbrev pub zeroed : Memory → ℕ → (words : ℕ) → Option Memory
 zeroed memory n words =
-    option_and_then (λ o. option_map (with_object memory n) (filled words (replicate (4 * words / size_of o.element) (Number 0)) o)) (slice_get memory n)
+    option_and_then
+    (λ o. option_map (with_object memory n) (filled words (replicate (4 * words / size_of o.element) (Number 0)) o))
+    (slice_get memory n)
 
 -- So many words of bytes are copied into an object; none where there are not so many.
 abbrev pub copied : Memory → ℕ → List ℕ → (words : ℕ) → Option Memory
 copied memory n bytes words =
     if nat_le words (words_of (length bytes))
-    then option_and_then (λ o. option_map (with_object memory n) (filled words (elements_from bytes o.element 0 (4 * words / size_of o.element)) o)) (slice_get memory n)
+    then option_and_then
+    (λ o. option_map (with_object memory n)
+    (filled words (elements_from bytes o.element 0 (4 * words / size_of o.element)) o))
+    (slice_get memory n)
     else None
 
 -- a new automatic object of an activation: nothing is known of what it holds
 abbrev pub new_object : (depth : ℕ) → MemoryObject → Object
-new_object depth m = record { owner = Automatic m.var.0 depth; element = m.element; values = replicate m.count Odd; live = true }
+new_object depth m =
+    record { owner = Automatic m.var.0 depth; element = m.element; values = replicate m.count Odd; live = true }
 
 -- all objects that began when there were so many end
 abbrev pub ended : Object → Object
@@ -132,12 +140,14 @@ static_bytes o = o.count * size_of o.element
 abbrev pub address_at : List StaticObject → List Relocation → (at : ℕ) → Option Value
 address_at statics [] at = None
 address_at statics (r ∷ more) at =
-    if r.at == at then option_map (λ o. pointer_at r.object (static_bytes o) r.offset) (slice_get statics r.object) else address_at statics more at
+    if r.at == at then option_map (λ o. pointer_at r.object (static_bytes o) r.offset) (slice_get statics r.object)
+    else address_at statics more at
 
 -- an element holds the address at the offset where it begins, as it keeps any value, or else what the bytes say
 abbrev pub first_value : List StaticObject → StaticObject → (index : ℕ) → Value
 first_value statics o index =
-    option_map_or (as_element o.element) (address_at statics o.relocations (index * size_of o.element)) (element_in o.bytes o.element index)
+    option_map_or (as_element o.element) (address_at statics o.relocations (index * size_of o.element))
+    (element_in o.bytes o.element index)
 
 -- the elements of a static object as a run begins, from an index on
 abbrev pub first_values : List StaticObject → StaticObject → (index count : ℕ) → List Value
@@ -148,7 +158,12 @@ first_values statics o index (suc count) = first_value statics o index ∷ first
 abbrev pub static_objects : List StaticObject → ℕ → List StaticObject → Memory
 static_objects statics n [] = []
 static_objects statics n (o ∷ more) =
-    record { owner = Static n; element = o.element; values = first_values statics o 0 o.count; live = true } ∷ static_objects statics (n + 1) more
+    record {
+      owner = Static n;
+      element = o.element;
+      values = first_values statics o 0 o.count;
+      live = true;
+    } ∷ static_objects statics (n + 1) more
 
 -- The memory in which a unit's run begins.
 abbrev pub first_memory : List StaticObject → Memory

@@ -1,4 +1,5 @@
--- Paths through a graph, and what is true along them. A path is its history: the instructions that it passed, the latest first, each with the value that it wrote.
+-- Paths through a graph, and what is true along them. A path is its history: the instructions that it passed, the
+-- latest first, each with the value that it wrote.
 use Rattle.std.specs.Prelude.{◌≡◌, ℕ, ◌==◌, ◌&&◌, ◌||◌, Bool, true, false, if◌then◌else◌, Option, Some, None, List, [], ◌∷◌, length, slice_get}
 use Rattle.std.specs.Option.{option_map_or}
 use Rattle.std.specs.List.{list_any}
@@ -6,7 +7,8 @@ use Rattle.graph_core.specs.declared.value.Value.{Value}
 use Rattle.graph_core.specs.Graphs.{NoteValue, Instruction, Marker, Note, Call, End, Block, Binding, ToScalar, ToObject, Graph}
 use Rattle.graph_core.specs.Uses.{target_of, targets_of, reads_of}
 
--- An instruction that was passed: its block, how many instructions stand behind it there, what it is, and the value that it wrote, if it writes one.
+-- An instruction that was passed: its block, how many instructions stand behind it there, what it is, and the value
+-- that it wrote, if it writes one.
 pub record Passed : Type 0 where
   pub block : ℕ
   pub left : ℕ
@@ -22,11 +24,20 @@ pub data Among {A : Type 0} (a : A) : List A → Type 0 where
   front : {all : List A} → Among a (a ∷ all)
   behind : {b : A} {all : List A} → Among a all → Among a (b ∷ all)
 
--- A way from a point of a graph to another. A point is the number of a block, what is left of it, and its end. The way is what it passed.
-pub data Way (g : Graph) (from : ℕ) (rest : List Instruction) (end : End) : History → (block : ℕ) → List Instruction → End → Type 0 where
+-- A way from a point of a graph to another. A point is the number of a block, what is left of it, and its end. The way
+-- is what it passed.
+pub data Way (g : Graph) (from : ℕ) (rest : List Instruction) (end : End) : History → (block : ℕ) → List Instruction
+    → End → Type 0 where
   stays : Way g from rest end [] from rest end
-  passes : {h : History} {n : ℕ} {i : Instruction} {left : List Instruction} {e : End} → Way g from rest end h n (i ∷ left) e → (v : Value) → Way g from rest end (record { block = n; left = length left; instruction = i; wrote = v } ∷ h) n left e
-  goes : {h : History} {n l : ℕ} {e : End} → Way g from rest end h n [] e → Among l (targets_of e) → (b : Block) → slice_get g.blocks l ≡ Some b → Way g from rest end h l b.instructions b.end
+  passes : {h : History} {n : ℕ} {i : Instruction} {left : List Instruction} {e : End}
+      → Way g from rest end h n (i ∷ left) e → (v : Value) → Way g from rest end (record {
+        block = n;
+        left = length left;
+        instruction = i;
+        wrote = v;
+      } ∷ h) n left e
+  goes : {h : History} {n l : ℕ} {e : End} → Way g from rest end h n [] e → Among l (targets_of e) → (b : Block)
+      → slice_get g.blocks l ≡ Some b → Way g from rest end h l b.instructions b.end
 
 -- A path from a function's entry to a point.
 pub data Path (g : Graph) (h : History) (n : ℕ) (rest : List Instruction) (end : End) : Type 0 where
@@ -81,7 +92,8 @@ is_bound x (ToScalar y ∷ more) = y == x || is_bound x more
 is_bound x (ToObject object ∷ more) = is_bound x more
 
 module _ (g : Graph) where
-  -- a marker begins a place that writes a name before any instruction: the entry, to which the call binds the parameters
+  -- a marker begins a place that writes a name before any instruction: the entry, to which the call binds the
+  -- parameters
   abbrev pub bound_at : ℕ → Instruction → Bool
   bound_at x (Marker p) = p == g.entry && is_bound x g.parameters
   bound_at x _ = false
@@ -89,7 +101,8 @@ module _ (g : Graph) where
   -- a name was written in the place in force
   abbrev pub written : ℕ → History → Bool
   written x [] = false
-  written x (i ∷ h) = if is_marker i.instruction then bound_at x i.instruction else writes x i.instruction || written x h
+  written x (i ∷ h) =
+      if is_marker i.instruction then bound_at x i.instruction else writes x i.instruction || written x h
 
 -- a scalar was written behind its last note
 abbrev pub unnoted : ℕ → History → Bool

@@ -41,13 +41,15 @@ ReadsNext x (i ∷ rest) e = Among x (reads_of i)
 -- No way from a point reads a name before it is written.
 abbrev pub IsUnread : Graph → (x n : ℕ) → List Instruction → End → Type 0
 IsUnread g x n rest e =
-    (h : History) (m : ℕ) (left : List Instruction) (f : End) → Way g n rest e h m left f → ReadsNext x left f → some_passed (writes x) h ≡ true
+    (h : History) (m : ℕ) (left : List Instruction) (f : End) → Way g n rest e h m left f → ReadsNext x left f
+    → some_passed (writes x) h ≡ true
 
 -- this place is in force
 abbrev pub is_place : ℕ → Option ℕ → Bool
 is_place p in_force = option_map_or (λ q. q == p) in_force false
 
--- how many of these instructions, of which the first stands where a place is in force, stand in a place and write a name
+-- how many of these instructions, of which the first stands where a place is in force, stand in a place and write a
+-- name
 abbrev pub writes_among : (p x : ℕ) → (in_force : Option ℕ) → List Instruction → ℕ
 writes_among p x place [] = 0
 writes_among p x place (i ∷ more) =
@@ -57,6 +59,7 @@ writes_among p x place (i ∷ more) =
 abbrev pub writes_in : Graph → (p x : ℕ) → ℕ
 writes_in g p x = total (λ (b : Block). writes_among p x b.place b.instructions) g.blocks
 
--- How often a place assigns a scalar: by its instructions, and at the entry by the call, whose binding of a parameter to the scalar counts as one.
+-- How often a place assigns a scalar: by its instructions, and at the entry by the call, whose binding of a parameter
+-- to the scalar counts as one.
 abbrev pub assignments_in : Graph → (p x : ℕ) → ℕ
 assignments_in g p x = (if p == g.entry && is_bound x g.parameters then 1 else 0) + writes_in g p x

@@ -11,10 +11,11 @@ use Rattle.graph_core.specs.declared.instruction.Callee.TheVariants as callee
 use Rattle.graph_core.specs.Graphs.{Operand, Name, Constant, StaticAddress, Recipe, Of, Truncated, Operated, NoteValue, Is, Gone, Location, Automatic, Static, At, Instruction, Marker, Note, Move, Operate, Truncate, Same, Address, Load, Store, Zero, CopyWords, Call, End, Jump, Branch, Return, Block, Binding, ToScalar, ToObject, Graph, StaticObject, UnitForm}
 use Rattle.graph_core.specs.Bounds.{most_activations}
 use Rattle.graph_core.specs.Values.{pointer_at, operate, truncate, same, holds, is_odd}
-use Rattle.graph_core.specs.Memory.{Memory, is_live, address_of, address_in, static_bytes, read, write, zeroed, copied, new_object, ended_from, first_memory}
+use Rattle.graph_core.specs.Memory.{Memory, is_live, pointer_to_object, address_in, static_bytes, read, write, zeroed, copied, new_object, ended_from, first_memory}
 
--- An activation of a function: its function, its graph, the place that it has come to, the block that it stands in, the values of its names, the shadows of its scalars,
--- the number of its first object, what is left of its block, and the name that a call's value goes to while it waits. Its block and what is left of it tell at which call it waits.
+-- An activation of a function: its function, its graph, the place that it has come to, the block that it stands in, the
+-- values of its names, the shadows of its scalars, the number of its first object, what is left of its block, and the
+-- name that a call's value goes to while it waits. Its block and what is left of it tell at which call it waits.
 pub record Activation : Type 0 where
   pub function : ℕ
   pub graph : Graph
@@ -27,7 +28,8 @@ pub record Activation : Type 0 where
   pub end : End
   pub wants : Option ℕ
 
--- What a run has: its objects, the input that is left, the activation that goes on, and those that wait, from the innermost on.
+-- What a run has: its objects, the input that is left, the activation that goes on, and those that wait, from the
+-- innermost on.
 pub record Configuration : Type 0 where
   pub memory : Memory
   pub input : List ℕ
@@ -40,8 +42,9 @@ pub record Frame : Type 0 where
   pub place : ℕ
   pub shadows : List Shadow
 
--- What can be seen of a run: a byte that is put out, the end of the program with its status, a call that finds as many activations alive as may be, or a stop: a place that is no
--- entry begins, with the live activations from the innermost on, and all objects.
+-- What can be seen of a run: a byte that is put out, the end of the program with its status, a call that finds as many
+-- activations alive as may be, or a stop: a place that is no entry begins, with the live activations from the innermost
+-- on, and all objects.
 pub data Event : Type 0 where
   Put : (byte : ℕ) → Event
   Exited : (status : ℕ) → Event
@@ -56,12 +59,13 @@ pub data Stepped : Type 0 where
   Wild : Stepped
 
 -- one value of a function is another
-abbrev pub put : {A : Type 0} → (ℕ → A) → ℕ → A → ℕ → A
-put f x v y = if y == x then v else f y
+abbrev pub with_value_at : {A : Type 0} → (ℕ → A) → ℕ → A → ℕ → A
+with_value_at f x v y = if y == x then v else f y
 
 -- the address in a static object; the first objects of a run are the static ones
 abbrev pub static_address : List StaticObject → (object offset : ℕ) → Value
-static_address statics object offset = option_map_or (λ o. pointer_at object (static_bytes o) offset) (slice_get statics object) Odd
+static_address statics object offset =
+    option_map_or (λ o. pointer_at object (static_bytes o) offset) (slice_get statics object) Odd
 
 -- the value of an operand
 abbrev pub value : List StaticObject → (ℕ → Value) → Operand → Value
@@ -88,11 +92,12 @@ numbers_from least (suc count) = least ∷ numbers_from (least + 1) count
 
 -- an activation as a stop shows it
 abbrev pub frame : Activation → Frame
-frame a = record { function = a.function; place = a.place; shadows = map a.shadows (numbers_from 0 (length a.graph.scalars)) }
+frame a =
+    record { function = a.function; place = a.place; shadows = map a.shadows (numbers_from 0 (length a.graph.scalars)) }
 
 -- a name takes a value
 abbrev pub take_value : ℕ → Value → Activation → Activation
-take_value x v a = record a { names = put a.names x v }
+take_value x v a = record a { names = with_value_at a.names x v }
 
 -- the name that a call's value goes to, if there is one, takes it
 abbrev pub take_wanted : Option ℕ → Value → Activation → Activation
@@ -119,14 +124,23 @@ unless_odd v go = if is_odd v then Wild else go
 
 -- A variable's shadow becomes what a note says.
 abbrev pub noted : List StaticObject → Configuration → ℕ → NoteValue → Stepped
-noted statics c x (Gone change) = Goes (record c { here = record c.here { shadows = put c.here.shadows x shadow.Gone } })
+noted statics c x (Gone change) =
+    Goes (record c { here = record c.here { shadows = with_value_at c.here.shadows x shadow.Gone } })
 noted statics c x (Is r) =
     unless_odd (recipe_value statics c.here.names r)
-    (Goes (record c { here = record c.here { shadows = put c.here.shadows x (shadow.Known (recipe_value statics c.here.names r)) } }))
+    (Goes
+    (record
+    c {
+      here = record
+          c.here {
+            shadows = with_value_at c.here.shadows x (shadow.Known (recipe_value statics c.here.names r));
+          };
+    }))
 
 -- A place begins: that is a stop, but at the function's entry.
 abbrev pub marked : Configuration → Stepped
-marked c = if c.here.place == c.here.graph.entry then Goes c else Shows (Stop (frame c.here ∷ map frame c.waiting) c.memory) c
+marked c =
+    if c.here.place == c.here.graph.entry then Goes c else Shows (Stop (frame c.here ∷ map frame c.waiting) c.memory) c
 
 -- an activation comes to a place
 abbrev pub at_place : ℕ → Configuration → Configuration
@@ -155,7 +169,8 @@ exited Odd = Wild
 -- An activation is left with a value: its objects end, and the innermost one that waits goes on.
 abbrev pub returned : Memory → List ℕ → Value → List Activation → Stepped
 returned memory input v [] = exited v
-returned memory input v (a ∷ waiting) = Goes (record { memory = memory; input = input; here = take_wanted a.wants v a; waiting = waiting })
+returned memory input v (a ∷ waiting) =
+    Goes (record { memory = memory; input = input; here = take_wanted a.wants v a; waiting = waiting })
 
 -- An activation is left with a value.
 abbrev pub leave : Configuration → Value → Stepped
@@ -172,23 +187,27 @@ abbrev pub got : Configuration → Option ℕ → List ℕ → Stepped
 got c x [] = Goes (record c { here = take_wanted x (Number 4294967295) c.here })
 got c x (byte ∷ input) = Goes (record c { here = take_wanted x (Number byte) c.here; input = input })
 
--- Arguments are bound: each becomes the value of a scalar, or the first element of an object of the activation, of which these are the first number and the memory.
+-- Arguments are bound: each becomes the value of a scalar, or the first element of an object of the activation, of
+-- which these are the first number and the memory.
 abbrev pub bind_names : List Binding → List Value → (ℕ → Value) → ℕ → Value
 bind_names [] vs names = names
 bind_names (b ∷ more) [] names = names
-bind_names (ToScalar x ∷ more) (v ∷ vs) names = bind_names more vs (put names x v)
+bind_names (ToScalar x ∷ more) (v ∷ vs) names = bind_names more vs (with_value_at names x v)
 bind_names (ToObject object ∷ more) (v ∷ vs) names = bind_names more vs names
 
 -- the first element of an object takes a value
 abbrev pub set_first : ℕ → Value → Memory → Memory
-set_first n v memory = option_map_or (λ o. option_map_or (λ m. m) (write memory o.element (address_of memory n) v) memory) (slice_get memory n) memory
+set_first n v memory =
+    option_map_or (λ o. option_map_or (λ m. m) (write memory o.element (pointer_to_object memory n) v) memory)
+    (slice_get memory n) memory
 
 -- the memory in which arguments are bound to objects
 abbrev pub bind_objects : ℕ → List Binding → List Value → Memory → Memory
 bind_objects first [] vs memory = memory
 bind_objects first (b ∷ more) [] memory = memory
 bind_objects first (ToScalar x ∷ more) (v ∷ vs) memory = bind_objects first more vs memory
-bind_objects first (ToObject object ∷ more) (v ∷ vs) memory = bind_objects first more vs (set_first (first + object) v memory)
+bind_objects first (ToObject object ∷ more) (v ∷ vs) memory =
+    bind_objects first more vs (set_first (first + object) v memory)
 
 -- the activation of a function that begins when there is this memory, at this depth
 abbrev pub with_objects : (depth : ℕ) → Graph → Memory → Memory
@@ -224,22 +243,23 @@ goes_if None = Wild
 goes_if (Some c) = Goes c
 
 -- the first argument
-abbrev pub first_of : List Value → Value
-first_of [] = Odd
-first_of (v ∷ vs) = v
+abbrev pub first_argument : List Value → Value
+first_argument [] = Odd
+first_argument (v ∷ vs) = v
 
 -- what can be seen in a step, and then of what it comes to
-abbrev pub after : Stepped → (Configuration → List Event) → List Event
-after (Goes c) go = go c
-after (Shows e c) go = e ∷ go c
-after (Ends e) go = e ∷ []
-after Wild go = []
+abbrev pub events_after : Stepped → (Configuration → List Event) → List Event
+events_after (Goes c) go = go c
+events_after (Shows e c) go = e ∷ go c
+events_after (Ends e) go = e ∷ []
+events_after Wild go = []
 
 module _ (u : UnitForm) where
   -- the function with this number begins, if there is one and it has a block
   abbrev pub enter : Memory → List ℕ → (function : ℕ) → List Value → List Activation → Option Configuration
   enter memory input function vs waiting =
-      option_and_then (λ g. option_map (begun memory input function vs waiting g) (slice_get g.blocks 0)) (slice_get u.graphs function)
+      option_and_then (λ g. option_map (begun memory input function vs waiting g) (slice_get g.blocks 0))
+      (slice_get u.graphs function)
 
   -- A function is called, where fewer activations live than may.
   abbrev pub call_function : Configuration → Option ℕ → (function : ℕ) → List Value → Stepped
@@ -251,8 +271,8 @@ module _ (u : UnitForm) where
   abbrev pub call : Configuration → Option ℕ → Callee → List Value → Stepped
   call c x (callee.Function f) vs = call_function c x f vs
   call c x callee.Getchar vs = got c x c.input
-  call c x callee.Putchar vs = put_out c x (first_of vs)
-  call c x callee.Exit vs = exited (first_of vs)
+  call c x callee.Putchar vs = put_out c x (first_argument vs)
+  call c x callee.Exit vs = exited (first_argument vs)
 
   -- What an instruction does; the configuration is the one behind it but for that.
   abbrev pub execute : Instruction → Configuration → Stepped
@@ -261,20 +281,27 @@ module _ (u : UnitForm) where
   execute (Move x a) c = wrote c x (value u.statics c.here.names a)
   execute (Operate x o a b) c = wrote c x (operate o (value u.statics c.here.names a) (value u.statics c.here.names b))
   execute (Truncate x t a) c = wrote c x (truncate t (value u.statics c.here.names a))
-  execute (Same x a b) c = wrote c x (same (is_live c.memory) (value u.statics c.here.names a) (value u.statics c.here.names b))
-  execute (Address x object) c = wrote c x (address_of c.memory (c.here.first_object + object))
+  execute (Same x a b) c =
+      wrote c x (same (is_live c.memory) (value u.statics c.here.names a) (value u.statics c.here.names b))
+  execute (Address x object) c = wrote c x (pointer_to_object c.memory (c.here.first_object + object))
   execute (Load x e l) c = wrote_some c x (read c.memory e (pointed u.statics c.memory c.here l))
-  execute (Store e l a) c = unless_odd (value u.statics c.here.names a) (with_memory c (write c.memory e (pointed u.statics c.memory c.here l) (value u.statics c.here.names a)))
+  execute (Store e l a) c =
+      unless_odd (value u.statics c.here.names a)
+      (with_memory c (write c.memory e (pointed u.statics c.memory c.here l) (value u.statics c.here.names a)))
   execute (Zero object words) c = with_memory c (zeroed c.memory (c.here.first_object + object) words)
   execute (CopyWords object bytes words) c =
-      with_memory c (option_and_then (λ all. copied c.memory (c.here.first_object + object) all words) (slice_get u.array_bytes bytes))
+      with_memory c
+      (option_and_then (λ all. copied c.memory (c.here.first_object + object) all words)
+      (slice_get u.array_bytes bytes))
   execute (Call x f all) c =
-      if list_any is_odd (map (value u.statics c.here.names) all) then Wild else call c x f (map (value u.statics c.here.names) all)
+      if list_any is_odd (map (value u.statics c.here.names) all) then Wild
+      else call c x f (map (value u.statics c.here.names) all)
 
   -- what the end of a block does
   abbrev pub execute_end : End → Configuration → Stepped
   execute_end (Jump l) c = go_to c l
-  execute_end (Branch k a b l m) c = branched c (holds (is_live c.memory) k (value u.statics c.here.names a) (value u.statics c.here.names b)) l m
+  execute_end (Branch k a b l m) c =
+      branched c (holds (is_live c.memory) k (value u.statics c.here.names a) (value u.statics c.here.names b)) l m
   execute_end (Return None) c = leave c Odd
   execute_end (Return (Some a)) c = leave c (value u.statics c.here.names a)
 
@@ -290,7 +317,7 @@ module _ (u : UnitForm) where
   -- what can be seen in so many steps
   abbrev pub run : (steps : ℕ) → Configuration → List Event
   run zero c = []
-  run (suc n) c = after (step c) (run n)
+  run (suc n) c = events_after (step c) (run n)
 
   -- the run from a configuration, if there is one
   abbrev pub run_some : (steps : ℕ) → Option Configuration → List Event

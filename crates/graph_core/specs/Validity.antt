@@ -1,5 +1,5 @@
--- Valid units: their numbers name what they have, their counts stay within bounds, each instruction has a place, and the place that a block keeps is one of its graph and right
--- along each edge into it.
+-- Valid units: their numbers name what they have, their counts stay within bounds, each instruction has a place, and
+-- the place that a block keeps is one of its graph and right along each edge into it.
 use Rattle.std.specs.Prelude.{◌≡◌, ◌≢◌, ◌⊎◌, ℕ, max, ◌+◌, ◌*◌, ◌<◌, ◌≤◌, Option, Some, None, List, [], ◌∷◌, ◌++◌, length, slice_get, ⊤}
 use Rattle.std.specs.List.{AllByRecursion}
 use Rattle.graph_core.specs.declared.instruction.Callee.{Callee}
@@ -92,7 +92,8 @@ abbrev pub HasPlace : List Instruction → (kept : Option ℕ) → Type 0
 HasPlace (Marker p ∷ more) kept = ⊤
 HasPlace _ kept = kept ≢ None
 
--- A place that a block keeps is the entry of its graph, or has its marker there, whether a path reaches the block or not.
+-- A place that a block keeps is the entry of its graph, or has its marker there, whether a path reaches the block or
+-- not.
 abbrev pub IsOwnPlace : Graph → Option ℕ → Type 0
 IsOwnPlace g None = ⊤
 IsOwnPlace g (Some p) = (p ≡ g.entry) ⊎ Among p (markers_of_blocks g.blocks)
@@ -197,9 +198,11 @@ module _ (u : UnitForm) where
     IsInstruction (Store e l a) = IsLocation u.statics g l × IsOperand u.statics g a
     IsInstruction (Zero object words) = IsObject g object
     IsInstruction (CopyWords object bytes words) = IsObject g object × (bytes < length u.array_bytes)
-    IsInstruction (Call x f all) = IsWanted g x × AllByRecursion (IsOperand u.statics g) all × IsCall u.graphs f (length all)
+    IsInstruction (Call x f all) =
+        IsWanted g x × AllByRecursion (IsOperand u.statics g) all × IsCall u.graphs f (length all)
 
-    -- A block is valid: its instructions have places, it keeps a place of its graph, it names what there is, and each edge from it leads to a block that keeps the place in force.
+    -- A block is valid: its instructions have places, it keeps a place of its graph, it names what there is, and each
+    -- edge from it leads to a block that keeps the place in force.
     pub record IsBlock (b : Block) : Type 0 where
       pub place : HasPlace b.instructions b.place
       pub own : IsOwnPlace g b.place
@@ -207,7 +210,8 @@ module _ (u : UnitForm) where
       pub operands : AreOperandsOfEnd u.statics g b.end
       pub edges : AreEdges g (place_at_end b) (targets_of b.end)
 
-    -- A graph is valid: its counts are within bounds, it begins in its entry's place, and its bindings and blocks name what there is.
+    -- A graph is valid: its counts are within bounds, it begins in its entry's place, and its bindings and blocks name
+    -- what there is.
     pub record IsGraph : Type 0 where
       pub instructions : instructions_of g ≤ most_instructions_of_function
       pub names : g.name_count ≤ most_names
@@ -231,7 +235,9 @@ module _ (u : UnitForm) where
     pub markers : length (markers_of u.graphs) ≤ most_markers u.room
     pub arguments : total arguments_of u.graphs ≤ most_arguments u.room
     -- what the static objects and the bytes that initialise arrays take
-    pub statics : total (λ o. taken_by (static_bytes o)) u.statics + total (λ (b : List ℕ). taken_by (length b)) u.array_bytes ≤ most_static_bytes
+    pub statics : total (λ o. taken_by (static_bytes o)) u.statics
+        + total (λ (b : List ℕ). taken_by (length b)) u.array_bytes
+        ≤ most_static_bytes
     pub relocations : AllByRecursion (λ (o : StaticObject). AreRelocations u.statics o.relocations) u.statics
     -- no place has two markers
     pub once : AreAllDifferent (markers_of u.graphs)

@@ -4,7 +4,7 @@ use Rattle.word_base.specs.declared.operation.Operation.{Operation}
 use Rattle.word_base.specs.declared.operation.Operation.TheVariants.{Add, Sub, Slt, Sltu}
 use Rattle.word_base.specs.declared.operation.Truncation.{Truncation}
 use Rattle.word_base.specs.declared.operation.Truncation.TheVariants as truncation
-use Rattle.word_base.specs.WordOperations.{operated, truncated}
+use Rattle.word_base.specs.WordOperations.{word_operation, truncated}
 use Rattle.graph_core.specs.declared.value.Value.{Value}
 use Rattle.graph_core.specs.declared.value.Value.TheVariants.{Number, Pointer, Odd}
 use Rattle.graph_core.specs.declared.instruction.Element.{Element}
@@ -17,8 +17,8 @@ abbrev pub word : ℕ → ℕ
 word n = n % 4294967296
 
 -- the word of a test: 1 where it holds, and else 0
-abbrev pub truth : Bool → Value
-truth b = if b then Number 1 else Number 0
+abbrev pub truth_word : Bool → Value
+truth_word b = if b then Number 1 else Number 0
 
 -- A pointer at an offset of its object, if that is within the object or directly behind it.
 abbrev pub pointer_at : (object size offset : ℕ) → Value
@@ -38,14 +38,14 @@ moving _ _ _ _ _ = Odd
 -- two pointers into one object: their distance, and which is the lower
 abbrev pub between : Operation → (offset other : ℕ) → Value
 between Sub m n = Number (word (m + (4294967296 - n)))
-between Slt m n = truth (nat_lt m n)
-between Sltu m n = truth (nat_lt m n)
+between Slt m n = truth_word (nat_lt m n)
+between Sltu m n = truth_word (nat_lt m n)
 between _ _ _ = Odd
 
--- What an operation makes of two values: of two words what RV32IM makes of them; a pointer is moved by a word within its object and directly behind it;
--- two pointers into one object have a distance and an order. All else is Odd.
+-- What an operation makes of two values: of two words what RV32IM makes of them; a pointer is moved by a word within
+-- its object and directly behind it; two pointers into one object have a distance and an order. All else is Odd.
 abbrev pub operate : Operation → Value → Value → Value
-operate o (Number a) (Number b) = Number (operated o a b)
+operate o (Number a) (Number b) = Number (word_operation o a b)
 operate o (Number a) (Pointer object size n) = moving o a object size n
 operate o (Number a) Odd = Odd
 operate o (Pointer object size m) (Number b) = moved_by o object size m b
@@ -75,14 +75,16 @@ as_element Unsigned16 v = truncate truncation.Unsigned16 v
 as_element Signed16 v = truncate truncation.Signed16 v
 as_element Word v = v
 
--- Whether two pointers are one, where that is known. Null is the word 0, and no pointer is null. Of a pointer to an object that has ended it is not known whether it is equal
--- to another pointer, since another object may lie where its object lay.
+-- Whether two pointers are one, where that is known. Null is the word 0, and no pointer is null. Of a pointer to an
+-- object that has ended it is not known whether it is equal to another pointer, since another object may lie where its
+-- object lay.
 abbrev pub same : (live : ℕ → Bool) → Value → Value → Value
-same live (Number a) (Number b) = truth (a == b)
+same live (Number a) (Number b) = truth_word (a == b)
 same live (Number a) (Pointer object size n) = if a == 0 then Number 0 else Odd
 same live (Number a) Odd = Odd
 same live (Pointer object size m) (Number b) = if b == 0 then Number 0 else Odd
-same live (Pointer object size m) (Pointer other size' n) = if live object && live other then truth (object == other && m == n) else Odd
+same live (Pointer object size m) (Pointer other size' n) =
+    if live object && live other then truth_word (object == other && m == n) else Odd
 same live (Pointer object size m) Odd = Odd
 same live Odd b = Odd
 

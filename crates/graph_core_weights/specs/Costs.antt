@@ -1,11 +1,12 @@
--- What instructions of a graph cost, in whatever is counted, and what the way from a point of the graph to the next marker costs.
+-- What instructions of a graph cost, in whatever is counted, and what the way from a point of the graph to the next
+-- marker costs.
 use Rattle.std.specs.Prelude.{ℕ, zero, suc, ◌+◌, Bool, true, false, if◌then◌else◌, List, [], ◌∷◌, length, slice_get}
 use Rattle.std.specs.Option.{option_map_or}
 use Rattle.graph_core.specs.Graphs.{Instruction, Block, Graph}
 use Rattle.graph_core.specs.Paths.{is_marker}
 
--- What instructions cost, in a state that goes on from each to the next: the state in which each block begins, the one behind an instruction, what an instruction costs, and what the end of
--- each block does.
+-- What instructions cost, in a state that goes on from each to the next: the state in which each block begins, the one
+-- behind an instruction, what an instruction costs, and what the end of each block does.
 pub record Costs (S : Type 0) : Type 0 where
   pub first : (block : ℕ) → S
   pub next : Instruction → S → S
@@ -40,7 +41,8 @@ module _ {S : Type 0} (c : Costs S) where
 
   -- what a block costs with its end
   abbrev pub cost_of_block : Graph → (block : ℕ) → ℕ
-  cost_of_block g l = option_map_or (λ (b : Block). cost_of_all b.instructions (c.first l) + c.last l) (slice_get g.blocks l) 0
+  cost_of_block g l =
+      option_map_or (λ (b : Block). cost_of_all b.instructions (c.first l) + c.last l) (slice_get g.blocks l) 0
 
   -- what all blocks of a graph cost
   abbrev pub cost_of_graph : Graph → ℕ

@@ -8,7 +8,7 @@ use Rattle.graph_core.specs.declared.value.Value.{Value}
 use Rattle.graph_core.specs.declared.value.Value.TheVariants.{Number, Pointer, Odd}
 use Rattle.graph_core.specs.declared.instruction.Element.{Element}
 use Rattle.graph_core.specs.Graphs.{UnitForm, Binding, ToScalar, ToObject}
-use Rattle.graph_core.specs.Memory.{Memory, Object, bytes_of, words_of, index_in, with_value, written_in, write_in, write, filled, with_object, zeroed, copied, elements_from, address_of}
+use Rattle.graph_core.specs.Memory.{Memory, Object, bytes_of, words_of, index_in, with_value, written_in, write_in, write, filled, with_object, zeroed, copied, elements_from, pointer_to_object}
 use Rattle.graph_core.specs.Runs.{set_first, bind_objects}
 use Rattle.graph_core.specs.Values.{size_of, as_element}
 use Rattle.graph_homes.specs.Owned.{Base, AreOwned}
@@ -99,13 +99,13 @@ copied_alike memory n bytes words other e = by_test (nat_le words (words_of (len
 set_first_alike : (n : ℕ) (v : Value) (memory : Memory) → AreAlike memory (set_first n v memory)
 set_first_alike n v memory = by_object (slice_get memory n) refl
   where
-    by_write : (e : Element) (r : Option Memory) → write memory e (address_of memory n) v ≡ r → AreAlike memory (option_map_or (λ m. m) r memory)
+    by_write : (e : Element) (r : Option Memory) → write memory e (pointer_to_object memory n) v ≡ r → AreAlike memory (option_map_or (λ m. m) r memory)
     by_write e None is = same_alike memory
-    by_write e (Some other) is = write_alike memory e (address_of memory n) v other is
+    by_write e (Some other) is = write_alike memory e (pointer_to_object memory n) v other is
 
-    by_object : (r : Option Object) → slice_get memory n ≡ r → AreAlike memory (option_map_or (λ (o : Object). option_map_or (λ m. m) (write memory o.element (address_of memory n) v) memory) r memory)
+    by_object : (r : Option Object) → slice_get memory n ≡ r → AreAlike memory (option_map_or (λ (o : Object). option_map_or (λ m. m) (write memory o.element (pointer_to_object memory n) v) memory) r memory)
     by_object None there = same_alike memory
-    by_object (Some o) there = by_write o.element (write memory o.element (address_of memory n) v) refl
+    by_object (Some o) there = by_write o.element (write memory o.element (pointer_to_object memory n) v) refl
 
 pub bound_alike : (first : ℕ) (all : List Binding) (vs : List Value) (memory : Memory) → AreAlike memory (bind_objects first all vs memory)
 bound_alike first [] vs memory = same_alike memory

@@ -1,11 +1,11 @@
 -- What is seen of a run has the run's events.
 use Rattle.std.proofs.Common.{◌≡◌, ℕ, zero, suc, ap, refl, List, [], ◌∷◌, map, Option, Some, None}
 use Rattle.graph_core.specs.Graphs.{UnitForm}
-use Rattle.graph_core.specs.Runs.{Configuration, Event, Stepped, Goes, Shows, Ends, Wild, after, run, run_some, step, unit_run, enter}
+use Rattle.graph_core.specs.Runs.{Configuration, Event, Stepped, Goes, Shows, Ends, Wild, events_after, run, run_some, step, unit_run, enter}
 use Rattle.graph_core.specs.Memory.{first_memory}
 use Rattle.graph_homes.specs.Seen.{Seen, event_of, seen_after, seen, seen_some, seen_run}
 
-pub after_events : (s : Stepped) (f : Configuration → List Seen) (g : Configuration → List Event) → ((c : Configuration) → map event_of (f c) ≡ g c) → map event_of (seen_after s f) ≡ after s g
+pub after_events : (s : Stepped) (f : Configuration → List Seen) (g : Configuration → List Event) → ((c : Configuration) → map event_of (f c) ≡ g c) → map event_of (seen_after s f) ≡ events_after s g
 after_events (Goes c) f g h = h c
 after_events (Shows e c) f g h = ap (λ es. e ∷ es) (h c)
 after_events (Ends e) f g h = refl

@@ -10,9 +10,9 @@ use Rattle.graph_core.specs.declared.instruction.Callee.{Callee}
 use Rattle.graph_core.specs.declared.instruction.Callee.TheVariants as callee
 use Rattle.graph_core.specs.Bounds.{most_activations}
 use Rattle.graph_core.specs.Graphs.{NoteValue, Is, Gone, Instruction, Marker, Note, Move, Operate, Truncate, Same, Address, Load, Store, Zero, CopyWords, Call, End, Jump, Branch, Return, Block, Graph, UnitForm}
-use Rattle.graph_core.specs.Memory.{Memory, is_live, address_of, read, write, zeroed, copied, ended_from, first_memory}
+use Rattle.graph_core.specs.Memory.{Memory, is_live, pointer_to_object, read, write, zeroed, copied, ended_from, first_memory}
 use Rattle.graph_core.specs.Paths.{Among, front, behind}
-use Rattle.graph_core.specs.Runs.{Activation, Configuration, Stop, TooDeep, Stepped, Goes, Shows, Ends, Wild, value, recipe_value, pointed, frame, take_value, take_wanted, wrote, wrote_some, with_memory, unless_odd, noted, marked, at_place, entered, go_to, branched, exited, returned, leave, put_out, got, bind_objects, with_objects, begun, goes_if, first_of, enter, call_function, call, execute, execute_end, step_from, step}
+use Rattle.graph_core.specs.Runs.{Activation, Configuration, Stop, TooDeep, Stepped, Goes, Shows, Ends, Wild, value, recipe_value, pointed, frame, take_value, take_wanted, wrote, wrote_some, with_memory, unless_odd, noted, marked, at_place, entered, go_to, branched, exited, returned, leave, put_out, got, bind_objects, with_objects, begun, goes_if, first_argument, enter, call_function, call, execute, execute_end, step_from, step}
 use Rattle.graph_core.specs.Values.{operate, truncate, same, holds, is_odd}
 use Rattle.graph_homes.specs.Seen.{seen, seen_after, seen_some, seen_run}
 use Rattle.graph_homes.specs.Owned.{base_of, bases_of, AreOwned, IsPlaceOf, IsActivation, IsRunning, IsSeenRunning}
@@ -163,8 +163,8 @@ module _ (u : UnitForm) where
   call_keeps : (c : Configuration) (x : Option ℕ) (f : Callee) (vs : List Value) → IsRunning u c → KeepsRunning (call u c x f vs)
   call_keeps c x (callee.Function f) vs is = function_keeps c x f vs is
   call_keeps c x callee.Getchar vs is = got_keeps c x c.input is
-  call_keeps c x callee.Putchar vs is = put_keeps c x (first_of vs) is
-  call_keeps c x callee.Exit vs is = exited_keeps (first_of vs)
+  call_keeps c x callee.Putchar vs is = put_keeps c x (first_argument vs) is
+  call_keeps c x callee.Exit vs is = exited_keeps (first_argument vs)
 
   -- ---- Steps
 
@@ -175,7 +175,7 @@ module _ (u : UnitForm) where
   executed_keeps (Operate x o a b) c place is = wrote_keeps c x (operate o (value u.statics c.here.names a) (value u.statics c.here.names b)) is
   executed_keeps (Truncate x t a) c place is = wrote_keeps c x (truncate t (value u.statics c.here.names a)) is
   executed_keeps (Same x a b) c place is = wrote_keeps c x (same (is_live c.memory) (value u.statics c.here.names a) (value u.statics c.here.names b)) is
-  executed_keeps (Address x object) c place is = wrote_keeps c x (address_of c.memory (c.here.first_object + object)) is
+  executed_keeps (Address x object) c place is = wrote_keeps c x (pointer_to_object c.memory (c.here.first_object + object)) is
   executed_keeps (Load x e l) c place is = wrote_some_keeps c x (read c.memory e (pointed u.statics c.memory c.here l)) is
   executed_keeps (Store e l a) c place is =
       unless_keeps (value u.statics c.here.names a) (with_memory c (write c.memory e (pointed u.statics c.memory c.here l) (value u.statics c.here.names a)))

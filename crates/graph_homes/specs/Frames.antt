@@ -1,4 +1,5 @@
--- Frames: the return address at the bottom, then the home registers that the function writes, then its slots, then its memory objects, each with a word behind it.
+-- Frames: the return address at the bottom, then the home registers that the function writes, then its slots, then its
+-- memory objects, each with a word behind it.
 use Rattle.std.specs.Prelude.{ℕ, ◌+◌, ◌*◌, ◌/◌, ◌==◌, ◌||◌, max, Bool, false, List, [], ◌∷◌}
 use Rattle.std.specs.Option.{option_map_or}
 use Rattle.std.specs.List.{list_any, filter}
@@ -30,7 +31,9 @@ module _ (home : ℕ → Home) where
 
   -- the function writes a register: as a call binds its parameters, or in a block, whether a path reaches that or not
   abbrev pub is_written : Graph → (r : ℕ) → Bool
-  is_written g r = list_any (binds_register r) g.parameters || list_any (λ (b : Block). list_any (writes_register r) b.instructions) g.blocks
+  is_written g r =
+      list_any (binds_register r) g.parameters
+      || list_any (λ (b : Block). list_any (writes_register r) b.instructions) g.blocks
 
   -- the registers that its frame keeps for its caller, from 4 bytes on
   abbrev pub saved : Graph → List ℕ

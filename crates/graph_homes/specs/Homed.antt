@@ -16,7 +16,12 @@ pub record HomedForm : Type 0 where
   pub homes : List (List Home)
 
 abbrev pub homed_view : declared-homed.HomedUnit → HomedForm
-homed_view h = record { unit = unit_view h.unit; mode = h.mode; homes = map (λ (f : declared-homes.FunctionHomes). f.homes.items) h.homes.items }
+homed_view h =
+    record {
+      unit = unit_view h.unit;
+      mode = h.mode;
+      homes = map (λ (f : declared-homes.FunctionHomes). f.homes.items) h.homes.items;
+    }
 
 -- the homes of a function's names
 abbrev pub homes_in : HomedForm → (function : ℕ) → List Home
@@ -40,7 +45,8 @@ abbrev pub AreHomesOf : List Graph → List (List Home) → Type 0
 AreHomesOf [] [] = Unit {0}
 AreHomesOf [] (homes ∷ more) = ⊥
 AreHomesOf (g ∷ graphs) [] = ⊥
-AreHomesOf (g ∷ graphs) (homes ∷ more) = (length homes ≡ g.name_count) × AllByRecursion (IsHomeAmong g.name_count) homes × AreHomesOf graphs more
+AreHomesOf (g ∷ graphs) (homes ∷ more) =
+    (length homes ≡ g.name_count) × AllByRecursion (IsHomeAmong g.name_count) homes × AreHomesOf graphs more
 
 -- The homes are homes of the unit's names.
 abbrev pub HaveHomes : HomedForm → Type 0
@@ -93,7 +99,8 @@ module _ (home : ℕ → Home) where
 
   -- a block over homes
   abbrev pub placed_block : Block → Block
-  placed_block b = record { place = b.place; instructions = map placed_instruction b.instructions; end = placed_end b.end }
+  placed_block b =
+      record { place = b.place; instructions = map placed_instruction b.instructions; end = placed_end b.end }
 
   -- what a parameter is bound to, over homes
   abbrev pub placed_binding : Binding → Binding
@@ -109,6 +116,7 @@ abbrev pub placed_graphs : HomedForm → (function : ℕ) → List Graph → Lis
 placed_graphs h f [] = []
 placed_graphs h f (g ∷ graphs) = placed_graph (home_of h f) g ∷ placed_graphs h (f + 1) graphs
 
--- The unit over homes: an instruction that writes a name writes its home, and one that reads a name reads what its home holds, whichever name that was written for.
+-- The unit over homes: an instruction that writes a name writes its home, and one that reads a name reads what its home
+-- holds, whichever name that was written for.
 abbrev pub over_homes : HomedForm → UnitForm
 over_homes h = record h.unit { graphs = placed_graphs h 0 h.unit.graphs }

@@ -35,25 +35,31 @@ homes_behind home holds (i ∷ h) = home_by home (target_of i.instruction) i.wro
 -- the scalar for which the binding of parameters last wrote a home
 abbrev pub bound_last : (ℕ → Home) → Home → List Binding → Option ℕ → Option ℕ
 bound_last home k [] before = before
-bound_last home k (ToScalar x ∷ more) before = bound_last home k more (if is_same_home (home x) k then Some x else before)
+bound_last home k (ToScalar x ∷ more) before =
+    bound_last home k more (if is_same_home (home x) k then Some x else before)
 bound_last home k (ToObject object ∷ more) before = bound_last home k more before
 
 -- The name for which a home was last written.
 abbrev pub last_writer : (ℕ → Home) → List Binding → Home → History → Option ℕ
 last_writer home parameters k [] = bound_last home k parameters None
-last_writer home parameters k (i ∷ h) = if is_home_of home k (target_of i.instruction) then target_of i.instruction else last_writer home parameters k h
+last_writer home parameters k (i ∷ h) =
+    if is_home_of home k (target_of i.instruction) then target_of i.instruction else last_writer home parameters k h
 
 -- a home was written behind the last note of a scalar
 abbrev pub written_since : (ℕ → Home) → ℕ → Home → History → Bool
 written_since home x k [] = false
-written_since home x k (i ∷ h) = if notes x i.instruction then false else is_home_of home k (target_of i.instruction) || written_since home x k h
+written_since home x k (i ∷ h) =
+    if notes x i.instruction then false else is_home_of home k (target_of i.instruction) || written_since home x k h
 
--- On this path a recipe is a scalar's last note, and the home of each name in it was last written for that name, before the note.
+-- On this path a recipe is a scalar's last note, and the home of each name in it was last written for that name, before
+-- the note.
 pub record Holds (home : ℕ → Home) (g : Graph) (x : ℕ) (r : Recipe) (h : History) : Type 0 where
   pub note : last_note x h ≡ Some (Is r)
   pub own : (y : ℕ) → Among y (names_in r) → last_writer home g.parameters (home y) h ≡ Some y
   pub before : (y : ℕ) → Among y (names_in r) → written_since home x (home y) h ≡ false
 
--- The recipe that gives a scalar's value at a place: it holds on every path from the function's entry to the place's marker.
+-- The recipe that gives a scalar's value at a place: it holds on every path from the function's entry to the place's
+-- marker.
 abbrev pub HoldsOnAllPaths : (ℕ → Home) → Graph → (place x : ℕ) → Recipe → Type 0
-HoldsOnAllPaths home g p x r = (h : History) (n : ℕ) (rest : List Instruction) (e : End) → Path g h n (Marker p ∷ rest) e → Holds home g x r h
+HoldsOnAllPaths home g p x r =
+    (h : History) (n : ℕ) (rest : List Instruction) (e : End) → Path g h n (Marker p ∷ rest) e → Holds home g x r h

@@ -48,8 +48,10 @@ pub record IsObjectOf (bases : List Base) (variable depth n : ℕ) (q : Object) 
 
 -- Each live object is static, or one of a live activation.
 pub record AreOwned (u : UnitForm) (memory : Memory) (bases : List Base) : Type 0 where
-  pub statics : (n k : ℕ) (q : Object) → slice_get memory n ≡ Some q → q.live ≡ true → q.owner ≡ Static k → IsStaticObject u k n q
-  pub automatics : (n x depth : ℕ) (q : Object) → slice_get memory n ≡ Some q → q.live ≡ true → q.owner ≡ Automatic x depth → IsObjectOf bases x depth n q
+  pub statics : (n k : ℕ) (q : Object) → slice_get memory n ≡ Some q → q.live ≡ true → q.owner ≡ Static k
+      → IsStaticObject u k n q
+  pub automatics : (n x depth : ℕ) (q : Object) → slice_get memory n ≡ Some q → q.live ≡ true
+      → q.owner ≡ Automatic x depth → IsObjectOf bases x depth n q
 
 -- ---- Places
 

@@ -8,21 +8,23 @@ use Rattle.graph_core.specs.Paths.{Among}
 use Rattle.graph_core.specs.Validity.{place_behind}
 use Rattle.graph_core.specs.Points.{is_place}
 
--- the name of which the first copy in a place to a scalar is; what else is moved to the scalar, a constant or an address, is no copy
+-- the name of which the first copy in a place to a scalar is; what else is moved to the scalar, a constant or an
+-- address, is no copy
 abbrev pub first_among : (p x : ℕ) → (in_force : Option ℕ) → List Instruction → Option ℕ
 first_among p x place [] = None
-first_among p x place (Move y (Name m) ∷ more) = if is_place p place && y == x then Some m else first_among p x place more
+first_among p x place (Move y (Name m) ∷ more) =
+    if is_place p place && y == x then Some m else first_among p x place more
 first_among p x place (i ∷ more) = first_among p x (place_behind (i ∷ []) place) more
 
 -- the first of two, if there is one
-abbrev pub or_else : {A : Type 0} → Option A → Option A → Option A
-or_else None other = other
-or_else (Some a) other = Some a
+abbrev pub one_or_other : {A : Type 0} → Option A → Option A → Option A
+one_or_other None other = other
+one_or_other (Some a) other = Some a
 
 -- the name of which the first copy in a place to a scalar is, among the blocks of a graph in order
 abbrev pub first_copy : (p x : ℕ) → List Block → Option ℕ
 first_copy p x [] = None
-first_copy p x (b ∷ more) = or_else (first_among p x b.place b.instructions) (first_copy p x more)
+first_copy p x (b ∷ more) = one_or_other (first_among p x b.place b.instructions) (first_copy p x more)
 
 -- A name is the temporary of a change that moved the computation of a scalar's value.
 pub record IsTemporaryOf (log : List Logged) (g : Graph) (x variable t : ℕ) : Type 0 where

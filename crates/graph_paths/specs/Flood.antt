@@ -18,8 +18,8 @@ abbrev pub FlowsBy : List Block → (is_open : ℕ → Bool) → (forward : Bool
 FlowsBy blocks is_open true m n = HasEdge blocks is_open m n
 FlowsBy blocks is_open false m n = HasEdge blocks is_open n m
 
--- HOW FACTS FLOW. Through the blocks of a graph that are open, as execution goes or against it. The facts are the numbers below a width, and each block makes of what it is told of
--- a fact what leaves it.
+-- HOW FACTS FLOW. Through the blocks of a graph that are open, as execution goes or against it. The facts are the
+-- numbers below a width, and each block makes of what it is told of a fact what leaves it.
 pub record Course : Type 0 where
   pub blocks : List Block
   pub is_open : ℕ → Bool
@@ -30,27 +30,31 @@ pub record Course : Type 0 where
 abbrev pub Flows : Course → (from to : ℕ) → Type 0
 Flows c = FlowsBy c.blocks c.is_open c.forward
 
--- SOME WAY BRINGS A FACT to a block: it begins there, or a block hands it on, from what it is told of it. If it is told that the fact is so, then some way brings it to that block.
+-- SOME WAY BRINGS A FACT to a block: it begins there, or a block hands it on, from what it is told of it. If it is told
+-- that the fact is so, then some way brings it to that block.
 pub data IsBrought (Flows : ℕ → ℕ → Type 0) (does : ℕ → Bool → Bool) (begins : ℕ → Bool) : ℕ → Type 0 where
   begun : {n : ℕ} → begins n ≡ true → IsBrought Flows does begins n
-  handed : {m n : ℕ} (before : Bool) → Flows m n → (before ≡ true → IsBrought Flows does begins m) → does m before ≡ true → IsBrought Flows does begins n
+  handed : {m n : ℕ} (before : Bool) → Flows m n → (before ≡ true → IsBrought Flows does begins m)
+      → does m before ≡ true → IsBrought Flows does begins n
 
 -- a row for each block and a bit for each fact: whether the fact comes to the block, or leaves it
 abbrev pub Bits : Type 0
 Bits = (row bit : ℕ) → Bool
 
--- No other facts come to blocks than some way brings, where these begin; and what leaves a block is what it makes of them.
+-- No other facts come to blocks than some way brings, where these begin; and what leaves a block is what it makes of
+-- them.
 pub record AreBrought (c : Course) (begins comes leaves : Bits) : Type 0 where
   pub brought : (n fact : ℕ) → n < length c.blocks → fact < c.width → comes n fact ≡ true
       → IsBrought (Flows c) (λ m. c.does m fact) (λ m. begins m fact) n
   pub begun : (n fact : ℕ) → begins n fact ≡ true → comes n fact ≡ true
   pub made : (n fact : ℕ) → n < length c.blocks → fact < c.width → leaves n fact ≡ c.does n fact (comes n fact)
 
--- THE THREE LAWS OF A FLOOD. What comes to blocks was brought; it is closed, since what leaves a block comes to all to which it flows; and what leaves a block is what it makes of
--- what comes to it.
+-- THE THREE LAWS OF A FLOOD. What comes to blocks was brought; it is closed, since what leaves a block comes to all to
+-- which it flows; and what leaves a block is what it makes of what comes to it.
 pub record AreSettled (c : Course) (begins comes leaves : Bits) : Type 0 where
   pub brought : AreBrought c begins comes leaves
-  pub closed : (m n fact : ℕ) → Flows c m n → m < length c.blocks → n < length c.blocks → leaves m fact ≡ true → comes n fact ≡ true
+  pub closed : (m n fact : ℕ) → Flows c m n → m < length c.blocks → n < length c.blocks → leaves m fact ≡ true
+      → comes n fact ≡ true
 
 -- the tables have a row for each block and a bit for each fact
 pub record AreTables (c : Course) (comes leaves : Marks) : Type 0 where
@@ -70,13 +74,15 @@ AreSameFrom count old new = (row bit : ℕ) → count ≤ row → new row bit �
 abbrev pub AreSame : (old new : Bits) → Type 0
 AreSame old new = (row bit : ℕ) → new row bit ≡ old row bit
 
--- A STEP OF A FLOOD, that tells whether anything is new: if so, more is told than was, and else all is as it was. Rows behind those of the blocks stay.
+-- A STEP OF A FLOOD, that tells whether anything is new: if so, more is told than was, and else all is as it was. Rows
+-- behind those of the blocks stay.
 pub record IsStep (c : Course) (comes leaves new_comes new_leaves : Marks) (is_new : Bool) : Type 0 where
   pub comes_count : new_comes.count ≡ comes.count
   pub comes_width : new_comes.width ≡ comes.width
   pub leaves_count : new_leaves.count ≡ leaves.count
   pub leaves_width : new_leaves.width ≡ leaves.width
-  pub keeps : (begins : Bits) → AreBrought c begins (bits_of comes) (bits_of leaves) → AreBrought c begins (bits_of new_comes) (bits_of new_leaves)
+  pub keeps : (begins : Bits) → AreBrought c begins (bits_of comes) (bits_of leaves)
+      → AreBrought c begins (bits_of new_comes) (bits_of new_leaves)
   pub least : told comes ≤ told new_comes
   pub more : is_new ≡ true → told comes < told new_comes
   pub quiet_comes : is_new ≡ false → AreSame (bits_of comes) (bits_of new_comes)
@@ -101,11 +107,13 @@ sink false from to = from
 -- what leaves the one comes to the other
 abbrev pub IsClosedAlong : Course → (from to : ℕ) → (comes leaves : Bits) → Type 0
 IsClosedAlong c from to comes leaves =
-    (fact : ℕ) → to < length c.blocks → leaves (source c.forward from to) fact ≡ true → comes (sink c.forward from to) fact ≡ true
+    (fact : ℕ) → to < length c.blocks → leaves (source c.forward from to) fact ≡ true
+    → comes (sink c.forward from to) fact ≡ true
 
 -- so it is along all edges of a block
 abbrev pub IsClosedAt : Course → (number : ℕ) → (comes leaves : Bits) → Type 0
-IsClosedAt c number comes leaves = (to : ℕ) → HasEdge c.blocks c.is_open number to → IsClosedAlong c number to comes leaves
+IsClosedAt c number comes leaves =
+    (to : ℕ) → HasEdge c.blocks c.is_open number to → IsClosedAlong c number to comes leaves
 
 -- the block of a turn, where each block gets one: the first one first, or the last one
 abbrev pub block_at : (forward : Bool) → (count turn : ℕ) → ℕ

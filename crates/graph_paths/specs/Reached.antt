@@ -13,12 +13,14 @@ pub record IsReached (g : Graph) (n : ℕ) (rest : List Instruction) (e : End) :
 -- some way leads from the first block to this one
 pub data IsLed (blocks : List Block) : ℕ → Type 0 where
   entry : IsLed blocks 0
-  leads : {n l : ℕ} (b : Block) → IsLed blocks n → slice_get blocks n ≡ Some b → Among l (targets_of b.end) → IsLed blocks l
+  leads : {n l : ℕ} (b : Block) → IsLed blocks n → slice_get blocks n ≡ Some b → Among l (targets_of b.end)
+      → IsLed blocks l
 
 -- a block to which some way leads leads on to blocks to which one does
 abbrev pub LeadsOn : List Block → (led : ℕ → Bool) → (n : ℕ) → Type 0
 LeadsOn blocks led n =
-    (b : Block) (l : ℕ) → slice_get blocks n ≡ Some b → led n ≡ true → Among l (targets_of b.end) → l < length blocks → led l ≡ true
+    (b : Block) (l : ℕ) → slice_get blocks n ≡ Some b → led n ≡ true → Among l (targets_of b.end) → l < length blocks
+    → led l ≡ true
 
 -- The blocks to which some way leads are told: no others, and all.
 pub record AreLed (blocks : List Block) (led : ℕ → Bool) : Type 0 where
@@ -28,4 +30,5 @@ pub record AreLed (blocks : List Block) (led : ℕ → Bool) : Type 0 where
 
 -- how one fact flows through all blocks: that some way leads to them
 abbrev pub leading : List Block → Course
-leading blocks = record { blocks = blocks; is_open = λ block. true; forward = true; width = 1; does = λ block fact before. before }
+leading blocks =
+    record { blocks = blocks; is_open = λ block. true; forward = true; width = 1; does = λ block fact before. before }

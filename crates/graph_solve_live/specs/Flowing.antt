@@ -20,4 +20,11 @@ is_live_at_some x (Some b) behind = is_live_at_start x b behind
 
 -- HOW LIVE NAMES FLOW: against execution, through all blocks.
 abbrev pub living : List Block → (names : ℕ) → Course
-living blocks names = record { blocks = blocks; is_open = λ n. true; forward = false; width = names; does = λ n x behind. is_live_at_some x (slice_get blocks n) behind }
+living blocks names =
+    record {
+      blocks = blocks;
+      is_open = λ n. true;
+      forward = false;
+      width = names;
+      does = λ n x behind. is_live_at_some x (slice_get blocks n) behind;
+    }

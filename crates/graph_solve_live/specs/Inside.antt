@@ -45,33 +45,51 @@ abbrev pub in_all : (steps : List (ℕ → Effect)) → (fact : ℕ) → Effect
 in_all [] fact = Leaves
 in_all (effect ∷ more) fact = one_behind (effect fact) (in_all more fact)
 
--- what each instruction of a block does to facts, as execution goes, and then the block's end. An instruction is told by how many stand behind it in the block.
-abbrev pub steps_in : (effect : (left : ℕ) → Instruction → ℕ → Effect) (at_end : End → ℕ → Effect) → List Instruction → End → List (ℕ → Effect)
+-- what each instruction of a block does to facts, as execution goes, and then the block's end. An instruction is told
+-- by how many stand behind it in the block.
+abbrev pub steps_in : (effect : (left : ℕ) → Instruction → ℕ → Effect) (at_end : End → ℕ → Effect) → List Instruction
+    → End → List (ℕ → Effect)
 steps_in effect at_end [] end = at_end end ∷ []
 steps_in effect at_end (i ∷ more) end = effect (length more) i ∷ steps_in effect at_end more end
 
 -- the same in the order in which paths of a direction pass them
-abbrev pub steps_along : (forward : Bool) (effect : (left : ℕ) → Instruction → ℕ → Effect) (at_end : End → ℕ → Effect) → Block → List (ℕ → Effect)
-steps_along forward effect at_end block = if forward then steps_in effect at_end block.instructions block.end else reverse (steps_in effect at_end block.instructions block.end)
+abbrev pub steps_along : (forward : Bool) (effect : (left : ℕ) → Instruction → ℕ → Effect) (at_end : End → ℕ → Effect)
+    → Block → List (ℕ → Effect)
+steps_along forward effect at_end block =
+    if forward then steps_in effect at_end block.instructions block.end
+    else reverse (steps_in effect at_end block.instructions block.end)
 
 -- A block does to each fact of a problem what a walk over these steps does to it.
 abbrev pub HasSteps : DataFlow → (block : ℕ) → (steps : List (ℕ → Effect)) → Type 0
-HasSteps flow block steps = (fact : ℕ) (before : Bool) → fact < flow.width → ((before && flow.kept block fact) || flow.written block fact) ≡ effect_on (in_all steps fact) before
+HasSteps flow block steps =
+    (fact : ℕ) (before : Bool) → fact < flow.width
+    → ((before && flow.kept block fact) || flow.written block fact) ≡ effect_on (in_all steps fact) before
 
 -- A walk over all steps of a block leads from the facts at the one end of the block to those at the other.
 abbrev pub WalkIsTransfer : DataFlow → Type 0
-WalkIsTransfer flow = (block : ℕ) (steps : List (ℕ → Effect)) → HasSteps flow block steps → (facts : Numbers) → flow.IsValue facts → walked flow.width steps facts ≡ flow.transfer block facts
+WalkIsTransfer flow =
+    (block : ℕ) (steps : List (ℕ → Effect)) → HasSteps flow block steps → (facts : Numbers) → flow.IsValue facts
+    → walked flow.width steps facts ≡ flow.transfer block facts
 
 -- the walk makes these facts of those that come to the block along some path
 abbrev pub ComesInside : DataFlow → ControlFlow → (block : ℕ) → (steps : List (ℕ → Effect)) → Numbers → Type 0
-ComesInside flow control block steps facts = (path : Path control flow.forward block) × (facts ≡ walked flow.width steps (along flow control path))
+ComesInside flow control block steps facts =
+    (path : Path control flow.forward block) × (facts ≡ walked flow.width steps (along flow control path))
 
--- A walk over any steps leads from the meet over all paths to a block to the meet over all paths to the point that the walk comes to: by union the facts that are so there on
--- some path, by intersection those that are so on every path.
+-- A walk over any steps leads from the meet over all paths to a block to the meet over all paths to the point that the
+-- walk comes to: by union the facts that are so there on some path, by intersection those that are so on every path.
 abbrev pub WalkIsMet : DataFlow → Type 0
-WalkIsMet flow = (g : Graph) (block : ℕ) (steps : List (ℕ → Effect)) (facts : Numbers) → IsMeetOf flow.meet (Comes flow (graph_flow g) block) facts → IsMeetOf flow.meet (ComesInside flow (graph_flow g) block steps) (walked flow.width steps facts)
+WalkIsMet flow =
+    (g : Graph) (block : ℕ) (steps : List (ℕ → Effect)) (facts : Numbers)
+    → IsMeetOf flow.meet (Comes flow (graph_flow g) block) facts
+    → IsMeetOf flow.meet (ComesInside flow (graph_flow g) block steps) (walked flow.width steps facts)
 
--- Before what is left of a block just those names of the graph are live that some path from there on reads before it writes them.
+-- Before what is left of a block just those names of the graph are live that some path from there on reads before it
+-- writes them.
 abbrev pub IsLiveInside : Type 0
-IsLiveInside = (g : Graph) (starts ends : List Numbers) → AreLive g starts ends → (n : ℕ) (b : Block) (live : Numbers) → slice_get g.blocks n ≡ Some b → slice_get ends n ≡ Some live →
-    (rest : List Instruction) (x : ℕ) → (contains (before_all g.name_count rest (with_names g.name_count (reads_of_end b.end) live)) x ≡ true) ↔ ((x < g.name_count) × IsReadFirst g x rest b.end)
+IsLiveInside =
+    (g : Graph) (starts ends : List Numbers) → AreLive g starts ends → (n : ℕ) (b : Block) (live : Numbers)
+    → slice_get g.blocks n ≡ Some b → slice_get ends n ≡ Some live →
+    (rest : List Instruction) (x : ℕ)
+    → (contains (before_all g.name_count rest (with_names g.name_count (reads_of_end b.end) live)) x ≡ true) ↔
+    ((x < g.name_count) × IsReadFirst g x rest b.end)

@@ -11,16 +11,19 @@ use Rattle.graph_solve_problem.specs.Numbers.{Numbers}
 abbrev pub end_reads : ℕ → End → Bool
 end_reads x end = list_any (λ y. y == x) (reads_of_end end)
 
--- From a point of a graph on, some path reads the name before it writes it. A point is what is left of a block, and the block's end.
+-- From a point of a graph on, some path reads the name before it writes it. A point is what is left of a block, and the
+-- block's end.
 pub data IsReadFirst (g : Graph) (x : ℕ) : List Instruction → End → Type 0 where
   -- the next instruction reads it
   read : {i : Instruction} {left : List Instruction} {end : End} → reads x i ≡ true → IsReadFirst g x (i ∷ left) end
   -- the end reads it
   read_at_end : {end : End} → end_reads x end ≡ true → IsReadFirst g x [] end
   -- the next instruction does not write it, and it is read first from behind this instruction on
-  passed : {i : Instruction} {left : List Instruction} {end : End} → writes x i ≡ false → IsReadFirst g x left end → IsReadFirst g x (i ∷ left) end
+  passed : {i : Instruction} {left : List Instruction} {end : End} → writes x i ≡ false → IsReadFirst g x left end
+      → IsReadFirst g x (i ∷ left) end
   -- the end leads to a block from whose start on it is read first
-  onward : {end : End} (to : ℕ) (b : Block) → Contains (targets_of end) to → slice_get g.blocks to ≡ Some b → IsReadFirst g x b.instructions b.end → IsReadFirst g x [] end
+  onward : {end : End} (to : ℕ) (b : Block) → Contains (targets_of end) to → slice_get g.blocks to ≡ Some b
+      → IsReadFirst g x b.instructions b.end → IsReadFirst g x [] end
 
 -- from the start of the block on it is read first
 abbrev pub IsLiveAtStart : Graph → (x n : ℕ) → Type 0
@@ -28,14 +31,18 @@ IsLiveAtStart g x n = (b : Block) × (slice_get g.blocks n ≡ Some b) × IsRead
 
 -- it is read first from the start of a block on to which the block's end leads
 abbrev pub IsLiveAtEnd : Graph → (x n : ℕ) → Type 0
-IsLiveAtEnd g x n = (b : Block) × (slice_get g.blocks n ≡ Some b) × ((to : ℕ) × Contains (targets_of b.end) to × IsLiveAtStart g x to)
+IsLiveAtEnd g x n =
+    (b : Block) × (slice_get g.blocks n ≡ Some b) × ((to : ℕ) × Contains (targets_of b.end) to × IsLiveAtStart g x to)
 
--- At the start and at the end of each block just those names of the graph are live that some path from there on reads before it writes them.
+-- At the start and at the end of each block just those names of the graph are live that some path from there on reads
+-- before it writes them.
 pub record AreLive (g : Graph) (starts ends : List Numbers) : Type 0 where
   pub starts_each : length starts ≡ length g.blocks
   pub ends_each : length ends ≡ length g.blocks
-  pub at_starts : (n x : ℕ) (live : Numbers) → slice_get starts n ≡ Some live → (contains live x ≡ true) ↔ ((x < g.name_count) × IsLiveAtStart g x n)
-  pub at_ends : (n x : ℕ) (live : Numbers) → slice_get ends n ≡ Some live → (contains live x ≡ true) ↔ ((x < g.name_count) × IsLiveAtEnd g x n)
+  pub at_starts : (n x : ℕ) (live : Numbers) → slice_get starts n ≡ Some live
+      → (contains live x ≡ true) ↔ ((x < g.name_count) × IsLiveAtStart g x n)
+  pub at_ends : (n x : ℕ) (live : Numbers) → slice_get ends n ≡ Some live
+      → (contains live x ≡ true) ↔ ((x < g.name_count) × IsLiveAtEnd g x n)
 
 -- with these names, as far as they lie below the width
 abbrev pub with_names : (width : ℕ) → List ℕ → Numbers → Numbers

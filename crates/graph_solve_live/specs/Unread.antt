@@ -6,4 +6,6 @@ use Rattle.graph_solve_live.specs.Live.{IsReadFirst}
 
 -- From each point on a name is unread exactly where no path from there on reads it before it writes it.
 abbrev pub UnreadIsNotReadFirst : Type 0
-UnreadIsNotReadFirst = (g : Graph) (x n : ℕ) (rest : List Instruction) (end : End) → IsUnread g x n rest end ↔ (IsReadFirst g x rest end → ⊥)
+UnreadIsNotReadFirst =
+    (g : Graph) (x n : ℕ) (rest : List Instruction) (end : End)
+    → IsUnread g x n rest end ↔ (IsReadFirst g x rest end → ⊥)

@@ -39,4 +39,5 @@ Comes flow control block value = (path : Path control flow.forward block) × (va
 
 -- the block makes this value of one that comes to it along some path
 abbrev pub Leaves : DataFlow → ControlFlow → (block : ℕ) → Numbers → Type 0
-Leaves flow control block value = (path : Path control flow.forward block) × (value ≡ flow.transfer block (along flow control path))
+Leaves flow control block value =
+    (path : Path control flow.forward block) × (value ≡ flow.transfer block (along flow control path))

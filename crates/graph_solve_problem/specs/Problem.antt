@@ -4,10 +4,12 @@ use Rattle.std.specs.FinSet.{contains}
 use Rattle.bit_rows.specs.Grid.{met_bit}
 use Rattle.graph_solve_problem.specs.Numbers.{Numbers, IsBelow}
 
--- A chain of so many falls ends at a value: it begins at any value, and each next value lies strictly below the one before.
+-- A chain of so many falls ends at a value: it begins at any value, and each next value lies strictly below the one
+-- before.
 pub data Falls (IsValue : Numbers → Type 0) (meet : Numbers → Numbers → Numbers) : ℕ → Numbers → Type 0 where
   begins : {x : Numbers} → IsValue x → Falls IsValue meet 0 x
-  falls : {n : ℕ} {x y : Numbers} → Falls IsValue meet n x → IsValue y → meet y x ≡ y → y ≢ x → Falls IsValue meet (suc n) y
+  falls : {n : ℕ} {x y : Numbers} → Falls IsValue meet n x → IsValue y → meet y x ≡ y → y ≢ x
+      → Falls IsValue meet (suc n) y
 
 -- What flows through the blocks of a graph, and what each block makes of it; with the laws that a problem keeps.
 pub record DataFlow : Type 1 where
@@ -34,8 +36,10 @@ pub record DataFlow : Type 1 where
   -- whether a block makes a fact of its own
   pub written : (block fact : ℕ) → Bool
   pub values : (x : Numbers) → IsValue x ↔ IsBelow width x
-  pub meets : (x y : Numbers) → IsValue x → IsValue y → (fact : ℕ) → contains (meet x y) fact ≡ met_bit unites (contains x fact) (contains y fact)
-  pub moves : (block : ℕ) (x : Numbers) → IsValue x → (fact : ℕ) → fact < width → contains (transfer block x) fact ≡ ((contains x fact && kept block fact) || written block fact)
+  pub meets : (x y : Numbers) → IsValue x → IsValue y → (fact : ℕ)
+      → contains (meet x y) fact ≡ met_bit unites (contains x fact) (contains y fact)
+  pub moves : (block : ℕ) (x : Numbers) → IsValue x → (fact : ℕ) → fact < width
+      → contains (transfer block x) fact ≡ ((contains x fact && kept block fact) || written block fact)
   pub edge_value : IsValue edge
   pub top_value : IsValue top
   pub meet_value : (x y : Numbers) → IsValue x → IsValue y → IsValue (meet x y)
@@ -44,5 +48,6 @@ pub record DataFlow : Type 1 where
   pub associates : (x y z : Numbers) → IsValue x → IsValue y → IsValue z → meet (meet x y) z ≡ meet x (meet y z)
   pub repeats : (x : Numbers) → IsValue x → meet x x ≡ x
   pub neutral : (x : Numbers) → IsValue x → meet x top ≡ x
-  pub distributes : (block : ℕ) (x y : Numbers) → IsValue x → IsValue y → transfer block (meet x y) ≡ meet (transfer block x) (transfer block y)
+  pub distributes : (block : ℕ) (x y : Numbers) → IsValue x → IsValue y
+      → transfer block (meet x y) ≡ meet (transfer block x) (transfer block y)
   pub bounded : (count : ℕ) (x : Numbers) → Falls IsValue meet count x → count ≤ height

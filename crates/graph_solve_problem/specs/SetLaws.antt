@@ -59,21 +59,25 @@ union_comm s t = equal _ _ (λ q. in_union s t q ∙ or_comm (contains s q) (con
 
 pub union_assoc : (s t u : Numbers) → union (union s t) u ≡ union s (union t u)
 union_assoc s t u = equal _ _ (λ q.
-    in_union (union s t) u q ∙ ap (λ b. b || contains u q) (in_union s t q) ∙ or_assoc (contains s q) (contains t q) (contains u q)
+    in_union (union s t) u q ∙ ap (λ b. b || contains u q) (in_union s t q) ∙ or_assoc (contains s q) (contains t q)
+    (contains u q)
     ∙ ap (λ b. contains s q || b) (sym (in_union t u q)) ∙ sym (in_union s (union t u) q))
 
 pub union_same : (s : Numbers) → union s s ≡ s
 union_same s = equal _ _ (λ q. in_union s s q ∙ or_same (contains s q))
 
 pub union_empty : (s : Numbers) → union s empty ≡ s
-union_empty s = equal _ _ (λ q. in_union s empty q ∙ ap (λ b. contains s q || b) (contains-empty nat_cmp q) ∙ or_none (contains s q))
+union_empty s =
+    equal _ _
+    (λ q. in_union s empty q ∙ ap (λ b. contains s q || b) (contains-empty nat_cmp q) ∙ or_none (contains s q))
 
 pub both_comm : (s t : Numbers) → intersection s t ≡ intersection t s
 both_comm s t = equal _ _ (λ q. in_both s t q ∙ and_comm (contains s q) (contains t q) ∙ sym (in_both t s q))
 
 pub both_assoc : (s t u : Numbers) → intersection (intersection s t) u ≡ intersection s (intersection t u)
 both_assoc s t u = equal _ _ (λ q.
-    in_both (intersection s t) u q ∙ ap (λ b. b && contains u q) (in_both s t q) ∙ and_assoc (contains s q) (contains t q) (contains u q)
+    in_both (intersection s t) u q ∙ ap (λ b. b && contains u q) (in_both s t q) ∙ and_assoc (contains s q)
+    (contains t q) (contains u q)
     ∙ ap (λ b. contains s q && b) (sym (in_both t u q)) ∙ sym (in_both s (intersection t u) q))
 
 pub both_same : (s : Numbers) → intersection s s ≡ s
@@ -101,7 +105,9 @@ in_below (suc n) q lt = contains-insert nat_cmp_total (numbers_below n) n q ∙ 
 
 pub not_below : (w : ℕ) → IsBelow w (numbers_below w)
 not_below zero q h = contains-empty nat_cmp q
-not_below (suc n) q h = contains-insert nat_cmp_total (numbers_below n) n q ∙ both_false (unsigned_tied q n ∙ differs q n (omega arith)) (not_below n q (omega arith))
+not_below (suc n) q h =
+    contains-insert nat_cmp_total (numbers_below n) n q ∙ both_false (unsigned_tied q n ∙ differs q n (omega arith))
+    (not_below n q (omega arith))
   where
     both_false : {a b : Bool} → a ≡ false → b ≡ false → (a || b) ≡ false
     both_false {a} {b} e f = ap (λ c. c || b) e ∙ f
@@ -116,8 +122,10 @@ both_all w s below = equal _ _ (λ q. in_both s (numbers_below w) q ∙ elim (be
   | inr g ↦ ap (λ b. b && contains (numbers_below w) q) (below q g) ∙ sym (below q g)
 ])
 
-moved : (made lost u : Numbers) (q : ℕ) → contains (made_of made lost u) q ≡ (contains made q || (contains u q && not (contains lost q)))
-moved made lost u q = in_union made (difference u lost) q ∙ ap (λ b. contains made q || b) (contains-difference nat_cmp_total u lost q)
+moved : (made lost u : Numbers) (q : ℕ)
+    → contains (made_of made lost u) q ≡ (contains made q || (contains u q && not (contains lost q)))
+moved made lost u q =
+    in_union made (difference u lost) q ∙ ap (λ b. contains made q || b) (contains-difference nat_cmp_total u lost q)
 
 all_parted : (g a b k : Bool) → (g || ((a && b) && k)) ≡ ((g || (a && k)) && (g || (b && k)))
 all_parted true a b k = refl
@@ -129,11 +137,15 @@ all_parted false true b false = and_false b
     and_false false = refl
 all_parted false false b k = refl
 
-pub made_of_both : (made lost s t : Numbers) → made_of made lost (intersection s t) ≡ intersection (made_of made lost s) (made_of made lost t)
+pub made_of_both : (made lost s t : Numbers)
+    → made_of made lost (intersection s t) ≡ intersection (made_of made lost s) (made_of made lost t)
 made_of_both made lost s t = equal _ _ (λ q.
     moved made lost (intersection s t) q ∙ ap (λ b. contains made q || (b && not (contains lost q))) (in_both s t q)
     ∙ all_parted (contains made q) (contains s q) (contains t q) (not (contains lost q))
-    ∙ sym (in_both (made_of made lost s) (made_of made lost t) q ∙ ap (λ b. b && contains (made_of made lost t) q) (moved made lost s q) ∙ ap (λ b. (contains made q || (contains s q && not (contains lost q))) && b) (moved made lost t q)))
+    ∙ sym
+    (in_both (made_of made lost s) (made_of made lost t) q ∙ ap (λ b. b && contains (made_of made lost t) q)
+    (moved made lost s q) ∙ ap (λ b. (contains made q || (contains s q && not (contains lost q))) && b)
+    (moved made lost t q)))
 
 -- how many numbers below n are in
 abbrev one_of : Bool → ℕ
@@ -146,17 +158,21 @@ count (suc n) f = one_of (f n) + count n f
 
 count_same : (n : ℕ) (f h : ℕ → Bool) → ((q : ℕ) → q < n → f q ≡ h q) → count n f ≡ count n h
 count_same zero f h e = refl
-count_same (suc n) f h e = let a = e n (omega arith) in omega (arith, ap one_of a, count_same n f h (λ q lt. e q (omega arith)))
+count_same (suc n) f h e =
+    let a = e n (omega arith) in omega (arith, ap one_of a, count_same n f h (λ q lt. e q (omega arith)))
 
 -- more members, or the same
-grows : (n : ℕ) (f h : ℕ → Bool) → ((q : ℕ) → (h q || f q) ≡ h q) → (count n f < count n h) ⊎ ((q : ℕ) → q < n → f q ≡ h q)
+grows : (n : ℕ) (f h : ℕ → Bool) → ((q : ℕ) → (h q || f q) ≡ h q)
+    → (count n f < count n h) ⊎ ((q : ℕ) → q < n → f q ≡ h q)
 grows zero f h sub = inr (λ q lt. absurd (omega arith))
 grows (suc n) f h sub = go (f n) (h n) refl refl (grows n f h sub)
   where
     both_so : f n ≡ h n → ((q : ℕ) → q < n → f q ≡ h q) → (q : ℕ) → q < suc n → f q ≡ h q
-    both_so here below q lt = elim (at_or_below n q lt) [ inl l ↦ below q l | inr e ↦ subst (λ m. f m ≡ h m) (sym e) here ]
+    both_so here below q lt =
+        elim (at_or_below n q lt) [ inl l ↦ below q l | inr e ↦ subst (λ m. f m ≡ h m) (sym e) here ]
 
-    go : (x y : Bool) → f n ≡ x → h n ≡ y → (count n f < count n h) ⊎ ((q : ℕ) → q < n → f q ≡ h q) → (one_of x + count n f < one_of y + count n h) ⊎ ((q : ℕ) → q < suc n → f q ≡ h q)
+    go : (x y : Bool) → f n ≡ x → h n ≡ y → (count n f < count n h) ⊎ ((q : ℕ) → q < n → f q ≡ h q)
+        → (one_of x + count n f < one_of y + count n h) ⊎ ((q : ℕ) → q < suc n → f q ≡ h q)
     go true true e d (inl lt) = inl (omega arith)
     go true true e d (inr same) = inr (both_so (e ∙ sym d) same)
     go false false e d (inl lt) = inl (omega arith)
@@ -174,10 +190,13 @@ within_width (suc n) f = omega (arith, at_most (f n), within_width n f)
     at_most false = omega arith
 
 -- sets below the width that agree below it are equal
-agree_below : (width : ℕ) (s t : Numbers) → IsBelow width s → IsBelow width t → ((q : ℕ) → q < width → contains s q ≡ contains t q) → s ≡ t
-agree_below width s t v w same = equal s t (λ q. elim (below_or_not width q) [ inl l ↦ same q l | inr g ↦ v q g ∙ sym (w q g) ])
+agree_below : (width : ℕ) (s t : Numbers) → IsBelow width s → IsBelow width t
+    → ((q : ℕ) → q < width → contains s q ≡ contains t q) → s ≡ t
+agree_below width s t v w same =
+    equal s t (λ q. elim (below_or_not width q) [ inl l ↦ same q l | inr g ↦ v q g ∙ sym (w q g) ])
 
-counted_up : (width n : ℕ) (s : Numbers) → Falls (IsBelow width) union n s → IsBelow width s × (n ≤ count width (contains s))
+counted_up : (width n : ℕ) (s : Numbers) → Falls (IsBelow width) union n s
+    → IsBelow width s × (n ≤ count width (contains s))
 counted_up width _ _ (begins v) = (v, omega arith)
 counted_up width _ _ (falls {n} {x} {y} c v low differs) =
     let before = counted_up width n x c in (
@@ -188,15 +207,18 @@ counted_up width _ _ (falls {n} {x} {y} c v low differs) =
       ],
     )
 
-counted_down : (width n : ℕ) (s : Numbers) → Falls (IsBelow width) intersection n s → IsBelow width s × (n + count width (contains s) ≤ width)
+counted_down : (width n : ℕ) (s : Numbers) → Falls (IsBelow width) intersection n s
+    → IsBelow width s × (n + count width (contains s) ≤ width)
 counted_down width _ _ (begins {x} v) = (v, omega (arith, within_width width (contains x)))
 counted_down width _ _ (falls {n} {x} {y} c v low differs) =
     let before = counted_down width n x c in (
       v,
-      elim (grows width (contains y) (contains x) (λ q. absorbed (contains y q) (contains x q) (sym (in_both y x q) ∙ ap (λ u. contains u q) low))) [
-        | inl lt ↦ omega (arith, before.1)
-        | inr same ↦ absurd (differs (agree_below width y x v before.0 same))
-      ],
+      elim
+          (grows width (contains y) (contains x)
+          (λ q. absorbed (contains y q) (contains x q) (sym (in_both y x q) ∙ ap (λ u. contains u q) low))) [
+            | inl lt ↦ omega (arith, before.1)
+            | inr same ↦ absurd (differs (agree_below width y x v before.0 same))
+          ],
     )
   where
     absorbed : (a b : Bool) → (a && b) ≡ a → (b || a) ≡ b
@@ -230,4 +252,5 @@ pub below_both : (w : ℕ) (s t : Numbers) → IsBelow w s → IsBelow w t → I
 below_both w s t p q n h = in_both s t n ∙ and_left _ _ (p n h)
 
 pub below_made : (w : ℕ) (made lost s : Numbers) → IsBelow w made → IsBelow w s → IsBelow w (made_of made lost s)
-below_made w made lost s p v = below_union w made (difference s lost) p (λ q h. contains-difference nat_cmp_total s lost q ∙ and_left _ _ (v q h))
+below_made w made lost s p v =
+    below_union w made (difference s lost) p (λ q h. contains-difference nat_cmp_total s lost q ∙ and_left _ _ (v q h))

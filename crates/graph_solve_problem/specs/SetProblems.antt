@@ -6,9 +6,14 @@ use Rattle.graph_solve_problem.specs.Problem.{DataFlow}
 use Rattle.graph_solve_problem.specs.SetLaws.{union_comm, union_assoc, union_same, union_empty, both_comm, both_assoc, both_same, both_all, in_union, in_both, bounded_union, bounded_both, below_empty, below_union, below_both, not_below}
 
 -- On some path: what is left where paths meet is the union, and what begins anywhere begins with no number.
-abbrev pub some_path : (forward : Bool) (width : ℕ) (edge : Numbers) (transfer : ℕ → Numbers → Numbers) → IsBelow width edge → ((block : ℕ) (x : Numbers) → IsBelow width x → IsBelow width (transfer block x)) →
+abbrev pub some_path : (forward : Bool) (width : ℕ) (edge : Numbers) (transfer : ℕ → Numbers → Numbers)
+    → IsBelow width edge → ((block : ℕ) (x : Numbers) → IsBelow width x → IsBelow width (transfer block x)) →
     ((block : ℕ) (x y : Numbers) → transfer block (union x y) ≡ union (transfer block x) (transfer block y)) →
-    (kept written : ℕ → ℕ → Bool) → ((block : ℕ) (x : Numbers) → IsBelow width x → (fact : ℕ) → fact < width → contains (transfer block x) fact ≡ ((contains x fact && kept block fact) || written block fact)) → DataFlow
+    (kept written : ℕ → ℕ → Bool)
+    →
+    ((block : ℕ) (x : Numbers) → IsBelow width x → (fact : ℕ) → fact < width
+    → contains (transfer block x) fact ≡ ((contains x fact && kept block fact) || written block fact))
+    → DataFlow
 some_path forward width edge transfer below_edge below distributes kept written moves = record {
   IsValue = IsBelow width;
   forward = forward;
@@ -36,10 +41,18 @@ some_path forward width edge transfer below_edge below distributes kept written 
   bounded = bounded_union width;
 }
 
--- On every path: what is left where paths meet is the intersection, and what begins anywhere begins with all numbers below the width.
-abbrev pub every_path : (forward : Bool) (width : ℕ) (edge : Numbers) (transfer : ℕ → Numbers → Numbers) → IsBelow width edge → ((block : ℕ) (x : Numbers) → IsBelow width x → IsBelow width (transfer block x)) →
-    ((block : ℕ) (x y : Numbers) → transfer block (intersection x y) ≡ intersection (transfer block x) (transfer block y)) →
-    (kept written : ℕ → ℕ → Bool) → ((block : ℕ) (x : Numbers) → IsBelow width x → (fact : ℕ) → fact < width → contains (transfer block x) fact ≡ ((contains x fact && kept block fact) || written block fact)) → DataFlow
+-- On every path: what is left where paths meet is the intersection, and what begins anywhere begins with all numbers
+-- below the width.
+abbrev pub every_path : (forward : Bool) (width : ℕ) (edge : Numbers) (transfer : ℕ → Numbers → Numbers)
+    → IsBelow width edge → ((block : ℕ) (x : Numbers) → IsBelow width x → IsBelow width (transfer block x)) →
+    ((block : ℕ) (x y : Numbers)
+    → transfer block (intersection x y) ≡ intersection (transfer block x) (transfer block y))
+    →
+    (kept written : ℕ → ℕ → Bool)
+    →
+    ((block : ℕ) (x : Numbers) → IsBelow width x → (fact : ℕ) → fact < width
+    → contains (transfer block x) fact ≡ ((contains x fact && kept block fact) || written block fact))
+    → DataFlow
 every_path forward width edge transfer below_edge below distributes kept written moves = record {
   IsValue = IsBelow width;
   forward = forward;

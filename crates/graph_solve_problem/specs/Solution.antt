@@ -10,13 +10,18 @@ use Rattle.graph_solve_problem.specs.Meets.{IsMeetOf}
 
 -- Each block's value is the meet over all paths to the block of what comes along them.
 abbrev pub AreMet : DataFlow → ControlFlow → List Numbers → Type 0
-AreMet flow control values = (block : ℕ) (value : Numbers) → slice_get values block ≡ Some value → IsMeetOf flow.meet (Comes flow control block) value
+AreMet flow control values =
+    (block : ℕ) (value : Numbers) → slice_get values block ≡ Some value
+    → IsMeetOf flow.meet (Comes flow control block) value
 
 -- Each block's value is the meet over all paths to the block of what the block makes of what comes along them.
 abbrev pub AreMetBehind : DataFlow → ControlFlow → List Numbers → Type 0
-AreMetBehind flow control values = (block : ℕ) (value : Numbers) → slice_get values block ≡ Some value → IsMeetOf flow.meet (Leaves flow control block) value
+AreMetBehind flow control values =
+    (block : ℕ) (value : Numbers) → slice_get values block ≡ Some value
+    → IsMeetOf flow.meet (Leaves flow control block) value
 
--- Paths come to a block at its start and leave it at its end; those against execution come to its end and leave it at its start.
+-- Paths come to a block at its start and leave it at its end; those against execution come to its end and leave it at
+-- its start.
 abbrev pub AreMetBySides : DataFlow → ControlFlow → (forward : Bool) → (starts ends : List Numbers) → Type 0
 AreMetBySides flow control true starts ends = AreMet flow control starts × AreMetBehind flow control ends
 AreMetBySides flow control false starts ends = AreMet flow control ends × AreMetBehind flow control starts
@@ -33,7 +38,8 @@ HasEdge edges from to = Contains edges (record { from = from; to = to })
 
 -- execution goes along the edges of the graph
 abbrev pub control_flow : FlowGraph → ControlFlow
-control_flow graph = record { Goes = HasEdge graph.edges.items; Ends = λ block. slice_get graph.ends.items block ≡ Some true }
+control_flow graph =
+    record { Goes = HasEdge graph.edges.items; Ends = λ block. slice_get graph.ends.items block ≡ Some true }
 
 -- each edge leads from one of so many blocks to one of them
 abbrev pub AreWithin : (blocks : ℕ) → List Edge → Type 0

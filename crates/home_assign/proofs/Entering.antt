@@ -15,7 +15,7 @@ use Rattle.graph_core.specs.Paths.{Among, front, behind, stays, path, is_bound, 
 use Rattle.graph_core.specs.Validity.{AreOperandsOf, IsValid}
 use Rattle.graph_core.specs.Values.{is_odd}
 use Rattle.graph_core.specs.Histories.{values_behind, shadow_by, shadow_of}
-use Rattle.graph_core.specs.Runs.{put, recipe_value, bind_names}
+use Rattle.graph_core.specs.Runs.{with_value_at, recipe_value, bind_names}
 use Rattle.graph_homes.specs.Homed.{HomedForm, HaveHomes, home_of, placed, placed_binding}
 use Rattle.graph_solve_live.specs.Live.{IsReadFirst, passed, onward}
 use Rattle.home_assign.specs.Clashes.{bound}
@@ -41,9 +41,9 @@ bound_kept : (home : ℕ → Home) (ps : List Binding) (vs : List Value) (names 
 bound_kept home [] vs names held x apart same = same
 bound_kept home (b ∷ ps) [] names held x apart same = same
 bound_kept home (ToObject object ∷ ps) (v ∷ vs) names held x apart same = bound_kept home ps vs names held x apart same
-bound_kept home (ToScalar z ∷ ps) (v ∷ vs) names held x apart same = bound_kept home ps vs (put names z v) (put held (placed home z) v) x (λ y is. apart y (or_right (z == y) (is_bound y ps) is)) both
+bound_kept home (ToScalar z ∷ ps) (v ∷ vs) names held x apart same = bound_kept home ps vs (with_value_at names z v) (with_value_at held (placed home z) v) x (λ y is. apart y (or_right (z == y) (is_bound y ps) is)) both
   where
-    both : put held (placed home z) v (placed home x) ≡ put names z v x
+    both : with_value_at held (placed home z) v (placed home x) ≡ with_value_at names z v x
     both = elim (eqb_tells x z) [
       | inl t ↦ ap (λ b. if b then v else held (placed home x)) (eq-eqb (placed home x) (placed home z) (ap (placed home) t.1)) ∙ sym (ap (λ b. if b then v else names x) t.0)
       | inr t ↦ ap (λ b. if b then v else held (placed home x)) (apart z (or_left (z == z) (is_bound z ps) (eq-eqb z z refl)) (λ e. t.1 (sym e))) ∙ same ∙ sym (ap (λ b. if b then v else names x) t.0)
@@ -53,7 +53,7 @@ module _ (h : HomedForm) (valid : IsValid h.unit) (homed : HaveHomes h) (f : ℕ
   -- A note was passed.
   noted_by : (values : ℕ → Value) (shadows : ℕ → Shadow) (x : ℕ) (n : NoteValue) (s : Shadow) (rest : List Instruction) (e : End) (held : ℕ → Value) (fits : Fits h f g values shadows (Note x n ∷ rest) e held)
       → ((y : ℕ) (before : Shadow) → (if x == y then s else before) ≡ shadow_by h.unit.statics y (Note x n) (values_behind (first_names g fits.arguments) fits.history) before) → ((v : Value) → s ≡ shadow.Known v → is_odd v ≡ false)
-      → ((r : Recipe) → n ≡ Is r → AreOperandsOf h.unit.statics g r) → Fits h f g values (put shadows x s) rest e held
+      → ((r : Recipe) → n ≡ Is r → AreOperandsOf h.unit.statics g r) → Fits h f g values (with_value_at shadows x s) rest e held
   noted_by values shadows x n s rest e held fits says whole operands = record {
     of = of;
     history = record { block = fits.block; left = length rest; instruction = Note x n; wrote = Odd } ∷ fits.history;
@@ -80,11 +80,11 @@ module _ (h : HomedForm) (valid : IsValid h.unit) (homed : HaveHomes h) (f : ℕ
       at_noted y r true q = operands r (same_Some n (Is r) q)
       at_noted y r false q = fits.noted y r q
 
-  pub fits_gone : (values : ℕ → Value) (shadows : ℕ → Shadow) (x change : ℕ) (rest : List Instruction) (e : End) (held : ℕ → Value) → Fits h f g values shadows (Note x (Gone change) ∷ rest) e held → Fits h f g values (put shadows x shadow.Gone) rest e held
+  pub fits_gone : (values : ℕ → Value) (shadows : ℕ → Shadow) (x change : ℕ) (rest : List Instruction) (e : End) (held : ℕ → Value) → Fits h f g values shadows (Note x (Gone change) ∷ rest) e held → Fits h f g values (with_value_at shadows x shadow.Gone) rest e held
   fits_gone values shadows x change rest e held fits = noted_by values shadows x (Gone change) shadow.Gone rest e held fits (λ y before. refl) (λ v q. cc) (λ r q. cc)
 
   pub fits_noted : (values : ℕ → Value) (shadows : ℕ → Shadow) (x : ℕ) (r : Recipe) (rest : List Instruction) (e : End) (held : ℕ → Value) → is_odd (recipe_value h.unit.statics values r) ≡ false → AreOperandsOf h.unit.statics g r
-      → Fits h f g values shadows (Note x (Is r) ∷ rest) e held → Fits h f g values (put shadows x (shadow.Known (recipe_value h.unit.statics values r))) rest e held
+      → Fits h f g values shadows (Note x (Is r) ∷ rest) e held → Fits h f g values (with_value_at shadows x (shadow.Known (recipe_value h.unit.statics values r))) rest e held
   fits_noted values shadows x r rest e held whole operands fits =
       noted_by values shadows x (Is r) (shadow.Known (recipe_value h.unit.statics values r)) rest e held fits
       (λ y before. ap (λ v. if x == y then shadow.Known v else before) (recipe_same h.unit.statics r (values_behind (first_names g fits.arguments) fits.history) values (λ z among. fits.values_are z)))

@@ -6,26 +6,26 @@ use Rattle.std.proofs.lemmas.Option.{same_Some, none-some}
 use Rattle.graph_core.specs.Graphs.{Name, Constant, StaticAddress, Instruction, Marker, Note, Move, Operate, Truncate, Same, Address, Load, Store, Zero, CopyWords, Call, Block}
 use Rattle.graph_core.specs.Points.{is_place}
 use Rattle.graph_core.specs.Validity.{place_behind}
-use Rattle.graph_homes.specs.Reused.{first_among, first_copy, or_else}
+use Rattle.graph_homes.specs.Reused.{first_among, first_copy, one_or_other}
 use Rattle.home_assign.specs.declared.copies.Copies.{Copies}
 use Rattle.home_assign.specs.Copies.{AreCopies, AreSoFar, IsOwn, copy_at}
 use Rattle.home_assign.specs.Pairs.{has}
 use Rattle.base_laws.proofs.Lists.{rest_is}
 
-pub or_else_twice : {A : Type 0} (a b c : Option A) → or_else (or_else a b) c ≡ or_else a (or_else b c)
+pub or_else_twice : {A : Type 0} (a b c : Option A) → one_or_other (one_or_other a b) c ≡ one_or_other a (one_or_other b c)
 or_else_twice None b c = refl
 or_else_twice (Some x) b c = refl
 
-some_or_else : {A : Type 0} (a b : Option A) → is_some (or_else a b) ≡ (is_some a || is_some b)
+some_or_else : {A : Type 0} (a b : Option A) → is_some (one_or_other a b) ≡ (is_some a || is_some b)
 some_or_else None b = refl
 some_or_else (Some x) b = refl
 
-choose_or_else : (b : Bool) (m : ℕ) (o : Option ℕ) → (if b then Some m else o) ≡ or_else (if b then Some m else None) o
+choose_or_else : (b : Bool) (m : ℕ) (o : Option ℕ) → (if b then Some m else o) ≡ one_or_other (if b then Some m else None) o
 choose_or_else true m o = refl
 choose_or_else false m o = refl
 
 -- the first copy among instructions, by the first of them and the others
-pub first_split : (p x : ℕ) (place : Option ℕ) (i : Instruction) (more : List Instruction) → first_among p x place (i ∷ more) ≡ or_else (first_among p x place (i ∷ [])) (first_among p x (place_behind (i ∷ []) place) more)
+pub first_split : (p x : ℕ) (place : Option ℕ) (i : Instruction) (more : List Instruction) → first_among p x place (i ∷ more) ≡ one_or_other (first_among p x place (i ∷ [])) (first_among p x (place_behind (i ∷ []) place) more)
 first_split p x place (Marker q) more = refl
 first_split p x place (Note y v) more = refl
 first_split p x place (Move y (Name m)) more = choose_or_else (is_place p place && y == x) m (first_among p x place more)
@@ -44,12 +44,12 @@ first_split p x place (Call y f all) more = refl
 module _ (moved : ℕ → ℕ → Bool) (scalars : ℕ) where
   -- the rest in other words
   pub so_far_same : (rest other whole : ℕ → ℕ → Option ℕ) (c : Copies) → ((p x : ℕ) → rest p x ≡ other p x) → AreSoFar moved scalars rest whole c → AreSoFar moved scalars other whole c
-  so_far_same rest other whole c same so = record { first = so.first; are = so.are; all = λ p x. ap (or_else (so.first p x)) (sym (same p x)) ∙ so.all p x }
+  so_far_same rest other whole c same so = record { first = so.first; are = so.are; all = λ p x. ap (one_or_other (so.first p x)) (sym (same p x)) ∙ so.all p x }
 
   module _ (place to from : ℕ) (old new : Copies) (rest whole : ℕ → ℕ → Option ℕ)
-      (so : AreSoFar moved scalars (λ p x. or_else (copy_at place to from p x) (rest p x)) whole old) (met : (p x : ℕ) → has new.seen p x ≡ (has old.seen p x || ((place == p) && (to == x)))) where
+      (so : AreSoFar moved scalars (λ p x. one_or_other (copy_at place to from p x) (rest p x)) whole old) (met : (p x : ℕ) → has new.seen p x ≡ (has old.seen p x || ((place == p) && (to == x)))) where
     abbrev joint : ℕ → ℕ → Option ℕ
-    joint p x = or_else (so.first p x) (copy_at place to from p x)
+    joint p x = one_or_other (so.first p x) (copy_at place to from p x)
 
     copy_seen : (b : Bool) → is_some (if b then Some from else None) ≡ b
     copy_seen true = refl
@@ -65,7 +65,7 @@ module _ (moved : ℕ → ℕ → Bool) (scalars : ℕ) where
     abbrev Here : (p x y : ℕ) → Type 0
     Here p x y = (so.first p x ≡ None) × (place ≡ p) × (to ≡ x) × (from ≡ y)
 
-    here_or : (o : Option ℕ) (p x y : ℕ) → o ≡ so.first p x → or_else o (copy_at place to from p x) ≡ Some y → (so.first p x ≡ Some y) ⊎ Here p x y
+    here_or : (o : Option ℕ) (p x y : ℕ) → o ≡ so.first p x → one_or_other o (copy_at place to from p x) ≡ Some y → (so.first p x ≡ Some y) ⊎ Here p x y
     here_or (Some z) p x y is e = inl (sym is ∙ e)
     here_or None p x y is e =
         let both = copied ((place == p) && (to == x)) y e in
@@ -76,9 +76,9 @@ module _ (moved : ℕ → ℕ → Bool) (scalars : ℕ) where
     joint_cases p x y e = here_or (so.first p x) p x y refl e
 
     joint_still : (p x y : ℕ) → so.first p x ≡ Some y → joint p x ≡ Some y
-    joint_still p x y e = ap (λ o. or_else o (copy_at place to from p x)) e
+    joint_still p x y e = ap (λ o. one_or_other o (copy_at place to from p x)) e
 
-    joint_all : (p x : ℕ) → or_else (joint p x) (rest p x) ≡ whole p x
+    joint_all : (p x : ℕ) → one_or_other (joint p x) (rest p x) ≡ whole p x
     joint_all p x = or_else_twice (so.first p x) (copy_at place to from p x) (rest p x) ∙ so.all p x
 
     own_still : (x y : ℕ) → IsOwn moved scalars so.first x y → IsOwn moved scalars joint x y
@@ -114,7 +114,7 @@ module _ (moved : ℕ → ℕ → Bool) (scalars : ℕ) where
 
         first_here : joint place to ≡ Some from
         first_here =
-            ap (λ o. or_else o (copy_at place to from place to)) (is_none (so.first place to) (sym (so.are.seen place to) ∙ unseen))
+            ap (λ o. one_or_other o (copy_at place to from place to)) (is_none (so.first place to) (sym (so.are.seen place to) ∙ unseen))
             ∙ cond-true ((place == place) && (to == to)) (Some from) None (and_from (place == place) (to == to) (eq-eqb place place refl) (eq-eqb to to refl))
 
     -- it is not
@@ -145,10 +145,10 @@ so_far_none moved scalars whole c unseen none = record {
 -- ---- Instruction by instruction, and block by block
 
 pub among_next : {A : Type 0} (view : A → Instruction) (left : List A) (i d : A) → 1 ≤ length left → i ≡ get_or left 0 d → (place : Option ℕ) (p x : ℕ)
-    → first_among p x place (map view left) ≡ or_else (first_among p x place (view i ∷ [])) (first_among p x (place_behind (view i ∷ []) place) (map view (take (length left - 1) (drop 1 left))))
+    → first_among p x place (map view left) ≡ one_or_other (first_among p x place (view i ∷ [])) (first_among p x (place_behind (view i ∷ []) place) (map view (take (length left - 1) (drop 1 left))))
 among_next view [] i d le e place p x = absurd (omega arith)
 among_next {A = A} view (j ∷ left) i d le e place p x =
-    let P : A → List A → Type 0 = λ k more. first_among p x place (view j ∷ map view left) ≡ or_else (first_among p x place (view k ∷ [])) (first_among p x (place_behind (view k ∷ []) place) (map view more)) in
+    let P : A → List A → Type 0 = λ k more. first_among p x place (view j ∷ map view left) ≡ one_or_other (first_among p x place (view k ∷ [])) (first_among p x (place_behind (view k ∷ []) place) (map view more)) in
     subst (λ more. P i more) (sym (rest_is j left)) (subst (λ k. P k left) (sym e) (first_split p x place (view j) (map view left)))
 
 pub among_none : {A : Type 0} (view : A → Instruction) (left : List A) → length left < 1 → (place : Option ℕ) (p x : ℕ) → first_among p x place (map view left) ≡ None

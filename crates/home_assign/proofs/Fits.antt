@@ -19,7 +19,7 @@ use Rattle.graph_core.specs.Points.{Behind}
 use Rattle.graph_core.specs.Validity.{AreOperandsOf, IsInstruction, IsBlock, IsGraph, IsBinding, IsValid}
 use Rattle.graph_core.specs.Values.{is_odd}
 use Rattle.graph_core.specs.Histories.{name_by, values_behind, shadow_of}
-use Rattle.graph_core.specs.Runs.{put, recipe_value, bind_names}
+use Rattle.graph_core.specs.Runs.{with_value_at, recipe_value, bind_names}
 use Rattle.graph_homes.specs.Homed.{HomedForm, HaveHomes, IsHomeAmong, home_of, home_number, placed, placed_binding}
 use Rattle.graph_solve_live.specs.Live.{IsReadFirst, passed}
 use Rattle.home_assign.specs.Clashes.{IsNoCopyOf, written}
@@ -145,7 +145,7 @@ module _ (h : HomedForm) (valid : IsValid h.unit) (homed : HaveHomes h) (f : ℕ
 
   -- A name was written: another name whose value it takes may have its home, and so may one that is not read from there on before it is written.
   pub fits_written : HaveHomesApart h → (values : ℕ → Value) (shadows : ℕ → Shadow) (i : Instruction) (rest : List Instruction) (e : End) (held : ℕ → Value) (x : ℕ) (v : Value) → target_of i ≡ Some x → ((y : ℕ) → (v ≡ values y) ⊎ IsNoCopyOf x y i)
-      → Fits h f g values shadows (i ∷ rest) e held → Fits h f g (put values x v) shadows rest e (put held (placed (home_of h f) x) v)
+      → Fits h f g values shadows (i ∷ rest) e held → Fits h f g (with_value_at values x v) shadows rest e (with_value_at held (placed (home_of h f) x) v)
   fits_written apart values shadows i rest e held x v target copies fits = record {
     of = of;
     history = record { block = fits.block; left = length rest; instruction = i; wrote = v } ∷ fits.history;
@@ -205,7 +205,7 @@ module _ (h : HomedForm) (valid : IsValid h.unit) (homed : HaveHomes h) (f : ℕ
             | inr unlike ↦ absurd (true≢false (sym q ∙ same_turned (home y) (home x) ∙ clash y lt (λ r. ne (sym r)) live unlike))
           ]
 
-      kept : (y : ℕ) → y < g.name_count → IsAlone h f g y ⊎ IsReadFirst g y rest e → held_in h f (put held (placed home x) v) y ≡ put values x v y
+      kept : (y : ℕ) → y < g.name_count → IsAlone h f g y ⊎ IsReadFirst g y rest e → held_in h f (with_value_at held (placed home x) v) y ≡ with_value_at values x v y
       kept y lt kind = elim (eqb_tells y x) [
         | inl t ↦ ap (λ b. if b then v else held_in h f held y) (eq-eqb (placed home y) (placed home x) (ap (placed home) t.1)) ∙ sym (ap (λ b. if b then v else values y) t.0)
         | inr t ↦ elim kind [

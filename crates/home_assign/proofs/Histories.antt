@@ -12,7 +12,7 @@ use Rattle.graph_core.specs.Graphs.{Recipe, NoteValue, Is, Gone, Instruction, Ma
 use Rattle.graph_core.specs.Uses.{target_of, names_in}
 use Rattle.graph_core.specs.Paths.{History, Among, front, behind, notes, note_by, last_note}
 use Rattle.graph_core.specs.Histories.{name_by, values_behind, shadow_by, shadow_of}
-use Rattle.graph_core.specs.Runs.{put, recipe_value, bind_names}
+use Rattle.graph_core.specs.Runs.{with_value_at, recipe_value, bind_names}
 use Rattle.graph_homes.specs.Homed.{placed, placed_binding, home_number, IsHomeAmong}
 use Rattle.home_assign.proofs.HomeRunsNumbers.{same_number, same_self, same_turned}
 use Rattle.home_assign.proofs.Values.{recipe_same}
@@ -158,10 +158,10 @@ HoldsLast home k held values y = (is_same_home (home y) k ≡ true) × (held ≡
 module _ (home : ℕ → Home) (k : Home) where
   -- behind one more write
   holds_written : (z : ℕ) (v held : Value) (values : ℕ → Value) (before : Option ℕ) (y : ℕ) → (if is_same_home (home z) k then Some z else before) ≡ Some y → (before ≡ Some y → HoldsLast home k held values y)
-      → HoldsLast home k (if is_same_home k (home z) then v else held) (put values z v) y
+      → HoldsLast home k (if is_same_home k (home z) then v else held) (with_value_at values z v) y
   holds_written z v held values before y e earlier = by_test (is_same_home (home z) k) refl e
     where
-      by_test : (b : Bool) → is_same_home (home z) k ≡ b → (if b then Some z else before) ≡ Some y → HoldsLast home k (if is_same_home k (home z) then v else held) (put values z v) y
+      by_test : (b : Bool) → is_same_home (home z) k ≡ b → (if b then Some z else before) ≡ Some y → HoldsLast home k (if is_same_home k (home z) then v else held) (with_value_at values z v) y
       by_test true is q =
           let one : z ≡ y = same_Some z y q in (
             ap (λ n. is_same_home (home n) k) (sym one) ∙ is,
@@ -191,7 +191,7 @@ module _ (home : ℕ → Home) (k : Home) where
   bound_value count is (b ∷ ps) are [] long names held before earlier y e = absurd (omega (arith, long))
   bound_value count is (ToObject object ∷ ps) are (v ∷ vs) long names held before earlier y e = bound_value count is ps (λ x among. are x (behind among)) vs (omega (arith, long)) names held before earlier y e
   bound_value count is (ToScalar x ∷ ps) are (v ∷ vs) long names held before earlier y e =
-      bound_value count is ps (λ z among. are z (behind among)) vs (omega (arith, long)) (put names x v) (put held (placed home x) v) (if is_same_home (home x) k then Some x else before)
+      bound_value count is ps (λ z among. are z (behind among)) vs (omega (arith, long)) (with_value_at names x v) (with_value_at held (placed home x) v) (if is_same_home (home x) k then Some x else before)
       (λ z q.
       let one = holds_written x v (held (home_number k)) names before z q (earlier z) in
       (one.0, ap (λ b. if b then v else held (home_number k)) (same_number count k (home x) is (are x front)) ∙ one.1))

@@ -19,8 +19,8 @@ use Rattle.graph_core.specs.Uses.{names_of, names_of_location, reads_of, reads_o
 use Rattle.graph_core.specs.Paths.{Among, front, behind}
 use Rattle.graph_core.specs.Validity.{IsValid, IsInstruction, AreOperandsOfEnd, HasParameters}
 use Rattle.graph_core.specs.Values.{operate, truncate, same, holds, is_odd}
-use Rattle.graph_core.specs.Memory.{Memory, is_live, address_of, ended_from, read, write, zeroed, copied}
-use Rattle.graph_core.specs.Runs.{Activation, Configuration, TooDeep, Stop, Stepped, Goes, Shows, Ends, Wild, frame, put, value, recipe_value, pointed, take_wanted, entered, wrote, wrote_some, with_memory, unless_odd, at_place, entered, go_to, branched, exited, returned, leave, put_out, got, goes_if, first_of, bind_names, bind_objects, with_objects, new_activation, begun, enter, call_function, call, execute, execute_end, step_from, step}
+use Rattle.graph_core.specs.Memory.{Memory, is_live, pointer_to_object, ended_from, read, write, zeroed, copied}
+use Rattle.graph_core.specs.Runs.{Activation, Configuration, TooDeep, Stop, Stepped, Goes, Shows, Ends, Wild, frame, with_value_at, value, recipe_value, pointed, take_wanted, entered, wrote, wrote_some, with_memory, unless_odd, at_place, entered, go_to, branched, exited, returned, leave, put_out, got, goes_if, first_argument, bind_names, bind_objects, with_objects, new_activation, begun, enter, call_function, call, execute, execute_end, step_from, step}
 use Rattle.graph_homes.specs.Homed.{HomedForm, HaveHomes, home_of, placed, placed_operand, placed_location, placed_instruction, placed_end, placed_block, placed_binding, placed_graph, over_homes}
 use Rattle.graph_solve_live.specs.Live.{read as is_read, read_at_end}
 use Rattle.home_assign.specs.Clashes.{IsNoCopyOf}
@@ -52,7 +52,7 @@ module _ (h : HomedForm) (valid : IsValid h.unit) (homed : HaveHomes h) (apart :
     waits = waits;
   }
   goes_on memory input a held shadows gone (Some x) f all v fits xs ys waits = record {
-    held = put held (placed (home_of h a.function) x) v;
+    held = with_value_at held (placed (home_of h a.function) x) v;
     shadows = shadows;
     waiting = ys;
     is = refl;
@@ -153,7 +153,7 @@ module _ (h : HomedForm) (valid : IsValid h.unit) (homed : HaveHomes h) (apart :
     -- A name is written.
     writes_same : (i : Instruction) (x : ℕ) (v w : Value) → target_of i ≡ Some x → ((y : ℕ) → (v ≡ c.here.names y) ⊎ IsNoCopyOf x y i) → w ≡ v → FitsAt (i ∷ c.here.rest) → DoesSame h (wrote c x v) (wrote d (placed home x) w)
     writes_same i x v w target copies e fits = subst (λ z. DoesSame h (wrote c x v) (wrote d (placed home x) z)) (sym e) (record {
-      held = put held (placed home x) v;
+      held = with_value_at held (placed home x) v;
       shadows = shadows;
       waiting = waiting;
       is = refl;
@@ -250,8 +250,8 @@ module _ (h : HomedForm) (valid : IsValid h.unit) (homed : HaveHomes h) (apart :
         by_callee : (k : Callee) → FitsAt (Call x k all ∷ c.here.rest) → DoesSame h (call h.unit c x k vs) (call (over_homes h) d (option_map (placed home) x) k vs)
         by_callee (callee.Function n) here = function_same x n all vs (subst (HasParameters (slice_get h.unit.graphs n)) (sym (length_mapped (value h.unit.statics c.here.names) all)) (valid_here (Call x (callee.Function n) all) here).2) here
         by_callee callee.Getchar here = got_same x all c.input here
-        by_callee callee.Putchar here = put_same x all (first_of vs) here
-        by_callee callee.Exit here = exited_same (first_of vs)
+        by_callee callee.Putchar here = put_same x all (first_argument vs) here
+        by_callee callee.Exit here = exited_same (first_argument vs)
 
     -- ---- Markers and notes
 
@@ -283,7 +283,7 @@ module _ (h : HomedForm) (valid : IsValid h.unit) (homed : HaveHomes h) (apart :
               (λ x r on_all. shown h valid homed c.here.function c.here.graph fits.of c.here.names c.here.shadows p c.here.rest c.here.end held fits x r on_all),
         )
 
-    gone_again : (x y : ℕ) → put shadows x shadow.Gone y ≡ shadow.Gone
+    gone_again : (x y : ℕ) → with_value_at shadows x shadow.Gone y ≡ shadow.Gone
     gone_again x y = by_test (y == x)
       where
         by_test : (b : Bool) → (if b then shadow.Gone else shadows y) ≡ shadow.Gone
@@ -293,7 +293,7 @@ module _ (h : HomedForm) (valid : IsValid h.unit) (homed : HaveHomes h) (apart :
     gone_same : (x change : ℕ) → FitsAt (Note x (Gone change) ∷ c.here.rest) → DoesSame h (execute h.unit (Note x (Gone change)) c) (execute (over_homes h) (Note x (Gone 0)) d)
     gone_same x change fits = record {
       held = held;
-      shadows = put shadows x shadow.Gone;
+      shadows = with_value_at shadows x shadow.Gone;
       waiting = waiting;
       is = refl;
       gone = gone_again x;
@@ -305,7 +305,7 @@ module _ (h : HomedForm) (valid : IsValid h.unit) (homed : HaveHomes h) (apart :
     noted_same : (x : ℕ) (r : Recipe) → is_odd (recipe_value h.unit.statics c.here.names r) ≡ false → FitsAt (Note x (Is r) ∷ c.here.rest) → DoesSame h (execute h.unit (Note x (Is r)) c) (execute (over_homes h) (Note x (Gone 0)) d)
     noted_same x r whole fits = subst (λ b. DoesSame h (if b then Wild else Goes after) (execute (over_homes h) (Note x (Gone 0)) d)) (sym whole) (record {
       held = held;
-      shadows = put shadows x shadow.Gone;
+      shadows = with_value_at shadows x shadow.Gone;
       waiting = waiting;
       is = refl;
       gone = gone_again x;
@@ -314,7 +314,7 @@ module _ (h : HomedForm) (valid : IsValid h.unit) (homed : HaveHomes h) (apart :
     })
       where
         after : Configuration
-        after = record c { here = record c.here { shadows = put c.here.shadows x (shadow.Known (recipe_value h.unit.statics c.here.names r)) } }
+        after = record c { here = record c.here { shadows = with_value_at c.here.shadows x (shadow.Known (recipe_value h.unit.statics c.here.names r)) } }
 
     -- An instruction says what is not known.
     abbrev IsOdd : Instruction → Type 0
@@ -343,7 +343,7 @@ module _ (h : HomedForm) (valid : IsValid h.unit) (homed : HaveHomes h) (apart :
         ∙ ap (same (is_live c.memory) (value h.unit.statics c.here.names a)) (value_placed h.unit.statics home c.here.names held b (λ z among. reading (Same x a b) fits z (among_right z (names_of a) (names_of b) among))))
         fits
         )
-    execute_same (Address x object) fits = inl (writes_same (Address x object) x (address_of c.memory (c.here.first_object + object)) (address_of c.memory (c.here.first_object + object)) refl (λ y. inr (λ q. cc)) refl fits)
+    execute_same (Address x object) fits = inl (writes_same (Address x object) x (pointer_to_object c.memory (c.here.first_object + object)) (pointer_to_object c.memory (c.here.first_object + object)) refl (λ y. inr (λ q. cc)) refl fits)
     execute_same (Load x e l) fits = inl (load_same x e l fits)
     execute_same (Store e l a) fits = inl (store_same e l a fits)
     execute_same (Zero object words) fits = inl (memory_same (Zero object words) (zeroed c.memory (c.here.first_object + object) words) refl tt fits)

@@ -3,7 +3,7 @@ use Rattle.std.proofs.Common.{◌≡◌, ℕ, zero, suc, ◌⊎◌, inl, inr, re
 use Rattle.event_runs.specs.Agreement.{Pairs}
 use Rattle.graph_core.specs.declared.value.Shadow.TheVariants as shadow
 use Rattle.graph_core.specs.Memory.{first_memory}
-use Rattle.graph_core.specs.Runs.{Configuration, Stepped, Goes, Shows, Ends, Wild, put, recipe_value, enter, step_from, step}
+use Rattle.graph_core.specs.Runs.{Configuration, Stepped, Goes, Shows, Ends, Wild, with_value_at, recipe_value, enter, step_from, step}
 use Rattle.graph_core.specs.Validity.{IsValid}
 use Rattle.graph_homes.specs.Homed.{HomedForm, HaveHomes, over_homes}
 use Rattle.graph_homes.specs.Seen.{Over, seen_after, seen, seen_some, seen_run}
@@ -45,7 +45,7 @@ module _ (h : HomedForm) (valid : IsValid h.unit) (homed : HaveHomes h) (apart :
   odd_is_wild : (c : Configuration) → IsOddNote h.unit c → step h.unit c ≡ Wild
   odd_is_wild c o =
       ap (λ rest. step_from h.unit rest c) o.next
-      ∙ ap (λ b. cond b Wild (Goes (record c { here = record c.here { rest = o.rest; shadows = put c.here.shadows o.x (shadow.Known (recipe_value h.unit.statics c.here.names o.recipe)) } }))) o.odd
+      ∙ ap (λ b. cond b Wild (Goes (record c { here = record c.here { rest = o.rest; shadows = with_value_at c.here.shadows o.x (shadow.Known (recipe_value h.unit.statics c.here.names o.recipe)) } }))) o.odd
 
   pub all_same : (n : ℕ) (c d : Configuration) → Related h c d → Goal n c d
   all_same zero c d r = inl tt

@@ -30,7 +30,8 @@ module _ (h : HomedForm) where
   abbrev pub held_in : (function : ℕ) → (held : ℕ → Value) → (x : ℕ) → Value
   held_in f held x = held (home_number (home_of h f x))
 
-  -- The activation over homes of an activation, in the same block, where its homes hold these values and it has these shadows.
+  -- The activation over homes of an activation, in the same block, where its homes hold these values and it has these
+  -- shadows.
   abbrev pub placed_activation : Activation → (held : ℕ → Value) → (shadows : ℕ → Shadow) → Activation
   placed_activation a held shadows = record {
     function = a.function;
@@ -53,14 +54,19 @@ module _ (h : HomedForm) where
     pub placed : b ≡ placed_activation a held shadows
     pub gone : (x : ℕ) → shadows x ≡ shadow.Gone
 
-  -- The home of a name holds the name's value, if no other name has that home, or if the name is read from here on before it is written.
+  -- The home of a name holds the name's value, if no other name has that home, or if the name is read from here on
+  -- before it is written.
   abbrev pub HoldsNames : (a b : Activation) → Type 0
-  HoldsNames a b = (x : ℕ) → x < a.graph.name_count → IsAlone a.function a.graph x ⊎ IsReadFirst a.graph x a.rest a.end → held_in a.function b.names x ≡ a.names x
+  HoldsNames a b =
+      (x : ℕ) → x < a.graph.name_count → IsAlone a.function a.graph x ⊎ IsReadFirst a.graph x a.rest a.end
+      → held_in a.function b.names x ≡ a.names x
 
   -- The same of an activation that waits for a call, but for the name that the call's value goes to.
   abbrev pub HoldsOthers : (a b : Activation) → Type 0
   HoldsOthers a b =
-      (x : ℕ) → x < a.graph.name_count → IsAlone a.function a.graph x ⊎ (IsReadFirst a.graph x a.rest a.end × (a.wants ≢ Some x)) → held_in a.function b.names x ≡ a.names x
+      (x : ℕ) → x < a.graph.name_count
+      → IsAlone a.function a.graph x ⊎ (IsReadFirst a.graph x a.rest a.end × (a.wants ≢ Some x))
+      → held_in a.function b.names x ≡ a.names x
 
   -- The two activations that go on, and two that wait.
   abbrev pub IsSameHere : (a b : Activation) → Type 0
@@ -80,15 +86,20 @@ module _ (h : HomedForm) where
   abbrev pub shown_value : (function : ℕ) → (held : ℕ → Value) → Recipe → Value
   shown_value f held r = recipe_value h.unit.statics (held_in f held) r
 
-  -- The place where the activation begins: where a recipe gives a scalar's value on all paths to it, the scalar's shadow is known, and it is the value of that recipe over homes.
+  -- The place where the activation begins: where a recipe gives a scalar's value on all paths to it, the scalar's
+  -- shadow is known, and it is the value of that recipe over homes.
   abbrev pub AreShown : (a b : Activation) → Type 0
   AreShown a b =
-      (x : ℕ) (r : Recipe) → HoldsOnAllPaths (home_of h a.function) a.graph a.place x r → (a.shadows x ≡ shadow.Known (shown_value a.function b.names r)) × (is_odd (shown_value a.function b.names r) ≡ false)
+      (x : ℕ) (r : Recipe) → HoldsOnAllPaths (home_of h a.function) a.graph a.place x r
+      → (a.shadows x ≡ shadow.Known (shown_value a.function b.names r))
+      × (is_odd (shown_value a.function b.names r) ≡ false)
 
   -- What is seen of the unit, and the same of the unit over homes.
   pub data SameSeen : Seen → Seen → Type 0 where
     byte : {b : ℕ} {c d : Configuration} → AreSame c d → SameSeen (Going (Put b) c) (Going (Put b) d)
-    stop : {frames others : List Frame} {memory : Memory} {c d : Configuration} → frames ≡ frame c.here ∷ map frame c.waiting → memory ≡ c.memory → Pairs IsSameFrame frames others → AreSame c d → AreShown c.here d.here
+    stop : {frames others : List Frame} {memory : Memory} {c d : Configuration}
+        → frames ≡ frame c.here ∷ map frame c.waiting → memory ≡ c.memory → Pairs IsSameFrame frames others
+        → AreSame c d → AreShown c.here d.here
         → SameSeen (Going (Stop frames memory) c) (Going (Stop others memory) d)
     over : {e : Event} → SameSeen (Over e) (Over e)
 
@@ -109,7 +120,9 @@ pub record HoldAll (h : HomedForm) (c d : Configuration) : Type 0 where
   pub here : HoldsAll h c.here d.here
   pub waiting : Pairs (HoldsAll h) c.waiting d.waiting
 
--- Where a recipe gives a scalar's value on all paths to the place where an activation is, its frame shows the value of that recipe over homes.
+-- Where a recipe gives a scalar's value on all paths to the place where an activation is, its frame shows the value of
+-- that recipe over homes.
 abbrev pub ShowsRecipes : (h : HomedForm) → (a b : Activation) → Type 0
 ShowsRecipes h a b =
-    (x : ℕ) (r : Recipe) → x < length a.graph.scalars → HoldsOnAllPaths (home_of h a.function) a.graph a.place x r → slice_get (frame a).shadows x ≡ Some (shadow.Known (shown_value h a.function b.names r))
+    (x : ℕ) (r : Recipe) → x < length a.graph.scalars → HoldsOnAllPaths (home_of h a.function) a.graph a.place x r
+    → slice_get (frame a).shadows x ≡ Some (shadow.Known (shown_value h a.function b.names r))

@@ -19,8 +19,10 @@ pub record Sharing : Type 0 where
 abbrev pub IsBefore : Sharing → Sharing → Type 0
 IsBefore a b = (a.function < b.function) ⊎ ((a.function ≡ b.function) × (a.number < b.number))
 
--- Another name of the scalar's function has the scalar's register too, a scalar or a temporary, but for the temporaries of the computations that changes of the log moved away from the scalar's assignments.
-pub record IsSharing (log : List Logged) (graphs : List Graph) (home : (function name : ℕ) → Home) (s : Sharing) : Type 0 where
+-- Another name of the scalar's function has the scalar's register too, a scalar or a temporary, but for the temporaries
+-- of the computations that changes of the log moved away from the scalar's assignments.
+pub record IsSharing (log : List Logged) (graphs : List Graph) (home : (function name : ℕ) → Home) (s : Sharing)
+    : Type 0 where
   pub graph : Graph
   pub is : slice_get graphs s.function ≡ Some graph
   pub of : slice_get graph.scalars s.number ≡ Some s.scalar
@@ -30,8 +32,9 @@ pub record IsSharing (log : List Logged) (graphs : List Graph) (home : (function
 abbrev pub homes_pass : PassName
 homes_pass = pass_name (codes "homes")
 
--- THE CHANGES: the log goes on with one for each scalar that shares its register, by function and then by scalar, of its variable and at its place, which is that of its declarator, or of the
--- entry if it is a parameter; and with no other.
+-- THE CHANGES: the log goes on with one for each scalar that shares its register, by function and then by scalar, of
+-- its variable and at its place, which is that of its declarator, or of the entry if it is a parameter; and with no
+-- other.
 pub record HaveChanges (u : UnitForm) (h : HomedForm) : Type 0 where
   pub sharings : List Sharing
   pub in_order : AllPairs IsBefore sharings

@@ -19,12 +19,14 @@ IsWished homes joined k = (y : ℕ) × (joined ≡ Some y) × HasRegister homes 
 
 -- Each register is had by just the names whose home it is.
 abbrev pub HaveHomeRegisters : Interference → List Home → Type 0
-HaveHomeRegisters all homes = (k r y : ℕ) → slice_get home_registers k ≡ Some r → (has all k y ≡ true) ↔ (slice_get homes y ≡ Some (Register r))
+HaveHomeRegisters all homes =
+    (k r y : ℕ) → slice_get home_registers k ≡ Some r → (has all k y ≡ true) ↔ (slice_get homes y ≡ Some (Register r))
 
 -- Which register is chosen: the one that is wished if it is free, else the first that is free, else none.
 pub data IsChosen (Wished Free : ℕ → Type 0) : Option ℕ → Type 0 where
   wished : {k : ℕ} → Wished k → Free k → IsChosen Wished Free (Some k)
-  first : {k : ℕ} → ((j : ℕ) → Wished j → Free j → ⊥) → Free k → ((j : ℕ) → j < k → Free j → ⊥) → IsChosen Wished Free (Some k)
+  first : {k : ℕ} → ((j : ℕ) → Wished j → Free j → ⊥) → Free k → ((j : ℕ) → j < k → Free j → ⊥)
+      → IsChosen Wished Free (Some k)
   none : ((j : ℕ) → Wished j → Free j → ⊥) → ((j : ℕ) → j < 15 → Free j → ⊥) → IsChosen Wished Free None
 
 -- The homes have one more, which the rule gives the name.

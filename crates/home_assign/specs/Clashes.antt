@@ -17,10 +17,13 @@ pub record MayHaveHomes (g : Graph) : Type 0 where
 abbrev pub IsNoCopyOf : (x y : ℕ) → Instruction → Type 0
 IsNoCopyOf x y i = i ≢ Move x (Name y)
 
--- One name is written where another is live behind that: by an instruction that does not copy the other, or as a parameter at the entry, where all are bound at once.
+-- One name is written where another is live behind that: by an instruction that does not copy the other, or as a
+-- parameter at the entry, where all are bound at once.
 pub data Clashes (g : Graph) (x y : ℕ) : Type 0 where
-  written : {i : Instruction} {n : ℕ} {rest : List Instruction} {e : End} → Behind g i n rest e → writes x i ≡ true → IsNoCopyOf x y i → IsReadFirst g y rest e → Clashes g x y
-  bound : {b : Block} → is_bound x g.parameters ≡ true → slice_get g.blocks 0 ≡ Some b → IsReadFirst g y b.instructions b.end → Clashes g x y
+  written : {i : Instruction} {n : ℕ} {rest : List Instruction} {e : End} → Behind g i n rest e → writes x i ≡ true
+      → IsNoCopyOf x y i → IsReadFirst g y rest e → Clashes g x y
+  bound : {b : Block} → is_bound x g.parameters ≡ true → slice_get g.blocks 0 ≡ Some b
+      → IsReadFirst g y b.instructions b.end → Clashes g x y
 
 -- Two names interfere: one of them is written where the other is live.
 abbrev pub Interfere : Graph → (x y : ℕ) → Type 0
@@ -42,10 +45,12 @@ copied_of _ = None
 abbrev pub copies : ℕ → Instruction → Bool
 copies y i = option_map_or (λ z. z == y) (copied_of i) false
 
--- among these instructions of a block is one that writes the one name and does not copy the other, which is live behind it
+-- among these instructions of a block is one that writes the one name and does not copy the other, which is live behind
+-- it
 abbrev pub ClashesAmong : Graph → (x y : ℕ) → List Instruction → End → Type 0
 ClashesAmong g x y [] e = ⊥
-ClashesAmong g x y (i ∷ rest) e = ((writes x i ≡ true) × (copies y i ≡ false) × IsReadFirst g y rest e) ⊎ ClashesAmong g x y rest e
+ClashesAmong g x y (i ∷ rest) e =
+    ((writes x i ≡ true) × (copies y i ≡ false) × IsReadFirst g y rest e) ⊎ ClashesAmong g x y rest e
 
 -- in this block of a graph is such an instruction
 abbrev pub ClashesIn : Graph → (x y n : ℕ) → Type 0

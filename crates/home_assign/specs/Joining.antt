@@ -9,7 +9,9 @@ earliest (Some z) y = min z y
 
 -- of two names the later one is joined to the earlier one too
 abbrev pub with_join : List (Option ℕ) → (x y : ℕ) → List (Option ℕ)
-with_join first x y = if x == y then first else slice_set first (max x y) (Some (earliest (slice_index_or first (max x y) None) (min x y)))
+with_join first x y =
+    if x == y then first
+    else slice_set first (max x y) (Some (earliest (slice_index_or first (max x y) None) (min x y)))
 
 -- with what an instruction joins
 abbrev pub with_copy : Instruction → List (Option ℕ) → List (Option ℕ)

@@ -30,11 +30,14 @@ module _ (g : Graph) (earlier : List Home) (x : ℕ) where
   abbrev pub IsSharable : Type 0
   IsSharable = (y : ℕ) × (r : ℕ) × IsFirstJoined g x y × (slice_get earlier y ≡ Some (Register r)) × IsFree r
 
-  -- THE RULE, by the homes of the earlier names: the register of the earliest of them to which the name is joined, if that is free for it; else the first register that is; else a slot of its own.
+  -- THE RULE, by the homes of the earlier names: the register of the earliest of them to which the name is joined, if
+  -- that is free for it; else the first register that is; else a slot of its own.
   pub data IsHome : Home → Type 0 where
     joined : {y r : ℕ} → IsFirstJoined g x y → slice_get earlier y ≡ Some (Register r) → IsFree r → IsHome (Register r)
-    first : {k r : ℕ} → (IsSharable → ⊥) → slice_get home_registers k ≡ Some r → IsFree r → ((j q : ℕ) → j < k → slice_get home_registers j ≡ Some q → IsFree q → ⊥) → IsHome (Register r)
-    slot : (IsSharable → ⊥) → ((j q : ℕ) → slice_get home_registers j ≡ Some q → IsFree q → ⊥) → IsHome (Slot (slots_in earlier))
+    first : {k r : ℕ} → (IsSharable → ⊥) → slice_get home_registers k ≡ Some r → IsFree r
+        → ((j q : ℕ) → j < k → slice_get home_registers j ≡ Some q → IsFree q → ⊥) → IsHome (Register r)
+    slot : (IsSharable → ⊥) → ((j q : ℕ) → slice_get home_registers j ≡ Some q → IsFree q → ⊥)
+        → IsHome (Slot (slots_in earlier))
 
 -- The homes of a graph's names: in slots each has the slot of its number, in registers the one by the rule.
 abbrev pub AreHomes : Mode → Graph → List Home → Type 0
@@ -43,15 +46,19 @@ AreHomes Registers g homes = (x : ℕ) (k : Home) → slice_get homes x ≡ Some
 
 -- two names that interfere have different homes
 abbrev pub AreApart : Graph → (home : ℕ → Home) → Type 0
-AreApart g home = (x y : ℕ) → x < g.name_count → y < g.name_count → Interfere g x y → is_same_home (home x) (home y) ≡ false
+AreApart g home =
+    (x y : ℕ) → x < g.name_count → y < g.name_count → Interfere g x y → is_same_home (home x) (home y) ≡ false
 
 -- Each name of a unit has the slot of its number.
 abbrev pub HaveSlots : HomedForm → Type 0
-HaveSlots h = (f : ℕ) (g : Graph) → slice_get h.unit.graphs f ≡ Some g → (x : ℕ) → x < g.name_count → home_of h f x ≡ Slot x
+HaveSlots h =
+    (f : ℕ) (g : Graph) → slice_get h.unit.graphs f ≡ Some g → (x : ℕ) → x < g.name_count → home_of h f x ≡ Slot x
 
 -- Each name of a unit has the home that the rule gives it.
 abbrev pub HaveRegisters : HomedForm → Type 0
-HaveRegisters h = (f : ℕ) (g : Graph) → slice_get h.unit.graphs f ≡ Some g → (x : ℕ) → x < g.name_count → IsHome g (take x (homes_in h f)) x (home_of h f x)
+HaveRegisters h =
+    (f : ℕ) (g : Graph) → slice_get h.unit.graphs f ≡ Some g → (x : ℕ) → x < g.name_count
+    → IsHome g (take x (homes_in h f)) x (home_of h f x)
 
 -- In each function two names that interfere have different homes.
 abbrev pub HaveHomesApart : HomedForm → Type 0

@@ -19,7 +19,8 @@ module _ (u : UnitForm) where
   pub data ComesToOddNote : (steps : ℕ) → Configuration → Type 0 where
     here : {n : ℕ} {c : Configuration} → IsOddNote u c → ComesToOddNote (suc n) c
     goes : {n : ℕ} {c d : Configuration} → step u c ≡ Goes d → ComesToOddNote n d → ComesToOddNote (suc n) c
-    shows : {n : ℕ} {e : Event} {c d : Configuration} → step u c ≡ Shows e d → ComesToOddNote n d → ComesToOddNote (suc n) c
+    shows : {n : ℕ} {e : Event} {c d : Configuration} → step u c ≡ Shows e d → ComesToOddNote n d
+        → ComesToOddNote (suc n) c
 
   -- The same of a whole run on an input.
   pub record MeetsOddNote (input : List ℕ) (steps : ℕ) : Type 0 where
@@ -28,10 +29,15 @@ module _ (u : UnitForm) where
     pub comes : ComesToOddNote steps first
 
 module _ (h : HomedForm) where
-  -- On each input and for each number of steps all that is seen of the unit is seen over homes, one by one, in as many steps.
+  -- On each input and for each number of steps all that is seen of the unit is seen over homes, one by one, in as many
+  -- steps.
   abbrev pub LeadsOverHomes : Type 0
-  LeadsOverHomes = (input : List ℕ) (steps : ℕ) → Leads (SameSeen h) (seen_run h.unit input steps) (seen_run (over_homes h) input steps)
+  LeadsOverHomes =
+      (input : List ℕ) (steps : ℕ)
+      → Leads (SameSeen h) (seen_run h.unit input steps) (seen_run (over_homes h) input steps)
 
   -- And nothing more is, unless the unit has come to a note of what is not known.
   abbrev pub ShowsAsMuch : Type 0
-  ShowsAsMuch = (input : List ℕ) (steps : ℕ) → (MeetsOddNote h.unit input steps → ⊥) → Pairs (SameSeen h) (seen_run h.unit input steps) (seen_run (over_homes h) input steps)
+  ShowsAsMuch =
+      (input : List ℕ) (steps : ℕ) → (MeetsOddNote h.unit input steps → ⊥)
+      → Pairs (SameSeen h) (seen_run h.unit input steps) (seen_run (over_homes h) input steps)

@@ -32,11 +32,14 @@ abbrev pub change_of : PassName → Scalar → Logged
 change_of pass s = record { pass = pass; kind = Reused; place = s.place; variable = s.variable }
 
 module _ (made : List Logged) (home : ℕ → Home) (g : Graph) (pass : PassName) where
-  -- The changes of these scalars, the first of which has this number: for each in order one change if its register was given to another name too, and else none.
+  -- The changes of these scalars, the first of which has this number: for each in order one change if its register was
+  -- given to another name too, and else none.
   pub data AreShared : (x : ℕ) → List Scalar → List Logged → Type 0 where
     none : {x : ℕ} → AreShared x [] []
-    shared : {x : ℕ} {s : Scalar} {more : List Scalar} {all : List Logged} → IsReused made home g x s.variable → AreShared (x + 1) more all → AreShared x (s ∷ more) (change_of pass s ∷ all)
-    own : {x : ℕ} {s : Scalar} {more : List Scalar} {all : List Logged} → (IsReused made home g x s.variable → ⊥) → AreShared (x + 1) more all → AreShared x (s ∷ more) all
+    shared : {x : ℕ} {s : Scalar} {more : List Scalar} {all : List Logged} → IsReused made home g x s.variable
+        → AreShared (x + 1) more all → AreShared x (s ∷ more) (change_of pass s ∷ all)
+    own : {x : ℕ} {s : Scalar} {more : List Scalar} {all : List Logged} → (IsReused made home g x s.variable → ⊥)
+        → AreShared (x + 1) more all → AreShared x (s ∷ more) all
 
   -- The log goes on with the changes of these scalars, the first of which has the number 0.
   pub record AreLogged (scalars : List Scalar) (old new : List Logged) : Type 0 where

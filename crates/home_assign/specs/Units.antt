@@ -19,14 +19,16 @@ abbrev pub AreHomesOfEach : Mode → List Graph → List (List Home) → Type 0
 AreHomesOfEach mode [] [] = Unit {0}
 AreHomesOfEach mode [] (homes ∷ more) = ⊥
 AreHomesOfEach mode (g ∷ graphs) [] = ⊥
-AreHomesOfEach mode (g ∷ graphs) (homes ∷ more) = AreHomesFor g.name_count homes × AreHomes mode g homes × AreHomesOfEach mode graphs more
+AreHomesOfEach mode (g ∷ graphs) (homes ∷ more) =
+    AreHomesFor g.name_count homes × AreHomes mode g homes × AreHomesOfEach mode graphs more
 
 module _ (made : List Logged) (pass : PassName) where
   -- The changes of each function's scalars, function by function.
   pub data AreChangesOfEach : List Graph → List (List Home) → List Logged → Type 0 where
     no_more : AreChangesOfEach [] [] []
     of_first : {g : Graph} {graphs : List Graph} {homes : List Home} {more : List (List Home)} {own rest : List Logged}
-        → AreShared made (home_in homes) g pass 0 g.scalars own → AreChangesOfEach graphs more rest → AreChangesOfEach (g ∷ graphs) (homes ∷ more) (own ++ rest)
+        → AreShared made (home_in homes) g pass 0 g.scalars own → AreChangesOfEach graphs more rest
+        → AreChangesOfEach (g ∷ graphs) (homes ∷ more) (own ++ rest)
 
   -- The log goes on with them.
   pub record AreLoggedOfEach (graphs : List Graph) (homes : List (List Home)) (old new : List Logged) : Type 0 where

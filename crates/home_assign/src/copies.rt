@@ -4,7 +4,7 @@ ghost use Rattle.std.specs.Prelude.{◌≡◌, ◌↔◌, ℕ, [], ◌∷◌, Op
 ghost use Rattle.debug_records.specs.declared.change.Place as declared-place;
 ghost use Rattle.graph_core.specs.Graphs.{block_view, graph_view, instruction_view, scalar_view};
 ghost use Rattle.graph_core.specs.Validity as validity;
-ghost use Rattle.graph_homes.specs.Reused.{first_among, first_copy, or_else};
+ghost use Rattle.graph_homes.specs.Reused.{first_among, first_copy, one_or_other};
 ghost use Rattle.home_assign.specs.Copies.{AreSoFar, IsOwn, copy_at};
 ghost use Rattle.home_assign.specs.Moves.{is_moved_at};
 ghost use Rattle.home_assign.specs.Pairs.{has};
@@ -47,7 +47,7 @@ impl Copies {
     ) -> Result<(), AllocError>
         ensures { OnOk result
             ((rest whole : ℕ → ℕ → Option ℕ) → AreSoFar (is_moved_at (map scalar_view scalars.now) moves.now)
-            (length scalars.now) (λ p x. or_else (copy_at place to from p x) (rest p x)) whole self.old →
+            (length scalars.now) (λ p x. one_or_other (copy_at place to from p x) (rest p x)) whole self.old →
             AreSoFar (is_moved_at (map scalar_view scalars.now) moves.now) (length scalars.now) rest whole
             self.new) }
     {
@@ -68,7 +68,7 @@ impl Copies {
     ) -> Result<(), AllocError>
         ensures { OnOk result
             ((rest whole : ℕ → ℕ → Option ℕ) → AreSoFar (is_moved_at (map scalar_view
-            scalars.now) moves.now) (length scalars.now) (λ p x. or_else (first_among p x
+            scalars.now) moves.now) (length scalars.now) (λ p x. one_or_other (first_among p x
             (option_map (λ (q : declared-place.Place). q.0) place)
             (instruction_view instruction.now ∷ [])) (rest p x)) whole self.old → AreSoFar (is_moved_at (map
             scalar_view scalars.now) moves.now) (length scalars.now) rest whole self.new) }
@@ -94,7 +94,7 @@ impl Copies {
     ) -> Result<(), AllocError>
         ensures { OnOk result
             ((rest whole : ℕ → ℕ → Option ℕ) → AreSoFar (is_moved_at (map scalar_view scalars.now)
-            moves.now) (length scalars.now) (λ p x. or_else
+            moves.now) (length scalars.now) (λ p x. one_or_other
             (first_among p x (block_view block.now).place (block_view block.now).instructions)
             (rest p x)) whole self.old → AreSoFar (is_moved_at (map scalar_view scalars.now) moves.now) (length
             scalars.now) rest whole self.new) }

@@ -34,7 +34,7 @@ use Rattle.image_form.specs.declared.variables.Storage.TheVariants as storage
 use Rattle.image_form.specs.declared.variables.Variable.{Variable}
 use Rattle.image_build_tables.specs.Spans.{Span, code_span, span}
 use Rattle.image_build_tables.specs.Storages.{storage_of}
-use Rattle.image_build_tables.specs.Variables.{counted}
+use Rattle.image_build_tables.specs.Variables.{bounded_count}
 use Rattle.image_truth_units.specs.Units.{HasVariablesIn}
 use Rattle.image_truth_units.proofs.Kept.{scalar_kept}
 use Rattle.stop_engine_view.specs.Evidence.{assignment_of}
@@ -208,10 +208,10 @@ may_write g code slots (home.Register r) index same small e =
     let found = tested (has_result_in r) (spelled_at code index) e in
     (found.0, spelled code index found.0 found.1, makes r found.0 found.2)
 may_write g code slots (home.Slot k) index same small e =
-    let at : counted (slots + 4 * k) ≡ slot_at g k = omega (arith, small, same) in
-    subst (λ o. MayStore code o index) at (elim (either (stores_near code (counted (slots + 4 * k)) index) (stores_far code (counted (slots + 4 * k)) index) e) [
-      | inl close ↦ near_may code (counted (slots + 4 * k)) index close
-      | inr away ↦ far_may code (counted (slots + 4 * k)) index away
+    let at : bounded_count (slots + 4 * k) ≡ slot_at g k = omega (arith, small, same) in
+    subst (λ o. MayStore code o index) at (elim (either (stores_near code (bounded_count (slots + 4 * k)) index) (stores_far code (bounded_count (slots + 4 * k)) index) e) [
+      | inl close ↦ near_may code (bounded_count (slots + 4 * k)) index close
+      | inr away ↦ far_may code (bounded_count (slots + 4 * k)) index away
     ])
 
 -- ---- In an image that is made of a unit

@@ -38,7 +38,7 @@ use Rattle.image_form.specs.declared.verdicts.VisibleRow.{VisibleRow}
 use Rattle.image_build_tables.specs.Tables.{assigned_pair, change_record, flow_pair}
 use Rattle.stop_engine_view.specs.Evidence.{assignment_of, row_path, row_quest, step_of, via_of}
 use Rattle.stop_engine_view.specs.HomeWrites.{disturbs}
-use Rattle.stop_engine_view.specs.Reading.{owner_of}
+use Rattle.stop_engine_view.specs.Reading.{place_of_word}
 use Rattle.stop_engine_view.proofs.FlowOrder.{steps_in_order}
 use Rattle.image_truth_units.specs.Units.{HasVariablesIn}
 use Rattle.image_build.specs.Evidence.{IsEvidentIn, IsQuietIn, OwnsWriter, WasRemoved, WasWritten}
@@ -62,7 +62,7 @@ assignments_back [] = refl
 assignments_back (a ∷ all) = ap (λ l. a ∷ l) (assignments_back all)
 
 -- the word at an address is of its place
-owner_at : (m : Form) (index : ℕ) → owner_of m (address_of index) ≡ slice_index m.owners index
+owner_at : (m : Form) (index : ℕ) → place_of_word m (address_of index) ≡ slice_index m.owners index
 owner_at m index =
     let even : address_of index % 4 ≡ 0 = omega arith in
     let test : (address_of index % 4 == 0 && nat_le maps.code_start (address_of index)) ≡ true = and_from (address_of index % 4 == 0) (nat_le maps.code_start (address_of index)) (eq-eqb (address_of index % 4) 0 even) (le-leb maps.code_start (address_of index) (omega arith)) in
@@ -130,7 +130,7 @@ module _ (p : ProgramTree) (h : HomedForm) (m : Form) (made : IsMadeOfCode p h m
   written kind v stop change start address was =
       let l = was.logged in
       let w = was.word in
-      let owner : owner_of m address ≡ was.via = ap (owner_of m) w.is ∙ owner_at m w.index ∙ ap (λ os. slice_index os w.index) made.parts.owners ∙ w.owner in
+      let owner : place_of_word m address ≡ was.via = ap (place_of_word m) w.is ∙ owner_at m w.index ∙ ap (λ os. slice_index os w.index) made.parts.owners ∙ w.owner in
       record {
         logged = change_record l.change;
         change_is = change_at h.unit.log m.changes change l.change made.parts.changes l.is;

@@ -9,7 +9,7 @@ use Rattle.image_form.specs.RulesOfFunctions.{code_start}
 use Rattle.image_form.specs.declared.tables.Function.{Function}
 use Rattle.image_form.specs.declared.tables.Place.{Place}
 use Rattle.rv_machine.specs.Run.{is_stop}
-use Rattle.rv_machine.specs.State.{State, word}
+use Rattle.rv_machine.specs.State.{MachineState, word}
 use Rattle.stop_engine_view.specs.Callers.{calling_place, place_before, return_address}
 use Rattle.stop_engine_view.specs.Reading.{place_from, place_at, is_stack_address, frame_of, frames_from}
 use Rattle.stop_engine_view.specs.Run.{is_entry, stops_from, stop_addresses}
@@ -28,10 +28,10 @@ abbrev pub place_of : Standing → ℕ
 place_of a = a.place
 
 -- the next ones, if an activation was called from a place
-abbrev next_from : ℕ → Form → State → Standing → (caller : ℕ) → List ℕ
+abbrev next_from : ℕ → Form → MachineState → Standing → (caller : ℕ) → List ℕ
 next_from n m s a caller = cond (caller == 0) [] (frames_from n m s caller (word (a.frame + frame_of m a.place)))
 
-by_calling : (n : ℕ) (m : Form) (s : State) (a : Standing) → frames_from (suc n) m s a.place a.frame ≡ a.place ∷ next_from n m s a (calling_place m s a.frame)
+by_calling : (n : ℕ) (m : Form) (s : MachineState) (a : Standing) → frames_from (suc n) m s a.place a.frame ≡ a.place ∷ next_from n m s a (calling_place m s a.frame)
 by_calling n m s a = by_test (is_stack_address s a.frame && a.frame % 4 == 0) refl
   where
     by_test : (b : Bool) → (is_stack_address s a.frame && a.frame % 4 == 0) ≡ b → frames_from (suc n) m s a.place a.frame ≡ a.place ∷ next_from n m s a (calling_place m s a.frame)
@@ -43,7 +43,7 @@ by_calling n m s a = by_test (is_stack_address s a.frame && a.frame % 4 == 0) re
         ∙ ap (λ b. a.place ∷ next_from n m s a (cond b (place_before m (return_address s a.frame)) 0)) (sym e)
 
 -- The debugger finds all activations, if there are no more than it looks for.
-pub frames_found : (n : ℕ) (m : Form) (s : State) (a : Standing) (waiting : List Standing) → AreCallers m s a waiting → length waiting + 1 ≤ n → frames_from n m s a.place a.frame ≡ a.place ∷ map place_of waiting
+pub frames_found : (n : ℕ) (m : Form) (s : MachineState) (a : Standing) (waiting : List Standing) → AreCallers m s a waiting → length waiting + 1 ≤ n → frames_from n m s a.place a.frame ≡ a.place ∷ map place_of waiting
 frames_found zero m s a waiting callers few = absurd (omega (arith, few))
 frames_found (suc n) m s a [] callers few = by_calling n m s a ∙ ap (λ c. a.place ∷ next_from n m s a c) callers
 frames_found (suc n) m s a (b ∷ more) callers few =

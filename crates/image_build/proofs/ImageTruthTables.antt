@@ -3,7 +3,7 @@ use Rattle.std.proofs.Common.{◌≡◌, ℕ, ◌+◌, refl, sym, ap, ◌∙◌,
 use Rattle.std.proofs.lemmas.Bool.{and_parts}
 use Rattle.c_tree.specs.Programs.{ProgramTree}
 use Rattle.c_places.specs.Places.{Place, places_of_program}
-use Rattle.c_flow.specs.Rows.{Row, row_of, rows_of_program}
+use Rattle.c_flow.specs.Rows.{Row, flow_row, rows_of_program}
 use Rattle.c_type_laws.specs.Laws.{IsWellFormed, follow, are_functions, are_objects, is_main, is_sound, is_within, objects_ascend, places_ascend}
 use Rattle.c_type_laws.specs.Parameters.{parameters_single}
 use Rattle.image_form.specs.Form.{Form}
@@ -36,4 +36,4 @@ variables_follow p h =
 pub functions_of : (p : ProgramTree) (m : Form) → map spot m.places ≡ map spot_of (rows_of_program p) → map (λ (q : ImagePlace). q.function) m.places ≡ map (λ (q : Place). q.function) (places_of_program p)
 functions_of p m same =
     let of : Spot → ℕ = λ s. s.function in
-    sym (map_twice of spot m.places) ∙ ap (map of) same ∙ map_twice of spot_of (rows_of_program p) ∙ map_twice (λ (r : Row). r.function) (row_of p) (places_of_program p)
+    sym (map_twice of spot m.places) ∙ ap (map of) same ∙ map_twice of spot_of (rows_of_program p) ∙ map_twice (λ (r : Row). r.function) (flow_row p) (places_of_program p)

@@ -77,12 +77,12 @@ naming_there t place index f row n number is of named =
 
 -- A program; a unit with homes that is kept of it; its code; the table of the program's places; tables that are made of these; and verdicts that are borne out.
 module _ (p : ProgramTree) (h : HomedForm) (e : EmittedForm) (rows : List PlaceRow) (m : Form) (told : List PlaceVerdict) (formed : IsWellFormed p) (names : HasNames p) (spots : HasSpots p) (fits : Fits32 p) (valid : IsValid h.unit) (homes : HaveHomes h) (shape : HasShapeOf p h.unit) (kept : IsKeptOf p h.unit) (can : CanAllBeTold p h.unit.log)
-    (emits : Emits h e) (coded : IsEmittedOf h e) (countable : AreCountable h) (short : length e.code ≤ most_words e.map) (tables : AreTablesOf p h e rows m) (fit : AreFit m) (seen : map sight told ≡ sights_from 1 rows) (borne : AreBorneOut h told) (sights : map image.sight m.rows ≡ map image.sight_of_verdict told)
+    (emits : Emits h e) (coded : IsEmittedOf h e) (countable : AreCountable h) (short : length e.code ≤ most_words e.map) (tables : AreTablesOf p h e rows m) (fit : AreFit m) (seen : map sight told ≡ sights_from 1 rows) (borne : AreBorneOut h told) (sights : map image.pair_of_row m.rows ≡ map image.sight_of_verdict told)
     (said : length m.nodes < 2 ^ 32 → AreRowsOf (telling_of h rows e) m.nodes told m.rows) (needed : length m.nodes < 2 ^ 32 → AreNodesOf (telling_of h rows e) m.nodes told) (alone : length m.nodes < 2 ^ 32 → AreOnce m.nodes) (ahead : length m.nodes < 2 ^ 32 → AreEarlier m.nodes) (parts : length m.nodes ≤ total (λ (w : PlaceVerdict). size_told w.verdict) told) where
   few : length rows + 1 < 4294967296
   few = let least = rows_few p rows fits tables.rows_are in omega (arith, least)
 
-  visible : map image.sight m.rows ≡ visible_from 1 (rows_of_program p)
+  visible : map image.pair_of_row m.rows ≡ visible_from 1 (rows_of_program p)
   visible = visible_of p rows told m fits tables.rows_are seen sights
 
   given : Given p h e rows m
@@ -97,9 +97,9 @@ module _ (p : ProgramTree) (h : HomedForm) (e : EmittedForm) (rows : List PlaceR
   many_nodes =
       let most = few_told told shallow in
       let lines = rows_most p h e rows m given visible in
-      let one = length-map m.rows image.sight in
+      let one = length-map m.rows image.pair_of_row in
       let other = length-map told image.sight_of_verdict in
-      let same = ap (λ (l : List image.Sight). length l) sights in
+      let same = ap (λ (l : List image.VisiblePair). length l) sights in
       omega (arith, parts, most, lines, one, other, same)
 
   -- Nodes are few.

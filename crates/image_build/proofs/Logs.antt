@@ -8,7 +8,7 @@ use Rattle.graph_core.specs.declared.value.Value.{Value}
 use Rattle.graph_core.specs.Graphs.{Instruction, Marker, Note, Move, Operate, Truncate, Same, Address, Load, Store, Zero, CopyWords, Call, End, Jump, Branch, Return, Logged, UnitForm}
 use Rattle.graph_core.specs.Memory.{first_memory}
 use Rattle.graph_core.specs.Values.{is_odd}
-use Rattle.graph_core.specs.Runs.{Configuration, Wild, value, enter, call, execute, execute_end, step_from, step, after, run, run_some, unit_run}
+use Rattle.graph_core.specs.Runs.{Configuration, Wild, value, enter, call, execute, execute_end, step_from, step, events_after, run, run_some, unit_run}
 
 module _ (u : UnitForm) (log : List Logged) where
   -- the unit with another log
@@ -48,7 +48,7 @@ module _ (u : UnitForm) (log : List Logged) where
 
   run_same : (n : ℕ) (c : Configuration) → run other n c ≡ run u n c
   run_same zero c = refl
-  run_same (suc n) c = ap (after (step other c)) (fun_ext (run_same n)) ∙ ap (λ s. after s (run u n)) (from_same c.here.rest c)
+  run_same (suc n) c = ap (events_after (step other c)) (fun_ext (run_same n)) ∙ ap (λ s. events_after s (run u n)) (from_same c.here.rest c)
 
   some_same : (n : ℕ) (o : Option Configuration) → run_some other n o ≡ run_some u n o
   some_same n None = refl

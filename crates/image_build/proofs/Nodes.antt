@@ -30,7 +30,7 @@ use Rattle.home_assign.specs.Alike.{held_in, shown_value}
 use Rattle.rv_emit_storage.specs.StaticAddresses.{static_at}
 use Rattle.graph_homes.specs.Homed.{HomedForm, HaveHomes, IsHomeAmong, IsHomeRegister, home_number, home_of}
 use Rattle.image_build_tables.specs.Storages.{storage_of, storages_of}
-use Rattle.image_build_tables.specs.Variables.{counted, shape, shapes_of, owner, owners_of, declared_names, name_length, length_of_name, storage}
+use Rattle.image_build_tables.specs.Variables.{bounded_count, shape, shapes_of, owner, owners_of, declared_names, name_length, length_of_name, storage}
 use Rattle.image_form.specs.declared.recipes.Node.{Node}
 use Rattle.image_form.specs.declared.recipes.Node.TheVariants as node
 use Rattle.image_form.specs.declared.variables.Variable.{Variable}
@@ -45,17 +45,17 @@ use Rattle.image_truth_units.proofs.Areas.{there}
 use Rattle.image_truth_units.proofs.Kept.{scalar_kept}
 use Rattle.image_truth_units.proofs.Tables.{all_at}
 use Rattle.rv_emit_steps.specs.Holding.{held, memory_of}
-use Rattle.rv_machine.specs.State.{State, reg}
+use Rattle.rv_machine.specs.State.{MachineState, reg}
 use Rattle.stop_engine_view.specs.Reading.{slot_word}
 use Rattle.stop_engine_view.specs.Recipes.{node_value, recipe_value, variable_word}
 use Rattle.stop_engine_view.specs.Words.{home_word}
-use Rattle.word_base.specs.WordOperations.{operated, truncated}
+use Rattle.word_base.specs.WordOperations.{word_operation, truncated}
 use Rattle.image_build.proofs.PassesTruthWords.{operated_fits, truncated_fits}
 
 -- An image has a program's tables and a unit's storages; the machine stands at a stop of the unit over homes.
 module _ (p : ProgramTree) (m : Form) (functions : map name_length m.functions ≡ map length_of_name p.functions) (variables : map shape m.variables ≡ shapes_of p) (owners : map owner m.variables ≡ owners_of p) (more : List ℕ) (names : m.names ≡ declared_names p ++ more) (rules : IsImage m)
     (h : HomedForm) (valid : IsValid h.unit) (homed : HaveHomes h) (a : Arrangement) (e : EmittedForm) (storages : map storage m.variables ≡ storages_of h e (length m.variables)) (unit : HasVariablesIn p h.unit) (tells : Tells h a e)
-    (c : Configuration) (s : State) (stands : StandsAt h e a c s)
+    (c : Configuration) (s : MachineState) (stands : StandsAt h e a c s)
     -- the function of the innermost activation
     (g : Graph) (graph : slice_get h.unit.graphs c.here.function ≡ Some g) (homes : List Home) (homes_are : slice_get h.homes c.here.function ≡ Some homes) (many : length homes ≡ g.name_count) where
   -- a word of a value
@@ -108,10 +108,10 @@ module _ (p : ProgramTree) (m : Form) (functions : map name_length m.functions �
       let room = (its.storage stands.addresses []).room in
       let small = its.small in
       let slots = told.slots in
-      let number : counted (told.code.slots + 4 * k + 32) ≡ told.code.slots + 4 * k + 32 = omega (arith, slots, room, small, lt) in
-      let offset : counted (told.code.slots + 4 * k + 32) - 32 ≡ counted (told.code.slots + 4 * k) = omega (arith, slots, room, small, lt) in
-      let high : nat_lt (counted (told.code.slots + 4 * k + 32)) 32 ≡ false = le-ltb (counted (told.code.slots + 4 * k + 32)) 32 (omega (arith, number)) in
-      ap (λ b. if b then reg s (counted (told.code.slots + 4 * k + 32)) else slot_word s (counted (told.code.slots + 4 * k + 32) - 32)) high ∙ ap (slot_word s) offset
+      let number : bounded_count (told.code.slots + 4 * k + 32) ≡ told.code.slots + 4 * k + 32 = omega (arith, slots, room, small, lt) in
+      let offset : bounded_count (told.code.slots + 4 * k + 32) - 32 ≡ bounded_count (told.code.slots + 4 * k) = omega (arith, slots, room, small, lt) in
+      let high : nat_lt (bounded_count (told.code.slots + 4 * k + 32)) 32 ≡ false = le-ltb (bounded_count (told.code.slots + 4 * k + 32)) 32 (omega (arith, number)) in
+      ap (λ b. if b then reg s (bounded_count (told.code.slots + 4 * k + 32)) else slot_word s (bounded_count (told.code.slots + 4 * k + 32) - 32)) high ∙ ap (slot_word s) offset
 
   -- the home of a name among those of the function
   home_there : (x : ℕ) → x < g.name_count → slice_get homes x ≡ Some (home_of h c.here.function x)
@@ -195,7 +195,7 @@ module _ (p : ProgramTree) (m : Form) (functions : map name_length m.functions �
       (truncation_means stands.addresses c.memory stands.laid t (shown_value h c.here.function c.here.names r) (recipe_value m s levels is.0) part.0, truncated_fits t (recipe_value m s levels is.0))
   recipe_read (Operated o q r) zero k are deep is = absurd (omega (arith, deep))
   recipe_read (Operated o q r) (suc levels) k are deep is =
-      let same : recipe_value m s (suc levels) k ≡ operated o (recipe_value m s levels is.0) (recipe_value m s levels is.1) = ap (λ n. option_map_or (node_value m s (recipe_value m s levels)) n 0) is.2 in
+      let same : recipe_value m s (suc levels) k ≡ word_operation o (recipe_value m s levels is.0) (recipe_value m s levels is.1) = ap (λ n. option_map_or (node_value m s (recipe_value m s levels)) n 0) is.2 in
       let low = larger (depth_of q) (depth_of r) levels deep in
       let one = recipe_read q levels is.0 are.0 low.0 is.3 in
       let two = recipe_read r levels is.1 are.1 low.1 is.4 in

@@ -8,7 +8,7 @@ use Rattle.c_tree.specs.Programs.{LiteralTree, ProgramTree, StaticTree, TypedFun
 use Rattle.c_type_laws.specs.Laws.{IsWellFormed, are_functions, are_objects, follow, is_main, is_sound, is_within, objects_ascend, places_ascend}
 use Rattle.c_type_laws.specs.Parameters.{parameters_single}
 use Rattle.c_places.specs.Places.{places_of_program}
-use Rattle.image_form.specs.Decoding.{owner_of}
+use Rattle.image_form.specs.Decoding.{owning_function}
 use Rattle.image_form.specs.Form.{Form}
 use Rattle.image_form.specs.Numbers.{no_function, variable_numbers}
 use Rattle.image_form.specs.Rules.{IsImage}
@@ -49,7 +49,7 @@ all_owned p h =
 
 -- A function, or none, is told apart by its number.
 abbrev IsTold : Option ℕ → Type 0
-IsTold o = owner_of (unwrap_or o no_function) ≡ o
+IsTold o = owning_function (unwrap_or o no_function) ≡ o
 
 told_below : (k : ℕ) → k < 4294967295 → IsTold (Some k)
 told_below k less =
@@ -71,7 +71,7 @@ told_kept m few (Some k) s h = let less = kept_within m k s h in told_below k (o
 
 -- The function of a variable by its numbers.
 owner_by : List ℕ → Option ℕ
-owner_by numbers = owner_of (get_or numbers 1 0)
+owner_by numbers = owning_function (get_or numbers 1 0)
 
 owners_by : (m : Form) → length m.functions < 4294967295 → (all : List Variable) → AllByRecursion (IsVariable m) all → map owner_by (map variable_numbers all) ≡ map owner all
 unfolding owner_by

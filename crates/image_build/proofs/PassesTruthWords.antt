@@ -11,11 +11,11 @@ use Rattle.rv_emit_steps.proofs.Operating.{operated_in_range}
 use Rattle.word_base.specs.declared.operation.Operation.{Operation}
 use Rattle.word_base.specs.declared.operation.Truncation.{Truncation}
 use Rattle.word_base.specs.declared.operation.Truncation.TheVariants.{Unsigned8, Signed16, Unsigned16, Signed8}
-use Rattle.word_base.specs.WordOperations.{operated, truncated}
+use Rattle.word_base.specs.WordOperations.{word_operation, truncated}
 use Rattle.base_laws.proofs.Numbers.{chosen_fits}
 
 -- What an operation makes of words is a word.
-pub operated_fits : (op : Operation) (a b : ℕ) → a < 4294967296 → b < 4294967296 → operated op a b < 4294967296
+pub operated_fits : (op : Operation) (a b : ℕ) → a < 4294967296 → b < 4294967296 → word_operation op a b < 4294967296
 operated_fits op a b ha hb = subst (λ x. x < 4294967296) (register_does op a b) (operated_in_range (register_operation op) a b ha hb)
 
 -- What a truncation leaves is a word.

@@ -130,7 +130,7 @@ tables_are p h e rows m version code initial owners functions spans entries none
 }
 
 -- what their rows tell of is what is visible at the program's places
-pub visible_of : (p : ProgramTree) (rows : List PlaceRow) (all : List PlaceVerdict) (m : Form) → Fits32 p → map row_view rows ≡ rows_of_program p → map sight all ≡ sights_from 1 rows → map image.sight m.rows ≡ map image.sight_of_verdict all → map image.sight m.rows ≡ visible_from 1 (rows_of_program p)
+pub visible_of : (p : ProgramTree) (rows : List PlaceRow) (all : List PlaceVerdict) (m : Form) → Fits32 p → map row_view rows ≡ rows_of_program p → map sight all ≡ sights_from 1 rows → map image.pair_of_row m.rows ≡ map image.sight_of_verdict all → map image.pair_of_row m.rows ≡ visible_from 1 (rows_of_program p)
 visible_of p rows all m fits are seen told = told ∙ tables.seen all rows (rows_few p rows fits are) seen ∙ ap (visible_from 1) are
 
 -- ---- What they show

@@ -15,7 +15,7 @@ use Rattle.event_runs.specs.Agreement.{Pairs}
 use Rattle.c_tree.specs.Programs.{ProgramTree}
 use Rattle.c_type_laws.specs.Laws.{IsWellFormed}
 use Rattle.c_places.specs.Places.{places_of_program}
-use Rattle.c_flow.specs.Rows.{Row, row_of, row_view, rows_of_program}
+use Rattle.c_flow.specs.Rows.{Row, flow_row, row_view, rows_of_program}
 use Rattle.graph_core.specs.Graphs.{Graph, UnitForm}
 use Rattle.graph_core.specs.Paths.{Among}
 use Rattle.graph_core.specs.Validity.{markers_of_blocks}
@@ -78,13 +78,13 @@ pair_back R (x ∷ xs) (z ∷ ys) (suc k) y pairs e = pair_back R xs ys k y pair
 module _ (p : ProgramTree) (formed : IsWellFormed p) (u : UnitForm) (kept : IsKeptOf p u) (shape : HasShapeOf p u) (table : declared-table.PlaceTable) (are : map row_view table.rows.items ≡ rows_of_program p) (few : length table.rows.items + 1 < 4294967296) where
   -- as many rows as the program has places
   many : length table.rows.items ≡ length (places_of_program p)
-  many = sym (length-map table.rows.items row_view) ∙ ap (λ (l : List Row). length l) are ∙ length-map (places_of_program p) (row_of p)
+  many = sym (length-map table.rows.items row_view) ∙ ap (λ (l : List Row). length l) are ∙ length-map (places_of_program p) (flow_row p)
 
   -- a place of the program is one of the table
   place_in : (f n : ℕ) → IsPlaceIn p f n → IsPlaceOf table f n
-  place_in f n is = by_row (from_map row_view table.rows.items is.index (row_of p is.at) (ap (λ (l : List Row). slice_get l is.index) are ∙ slice_get-map (row_of p) (places_of_program p) is.index ∙ ap (λ o. option_map (row_of p) o) is.is))
+  place_in f n is = by_row (from_map row_view table.rows.items is.index (flow_row p is.at) (ap (λ (l : List Row). slice_get l is.index) are ∙ slice_get-map (flow_row p) (places_of_program p) is.index ∙ ap (λ o. option_map (flow_row p) o) is.is))
     where
-      by_row : (r : declared-row.PlaceRow) × (slice_get table.rows.items is.index ≡ Some r) × (row_view r ≡ row_of p is.at) → IsPlaceOf table f n
+      by_row : (r : declared-row.PlaceRow) × (slice_get table.rows.items is.index ≡ Some r) × (row_view r ≡ flow_row p is.at) → IsPlaceOf table f n
       by_row r =
           let number = is.number_is in
           let at : n - 1 ≡ is.index = omega (arith, number) in

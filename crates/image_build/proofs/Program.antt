@@ -18,11 +18,11 @@ use Rattle.c_type_laws.specs.Orders.{ascends, ascends_behind, never_falls}
 use Rattle.c_type_laws.specs.Parameters.{parameters_single}
 use Rattle.c_type_laws.specs.Plain.{are_plain}
 use Rattle.c_places.specs.Memory.{kept_by_all}
-use Rattle.c_places.specs.Places.{Place, entry_of, places_of_program, count_before, number_at, is_hidden, visible}
-use Rattle.c_flow.specs.Rows.{Row, numbers_of, row_of, rows_of_program, variable_if}
+use Rattle.c_places.specs.Places.{Place, entry_of, places_of_program, count_before, place_number_at as number_at, is_hidden, visible}
+use Rattle.c_flow.specs.Rows.{Row, numbers_of, flow_row, rows_of_program, variable_if}
 use Rattle.c_flow.specs.declared.edge.Edge.{Edge}
 use Rattle.c_flow.specs.declared.assigned.Assigned.{Assigned}
-use Rattle.c_flow.specs.Flow.{flow_of_program, numbered, steps_of_program}
+use Rattle.c_flow.specs.Flow.{flow_of_program, flow_step_of, steps_of_program}
 use Rattle.c_flow.specs.Assigns.{assigns_object, assigned_by_program, assignments_of_program, numbered_assigned, numbered_for, variable_number}
 use Rattle.graph_core.specs.Paths.{Among, front, behind}
 use Rattle.graph_core_weights.proofs.Passing.{some_same}
@@ -185,7 +185,7 @@ module _ (p : ProgramTree) (formed : IsWellFormed p) where
     | inr a ↦ inr (assigned_there (assigned_by_program p) e.from k.x variable a k.of)
   ]
 
-  step_there : (all : List Edge) → AreSound IsIn Assigns all → (j : ℕ) (s : FlowStep) → slice_get (map (numbered (places_of_program p)) all) j ≡ Some s → (variable : ℕ) → IsKnown p s.to.0 variable
+  step_there : (all : List Edge) → AreSound IsIn Assigns all → (j : ℕ) (s : FlowStep) → slice_get (map (flow_step_of (places_of_program p)) all) j ≡ Some s → (variable : ℕ) → IsKnown p s.to.0 variable
       → IsKnown p s.from.0 variable ⊎ Contains (assignments_of_program p) (record { place = s.from; var = record { 0 = variable } })
   step_there [] sound j s is variable k = cc
   step_there (e ∷ all) sound zero s is variable k =
@@ -287,9 +287,9 @@ pub visible_known : (p : ProgramTree) (k variable : ℕ) (row : Row) → slice_g
 visible_known p k variable row is among = by_place (slice_get (places_of_program p) k) refl
   where
     by_place : (o : Option Place) → slice_get (places_of_program p) k ≡ o → IsKnown p (k + 1) variable
-    by_place None e = absurd (none-some row (sym (slice_get-map (row_of p) (places_of_program p) k ∙ ap (λ o. option_map (row_of p) o) e) ∙ is))
+    by_place None e = absurd (none-some row (sym (slice_get-map (flow_row p) (places_of_program p) k ∙ ap (λ o. option_map (flow_row p) o) e) ∙ is))
     by_place (Some q) e =
-        let same : row_of p q ≡ row = some_same (sym (slice_get-map (row_of p) (places_of_program p) k ∙ ap (λ o. option_map (row_of p) o) e) ∙ is) in
+        let same : flow_row p q ≡ row = some_same (sym (slice_get-map (flow_row p) (places_of_program p) k ∙ ap (λ o. option_map (flow_row p) o) e) ∙ is) in
         let number = number_among p (visible p.automatics q.scope) variable (subst (λ (r : Row). Among variable r.visible) (sym same) among) in
         let there = wider_at (places_of_program p) (known_of_program p) (wider_program p) k q e in
         record { index = k; place = there.place; x = number.x; is = there.is; here = refl; among = there.more number.x (visible_among p.automatics q.scope number.x number.among); of = number.of }

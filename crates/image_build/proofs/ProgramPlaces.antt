@@ -3,7 +3,7 @@ use Rattle.std.proofs.Common.{◌≡◌, ◌≢◌, ℕ, zero, suc, ◌+◌, ◌
 use Rattle.std.proofs.lemmas.Bool.{true≢false}
 use Rattle.std.proofs.lemmas.Option.{none-some, same_Some}
 use Rattle.c_tree.specs.Programs.{ProgramTree, TypedFunctionTree}
-use Rattle.c_places.specs.Places.{Place, entry_of, places_of_function, places_of_functions, places_of_program, number_at}
+use Rattle.c_places.specs.Places.{Place, entry_of, places_of_function, places_of_functions, places_of_program, place_number_at}
 use Rattle.c_type_laws.specs.Laws.{IsWellFormed}
 use Rattle.graph_core.specs.Graphs.{Graph, UnitForm}
 use Rattle.graph_core.specs.Paths.{Among, behind}
@@ -66,7 +66,7 @@ module _ (p : ProgramTree) (formed : IsWellFormed p) where
   ascend : AllAscend (places_of_program p)
   ascend = (facts_of p formed).ascend
 
-  numbered : (k : ℕ) (q : Place) → slice_get (places_of_program p) k ≡ Some q → number_at (places_of_program p) q.spot.at ≡ k + 1
+  numbered : (k : ℕ) (q : Place) → slice_get (places_of_program p) k ≡ Some q → place_number_at (places_of_program p) q.spot.at ≡ k + 1
   numbered = numbered_in (places_of_program p) ascend
 
   -- each place of a function is one of the program's
@@ -79,7 +79,7 @@ module _ (p : ProgramTree) (formed : IsWellFormed p) where
       (length w.before + j, ap (λ l. slice_get l (length w.before + j)) w.is ∙ behind_at w.before (own ++ w.behind) j ∙ front_at own w.behind j q here)
 
   -- a place is told by its number
-  same_place : (i j : ℕ) (q r : Place) → slice_get (places_of_program p) i ≡ Some q → slice_get (places_of_program p) j ≡ Some r → number_at (places_of_program p) r.spot.at ≡ i + 1 → r ≡ q
+  same_place : (i j : ℕ) (q r : Place) → slice_get (places_of_program p) i ≡ Some q → slice_get (places_of_program p) j ≡ Some r → place_number_at (places_of_program p) r.spot.at ≡ i + 1 → r ≡ q
   same_place i j q r is at number =
       let other = numbered j r at in
       let same : j ≡ i = omega (arith, number, other) in
@@ -93,7 +93,7 @@ module _ (p : ProgramTree) (formed : IsWellFormed p) where
       entry_there entry =
           let r = place_in 0 p.functions i q is in
           let same = first_is_entry (0 + r.function) r.tree r.index q r.at entry in
-          image_among (tables.entry_of p) p.functions r.tree (i + 1) (at_among p.functions r.function r.tree r.is) (ap (λ (z : Place). number_at (places_of_program p) z.spot.at) (sym same) ∙ numbered i q is)
+          image_among (tables.entry_of p) p.functions r.tree (i + 1) (at_among p.functions r.function r.tree r.is) (ap (λ (z : Place). place_number_at (places_of_program p) z.spot.at) (sym same) ∙ numbered i q is)
 
       no_other : q.is_entry ≡ false → (b : Bool) → is_stop (map (tables.entry_of p) p.functions) (i + 1) ≡ b → is_stop (map (tables.entry_of p) p.functions) (i + 1) ≡ false
       no_other plain false e = e
@@ -123,19 +123,19 @@ module _ (p : ProgramTree) (formed : IsWellFormed p) where
         let t = of_graph p 0 p.functions f g (ap (λ l. slice_get l f) (sym is.graphs) ∙ at) in
         by_tree t.0 t.1 t.2 t.3
       where
-        by_place : (tree : TypedFunctionTree) (b : Bool) → graph_of p tree b ≡ g → slice_get p.functions f ≡ Some tree → (j : ℕ) (q : Place) → slice_get (places_of_function f tree) j ≡ Some q → number_at (places_of_program p) q.spot.at ≡ n → IsStopNumber n
+        by_place : (tree : TypedFunctionTree) (b : Bool) → graph_of p tree b ≡ g → slice_get p.functions f ≡ Some tree → (j : ℕ) (q : Place) → slice_get (places_of_function f tree) j ≡ Some q → place_number_at (places_of_program p) q.spot.at ≡ n → IsStopNumber n
         by_place tree b same there zero q at number =
-            absurd (other (sym number ∙ ap (λ (z : Place). number_at (places_of_program p) z.spot.at) (sym (same_Some (entry_of f tree) q at)) ∙ ap (λ (x : Graph). x.entry) same))
+            absurd (other (sym number ∙ ap (λ (z : Place). place_number_at (places_of_program p) z.spot.at) (sym (same_Some (entry_of f tree) q at)) ∙ ap (λ (x : Graph). x.entry) same))
         by_place tree b same there (suc j) q at number =
             let i = one_of_program f tree (suc j) q there at in
             record { index = i.0; place = q; there = i.1; number = sym number ∙ numbered i.0 q i.1; stops = stops_behind f tree j q at }
 
         by_tree : (tree : TypedFunctionTree) (b : Bool) → slice_get p.functions f ≡ Some tree → graph_of p tree b ≡ g → IsStopNumber n
         by_tree tree b there same =
-            let numbers = λ (q : Place). number_at (places_of_program p) q.spot.at in
+            let numbers = λ (q : Place). place_number_at (places_of_program p) q.spot.at in
             let listed = subst (Among n) (ap (λ (x : Graph). markers_of_blocks x.blocks) (sym same) ∙ graph_markers p f tree there b ascend) marker in
-            let k = among_at (map (λ (q : Place). number_at (places_of_program p) q.spot.at) (places_of_function f tree)) n listed in
-            let q = from_map (λ (q : Place). number_at (places_of_program p) q.spot.at) (places_of_function f tree) k.0 n k.1 in
+            let k = among_at (map (λ (q : Place). place_number_at (places_of_program p) q.spot.at) (places_of_function f tree)) n listed in
+            let q = from_map (λ (q : Place). place_number_at (places_of_program p) q.spot.at) (places_of_function f tree) k.0 n k.1 in
             by_place tree b same there k.0 q.0 q.1 q.2
 
     -- The number of a place that a marker of a graph begins, which is not the graph's entry.
@@ -153,8 +153,8 @@ module _ (p : ProgramTree) (formed : IsWellFormed p) where
         let g = graph_at p 0 p.functions r.function r.tree r.is in
         let none : 0 + r.function ≡ r.function = omega arith in
         let own = subst (λ n. slice_get (places_of_function n r.tree) r.index ≡ Some q) none r.at in
-        let listed = at_among (map (λ (q : Place). number_at (places_of_program p) q.spot.at) (places_of_function r.function r.tree)) r.index (i + 1)
-        (map_at (λ (q : Place). number_at (places_of_program p) q.spot.at) (places_of_function r.function r.tree) r.index q own ∙ ap (λ n. Some n) (numbered i q there)) in
+        let listed = at_among (map (λ (q : Place). place_number_at (places_of_program p) q.spot.at) (places_of_function r.function r.tree)) r.index (i + 1)
+        (map_at (λ (q : Place). place_number_at (places_of_program p) q.spot.at) (places_of_function r.function r.tree) r.index q own ∙ ap (λ n. Some n) (numbered i q there)) in
         record {
           function = r.function;
           graph = graph_of p r.tree g.0;

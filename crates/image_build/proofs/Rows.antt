@@ -9,7 +9,7 @@ use Rattle.places.specs.declared.flow.FlowTable.{FlowTable}
 use Rattle.places.specs.declared.table.PlaceRow as declared-place
 use Rattle.c_tree.specs.Programs.{TypedFunctionTree, ProgramTree}
 use Rattle.c_type_laws.specs.Laws.{IsWellFormed}
-use Rattle.c_places.specs.Places.{number_at, places_of_program}
+use Rattle.c_places.specs.Places.{place_number_at, places_of_program}
 use Rattle.c_flow.specs.Rows.{Row, row_view, rows_of_program}
 use Rattle.graph_homes.specs.Homes.{HoldsOnAllPaths}
 use Rattle.graph_core.specs.declared.recipe.Recipe as declared-recipe
@@ -81,7 +81,7 @@ entry_of_graph g = g.entry
 
 -- the place of a function's entry
 abbrev pub entry_of_function : ProgramTree → TypedFunctionTree → ℕ
-entry_of_function p f = number_at (places_of_program p) f.spot.at
+entry_of_function p f = place_number_at (places_of_program p) f.spot.at
 
 -- A unit with homes is well marked, by none of its changes an assignment went, each of its names has a slot of its own, and its flow and the entries of its graphs are a program's.
 pub record IsPlainUnitOf (p : ProgramTree) (h : HomedForm) : Type 0 where

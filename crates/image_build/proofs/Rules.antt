@@ -9,7 +9,7 @@ use Rattle.places.specs.declared.table.PlaceRow.{PlaceRow}
 use Rattle.c_tree.specs.Programs.{ProgramTree}
 use Rattle.c_type_laws.specs.Laws.{IsWellFormed}
 use Rattle.c_places.specs.Places.{Place, places_of_program, visible}
-use Rattle.c_flow.specs.Rows.{Row, row_of, row_view, rows_of_program}
+use Rattle.c_flow.specs.Rows.{Row, flow_row, row_view, rows_of_program}
 use Rattle.graph_core.specs.Paths.{Among, front, behind}
 use Rattle.currency.specs.declared.verdict.PlaceVerdict.{PlaceVerdict}
 use Rattle.currency.specs.Visible.{Sight, next, sight, sights_at, sights_from}
@@ -113,13 +113,13 @@ module _ (p : ProgramTree) (formed : IsWellFormed p) (table : List PlaceRow) (ar
   record PlaceOf (k : ℕ) (row : PlaceRow) : Type 0 where
     place : Place
     there : slice_get (places_of_program p) k ≡ Some place
-    is : row_of p place ≡ row_view row
+    is : flow_row p place ≡ row_view row
     own : SeesOwn 0 p.functions place
 
   place_of : (k : ℕ) (row : PlaceRow) → slice_get table k ≡ Some row → PlaceOf k row
   place_of k row at =
       let there : slice_get (rows_of_program p) k ≡ Some (row_view row) = ap (λ (l : List Row). slice_get l k) (sym are) ∙ map_at table k row at in
-      let q = from_map (row_of p) (places_of_program p) k (row_view row) there in
+      let q = from_map (flow_row p) (places_of_program p) k (row_view row) there in
       record { place = q.0; there = q.1; is = q.2; own = all_at (SeesOwn 0 p.functions) (places_of_program p) k q.0 (functions_see p 0 p.functions laws.functions) q.1 }
     where
       map_at : (xs : List PlaceRow) (i : ℕ) (x : PlaceRow) → slice_get xs i ≡ Some x → slice_get (map row_view xs) i ≡ Some (row_view x)

@@ -19,8 +19,8 @@ use Rattle.c_places.specs.Places.{Place, stop, brought, brought_by_start, brough
 use Rattle.c_flow.specs.declared.edge.Edge.{Edge}
 use Rattle.c_flow.specs.declared.edge.Ways.{Ways}
 use Rattle.c_flow.specs.declared.assigned.Assigned.{Assigned}
-use Rattle.c_flow.specs.Flow.{edge, start_of_declarators, start_of_for, start, start_of_all, flow_of_declarators, flow_of_start, round_of, flow_of_step, flow_out, flow_to_labels, flow_past, within_loop, within_switch, before, flow_of, flow_of_all, ways_of_body, flow_of_function, flow_of_functions}
-use Rattle.c_flow.specs.Assigns.{assigns_object, assigned, assigned_by_initial, assigned_by_option, assigned_by_step, assigned_by_declarators, assigned_by_start, assigned_by, assigned_by_statements, assigned_by_entry, assigned_by_function, assigned_by_functions}
+use Rattle.c_flow.specs.Flow.{edge, start_of_declarators, start_of_for, start_place, start_of_all, flow_of_declarators, flow_of_start, round_of, flow_of_step, flow_out, flow_to_labels, flow_past, within_loop, within_switch, ways_before, flow_of, flow_of_all, ways_of_body, flow_of_function, flow_of_functions}
+use Rattle.c_flow.specs.Assigns.{assigns_object, assigned_objects, assigned_by_initial, assigned_by_option, assigned_by_step, assigned_by_declarators, assigned_by_start, assigned_by, assigned_by_statements, assigned_by_entry, assigned_by_function, assigned_by_functions}
 use Rattle.graph_core.specs.Paths.{Among, front, behind}
 use Rattle.image_build.proofs.Known.{among_front, among_back, known_of_head, known_of, known_of_all, known_of_function, known_of_functions}
 use Rattle.base_laws.proofs.Lists.{both_all as all_both, parts_all as all_parts}
@@ -159,7 +159,7 @@ module _ (In As : ℕ → ℕ → Type 0) where
     -- ---- Where statements begin
 
     mutual
-      start_one : (s : TypedStatementTree) (scope : List ℕ) (next : Option ℕ) → ArePlaced (known_of n scope s) → IsWithin (scope ++ brought s) next → IsWithin scope (start s next)
+      start_one : (s : TypedStatementTree) (scope : List ℕ) (next : Option ℕ) → ArePlaced (known_of n scope s) → IsWithin (scope ++ brought s) next → IsWithin scope (start_place s next)
       start_one (Block all) scope next placed w = start_each all scope next placed (within_front scope (brought_by_body all) next (within_nil scope next w))
       start_one (Declaration all) scope next placed w = start_declarators scope all next placed w
       start_one (Empty spot) scope next placed w = placed.0.only
@@ -244,37 +244,37 @@ module _ (In As : ℕ → ℕ → Type 0) where
         one (If spot e s) scope w b c typed placed assigns next breaks continues = (
             let on = within_nil scope w.next next in
             let inside = within_front scope (brought s) w.next on in
-            all_both IsSound (edge spot.at (start s w.next) ++ edge spot.at w.next) (flow_of w s)
-            (all_both IsSound (edge spot.at (start s w.next)) (edge spot.at w.next) (from_place (stop n scope spot) placed.0 (start s w.next) (start_one s scope w.next placed.1 inside)) (from_place (stop n scope spot) placed.0 w.next on))
-            (one s scope w b c (and_parts (is_scalar (kind_of p f e)) (is_statement p f b c s) typed).1 placed.1 (assigned_back (assigned spot.at e) (assigned_by s) assigns) inside breaks continues))
+            all_both IsSound (edge spot.at (start_place s w.next) ++ edge spot.at w.next) (flow_of w s)
+            (all_both IsSound (edge spot.at (start_place s w.next)) (edge spot.at w.next) (from_place (stop n scope spot) placed.0 (start_place s w.next) (start_one s scope w.next placed.1 inside)) (from_place (stop n scope spot) placed.0 w.next on))
+            (one s scope w b c (and_parts (is_scalar (kind_of p f e)) (is_statement p f b c s) typed).1 placed.1 (assigned_back (assigned_objects spot.at e) (assigned_by s) assigns) inside breaks continues))
         one (IfElse spot e s t) scope w b c typed placed assigns next breaks continues = (
             let on = within_nil scope w.next next in
             let laws = and_parts (is_scalar (kind_of p f e) && is_statement p f b c s) (is_statement p f b c t) typed in
             let law = and_parts (is_scalar (kind_of p f e)) (is_statement p f b c s) laws.0 in
             let parts = all_parts IsPlaced (known_of n scope s) (known_of n scope t) placed.1 in
-            let a = assigned_front (assigned spot.at e ++ assigned_by s) (assigned_by t) assigns in
+            let a = assigned_front (assigned_objects spot.at e ++ assigned_by s) (assigned_by t) assigns in
             let here = from_place (stop n scope spot) placed.0 in
-            all_both IsSound (edge spot.at (start s w.next) ++ edge spot.at (start t w.next) ++ flow_of w s) (flow_of w t)
-            (all_both IsSound (edge spot.at (start s w.next) ++ edge spot.at (start t w.next)) (flow_of w s)
-            (all_both IsSound (edge spot.at (start s w.next)) (edge spot.at (start t w.next)) (here (start s w.next) (start_one s scope w.next parts.0 (within_front scope (brought s) w.next on)))
-            (here (start t w.next) (start_one t scope w.next parts.1 (within_front scope (brought t) w.next on))))
-            (one s scope w b c law.1 parts.0 (assigned_back (assigned spot.at e) (assigned_by s) a) (within_front scope (brought s) w.next on) breaks continues))
-            (one t scope w b c laws.1 parts.1 (assigned_back (assigned spot.at e ++ assigned_by s) (assigned_by t) assigns) (within_front scope (brought t) w.next on) breaks continues))
+            all_both IsSound (edge spot.at (start_place s w.next) ++ edge spot.at (start_place t w.next) ++ flow_of w s) (flow_of w t)
+            (all_both IsSound (edge spot.at (start_place s w.next) ++ edge spot.at (start_place t w.next)) (flow_of w s)
+            (all_both IsSound (edge spot.at (start_place s w.next)) (edge spot.at (start_place t w.next)) (here (start_place s w.next) (start_one s scope w.next parts.0 (within_front scope (brought s) w.next on)))
+            (here (start_place t w.next) (start_one t scope w.next parts.1 (within_front scope (brought t) w.next on))))
+            (one s scope w b c law.1 parts.0 (assigned_back (assigned_objects spot.at e) (assigned_by s) a) (within_front scope (brought s) w.next on) breaks continues))
+            (one t scope w b c laws.1 parts.1 (assigned_back (assigned_objects spot.at e ++ assigned_by s) (assigned_by t) assigns) (within_front scope (brought t) w.next on) breaks continues))
         one (While spot e s) scope w b c typed placed assigns next breaks continues = (
             let on = within_nil scope w.next next in
             let round = within_front scope (brought s) (Some spot.at) placed.0.only in
             let here = from_place (stop n scope spot) placed.0 in
-            all_both IsSound (edge spot.at (start s (Some spot.at)) ++ edge spot.at w.next) (flow_of (within_loop spot.at w) s)
-            (all_both IsSound (edge spot.at (start s (Some spot.at))) (edge spot.at w.next) (here (start s (Some spot.at)) (start_one s scope (Some spot.at) placed.1 round)) (here w.next on))
-            (one s scope (within_loop spot.at w) true true (and_parts (is_scalar (kind_of p f e)) (is_statement p f true true s) typed).1 placed.1 (assigned_back (assigned spot.at e) (assigned_by s) assigns) round on placed.0.only))
+            all_both IsSound (edge spot.at (start_place s (Some spot.at)) ++ edge spot.at w.next) (flow_of (within_loop spot.at w) s)
+            (all_both IsSound (edge spot.at (start_place s (Some spot.at))) (edge spot.at w.next) (here (start_place s (Some spot.at)) (start_one s scope (Some spot.at) placed.1 round)) (here w.next on))
+            (one s scope (within_loop spot.at w) true true (and_parts (is_scalar (kind_of p f e)) (is_statement p f true true s) typed).1 placed.1 (assigned_back (assigned_objects spot.at e) (assigned_by s) assigns) round on placed.0.only))
         one (DoWhile s spot e) scope w b c typed placed assigns next breaks continues = (
             let on = within_nil scope w.next next in
             let parts = all_parts IsPlaced (known_of n scope s) (stop n scope spot ∷ []) placed in
             let round = within_front scope (brought s) (Some spot.at) parts.1.0.only in
             let here = from_place (stop n scope spot) parts.1.0 in
-            all_both IsSound (edge spot.at (start s (Some spot.at)) ++ edge spot.at w.next) (flow_of (within_loop spot.at w) s)
-            (all_both IsSound (edge spot.at (start s (Some spot.at))) (edge spot.at w.next) (here (start s (Some spot.at)) (start_one s scope (Some spot.at) parts.0 round)) (here w.next on))
-            (one s scope (within_loop spot.at w) true true (and_parts (is_scalar (kind_of p f e)) (is_statement p f true true s) typed).1 parts.0 (assigned_back (assigned spot.at e) (assigned_by s) assigns) round on parts.1.0.only))
+            all_both IsSound (edge spot.at (start_place s (Some spot.at)) ++ edge spot.at w.next) (flow_of (within_loop spot.at w) s)
+            (all_both IsSound (edge spot.at (start_place s (Some spot.at))) (edge spot.at w.next) (here (start_place s (Some spot.at)) (start_one s scope (Some spot.at) parts.0 round)) (here w.next on))
+            (one s scope (within_loop spot.at w) true true (and_parts (is_scalar (kind_of p f e)) (is_statement p f true true s) typed).1 parts.0 (assigned_back (assigned_objects spot.at e) (assigned_by s) assigns) round on parts.1.0.only))
         one (For start_part spot e step s) scope w b c typed placed assigns next breaks continues = (
             let inside = scope ++ brought_by_start start_part in
             let parts = for_parts scope start_part spot e step s placed in
@@ -283,12 +283,12 @@ module _ (In As : ℕ → ℕ → Type 0) where
             let later = within_front inside (brought s) (Some (round_of step spot.at)) round in
             let body_assigns = assigned_back (assigned_by_start start_part ++ assigned_by_option spot.at e ++ assigned_by_step step) (assigned_by s) assigns in
             let first_two = assigned_front (assigned_by_start start_part ++ assigned_by_option spot.at e) (assigned_by_step step) (assigned_front (assigned_by_start start_part ++ assigned_by_option spot.at e ++ assigned_by_step step) (assigned_by s) assigns) in
-            all_both IsSound (flow_of_start start_part spot.at ++ edge spot.at (start s (Some (round_of step spot.at))) ++ flow_out e spot.at w.next ++ flow_of_step step spot.at) (flow_of (within_loop (round_of step spot.at) w) s)
-            (all_both IsSound (flow_of_start start_part spot.at ++ edge spot.at (start s (Some (round_of step spot.at))) ++ flow_out e spot.at w.next) (flow_of_step step spot.at)
-            (all_both IsSound (flow_of_start start_part spot.at ++ edge spot.at (start s (Some (round_of step spot.at)))) (flow_out e spot.at w.next)
-            (all_both IsSound (flow_of_start start_part spot.at) (edge spot.at (start s (Some (round_of step spot.at))))
+            all_both IsSound (flow_of_start start_part spot.at ++ edge spot.at (start_place s (Some (round_of step spot.at))) ++ flow_out e spot.at w.next ++ flow_of_step step spot.at) (flow_of (within_loop (round_of step spot.at) w) s)
+            (all_both IsSound (flow_of_start start_part spot.at ++ edge spot.at (start_place s (Some (round_of step spot.at))) ++ flow_out e spot.at w.next) (flow_of_step step spot.at)
+            (all_both IsSound (flow_of_start start_part spot.at ++ edge spot.at (start_place s (Some (round_of step spot.at)))) (flow_out e spot.at w.next)
+            (all_both IsSound (flow_of_start start_part spot.at) (edge spot.at (start_place s (Some (round_of step spot.at))))
             (first_part scope start_part spot parts.begin parts.head (assigned_front (assigned_by_start start_part) (assigned_by_option spot.at e) first_two))
-            (from_place (stop n inside spot) parts.head (start s (Some (round_of step spot.at))) (start_one s inside (Some (round_of step spot.at)) parts.body_placed later)))
+            (from_place (stop n inside spot) parts.head (start_place s (Some (round_of step spot.at))) (start_one s inside (Some (round_of step spot.at)) parts.body_placed later)))
             (out_sound inside e spot w.next parts.head on))
             (step_sound inside step spot parts.step_placed parts.head))
             (one s inside (within_loop (round_of step spot.at) w) true true (and_parts (is_start p f start_part && is_condition p f e && is_step p f step) (is_statement p f true true s) typed).1 parts.body_placed body_assigns later on round))
@@ -298,7 +298,7 @@ module _ (In As : ℕ → ℕ → Type 0) where
             let law = and_parts (is_switch tested) (are_statements p f true c tested all) typed in
             all_both IsSound (flow_to_labels spot.at all w.next ++ flow_past spot.at all w.next) (flow_of_all (within_switch w) all)
             (all_both IsSound (flow_to_labels spot.at all w.next) (flow_past spot.at all w.next) (to_labels true c tested all scope spot w.next law.0 law.1 placed.0 placed.1 on) (past all scope spot w.next placed.0 on))
-            (each all scope (within_switch w) true c tested law.1 placed.1 (assigned_back (assigned spot.at e) (assigned_by_statements all) assigns) (within_front scope (brought_by_body all) w.next on) on continues))
+            (each all scope (within_switch w) true c tested law.1 placed.1 (assigned_back (assigned_objects spot.at e) (assigned_by_statements all) assigns) (within_front scope (brought_by_body all) w.next on) on continues))
         one (Break spot) scope w b c typed placed assigns next breaks continues = from_place (stop n scope spot) placed.0 w.by_break breaks
         one (Continue spot) scope w b c typed placed assigns next breaks continues = from_place (stop n scope spot) placed.0 w.by_continue continues
         one (Return spot e) scope w b c typed placed assigns next breaks continues = tt
@@ -311,8 +311,8 @@ module _ (In As : ℕ → ℕ → Type 0) where
             let law = and_parts (may_stand tested s) (is_statement p f b c s) laws.0 in
             let parts = all_parts IsPlaced (known_of n scope s) (known_of_all n (scope ++ brought s) rest) placed in
             let later = within_assoc scope (brought s) (brought_by_body rest) w.next next in
-            all_both IsSound (flow_of (before rest w) s) (flow_of_all w rest)
-            (one s scope (before rest w) b c law.1 parts.0 (assigned_front (assigned_by s) (assigned_by_statements rest) assigns) (start_each rest (scope ++ brought s) w.next parts.1 later) breaks continues)
+            all_both IsSound (flow_of (ways_before rest w) s) (flow_of_all w rest)
+            (one s scope (ways_before rest w) b c law.1 parts.0 (assigned_front (assigned_by s) (assigned_by_statements rest) assigns) (start_each rest (scope ++ brought s) w.next parts.1 later) breaks continues)
             (each rest (scope ++ brought s) w b c tested laws.1 parts.1 (assigned_back (assigned_by s) (assigned_by_statements rest) assigns) later (within_front scope (brought s) w.by_break breaks) (within_front scope (brought s) w.by_continue continues)))
         each (case z rest) scope w b c tested typed placed assigns next breaks continues = each rest scope w b c tested (and_parts (is_label tested z) (are_statements p f b c tested rest) typed).1 placed assigns next breaks continues
         each (default rest) scope w b c tested typed placed assigns next breaks continues = each rest scope w b c tested (and_parts (is_switch tested) (are_statements p f b c tested rest) typed).1 placed assigns next breaks continues

@@ -14,7 +14,7 @@ use Rattle.c_tree.specs.TypedExpressions.{RvalueTree}
 use Rattle.c_tree.specs.TypedStatements as statement
 use Rattle.c_tree.specs.TypedStatements.{DeclaredTree, TypedStartTree, Nothing, Value, Declares, TypedStatementTree, Block, Declaration, Empty, Run, If, IfElse, While, DoWhile, For, Switch, Break, Continue, Return, TypedStatementTrees, case, default}
 use Rattle.c_tree.specs.Programs.{AutomaticTree, TypedFunctionTree, ProgramTree}
-use Rattle.c_places.specs.Places.{Place, stop, brought, brought_by_start, close_of, number_at, parameters_of, places_of, places_of_all, places_of_declarators, places_of_function, places_of_functions, places_of_head, places_of_program, places_of_start, places_of_step}
+use Rattle.c_places.specs.Places.{Place, stop, brought, brought_by_start, close_of, place_number_at, parameters_of, places_of, places_of_all, places_of_declarators, places_of_function, places_of_functions, places_of_head, places_of_program, places_of_start, places_of_step}
 use Rattle.c_type_laws.specs.Declarations.{declared_by, declared_by_start, declared_in, declared_in_all}
 use Rattle.c_type_laws.specs.Expressions.{kind_of}
 use Rattle.c_type_laws.specs.Kinds.{is_scalar}
@@ -156,7 +156,7 @@ of_function P number (g ∷ all) (suc k) f stand is = of_function P (number + 1)
 module _ (p : ProgramTree) (formed : IsWellFormed p) (u : UnitForm) (built : IsUnitOf p u) where
   -- a position has the number of a place
   abbrev IsPosition : ℕ → Type 0
-  IsPosition at = IsNumber p (number_at (places_of_program p) at)
+  IsPosition at = IsNumber p (place_number_at (places_of_program p) at)
 
   all_positions : AllByRecursion (λ (q : Place). IsPosition q.spot.at) (places_of_program p)
   all_positions = each_from (λ (q : Place). IsPosition q.spot.at) (places_of_program p) (λ k q is.
@@ -165,7 +165,7 @@ module _ (p : ProgramTree) (formed : IsWellFormed p) (u : UnitForm) (built : IsU
       record { some = omega (arith, number); most = omega (arith, number, within) })
 
   -- where a variable of a function is declared
-  declared_number : (f : TypedFunctionTree) (k : ℕ) → slice_get p.functions k ≡ Some f → (x : ℕ) → f.first_variable ≤ x → x < f.first_variable + f.variables → IsNumber p (declared_at p f (number_at (places_of_program p) f.spot.at) x)
+  declared_number : (f : TypedFunctionTree) (k : ℕ) → slice_get p.functions k ≡ Some f → (x : ℕ) → f.first_variable ≤ x → x < f.first_variable + f.variables → IsNumber p (declared_at p f (place_number_at (places_of_program p) f.spot.at) x)
   declared_number f k is x low high = by (nat_lt x (f.first_variable + f.parameters)) refl (slice_get p.automatics x) refl
     where
       own : (n : ℕ) × AllByRecursion (λ (q : Place). IsPosition q.spot.at) (places_of_function n f)
@@ -175,7 +175,7 @@ module _ (p : ProgramTree) (formed : IsWellFormed p) (u : UnitForm) (built : IsU
       entry = own.1.0
 
       by : (b : Bool) → nat_lt x (f.first_variable + f.parameters) ≡ b → (o : Option AutomaticTree) → slice_get p.automatics x ≡ o
-          → IsNumber p (if b then number_at (places_of_program p) f.spot.at else option_map_or (λ (a : AutomaticTree). number_at (places_of_program p) a.spot.at) o (number_at (places_of_program p) f.spot.at))
+          → IsNumber p (if b then place_number_at (places_of_program p) f.spot.at else option_map_or (λ (a : AutomaticTree). place_number_at (places_of_program p) a.spot.at) o (place_number_at (places_of_program p) f.spot.at))
       by true e o at = entry
       by false e None at = entry
       by false e (Some a) at = own_declared p f own.0 IsPosition ((accepted.facts_of p formed).functions k f is) own.1 x (not_less x (f.first_variable + f.parameters) e) high a at

@@ -6,7 +6,7 @@ use Rattle.std.proofs.lemmas.Option.{same_Some, slice_get_within}
 use Rattle.places.specs.declared.table.PlaceRow.{PlaceRow}
 use Rattle.c_tree.specs.Programs.{ProgramTree}
 use Rattle.c_places.specs.Places.{Place, places_of_program}
-use Rattle.c_flow.specs.Rows.{Row, row_of, row_view, rows_of_program}
+use Rattle.c_flow.specs.Rows.{Row, flow_row, row_view, rows_of_program}
 use Rattle.c_type_laws.specs.Laws.{IsWellFormed}
 use Rattle.graph_core.specs.Graphs.{UnitForm}
 use Rattle.graph_core.specs.Paths.{Among}
@@ -36,13 +36,13 @@ module _ (p : ProgramTree) (formed : IsWellFormed p) (m : Form) (u v : UnitForm)
   -- the row of a place
   row_there : (i : ℕ) (q : Place) → slice_get (places_of_program p) i ≡ Some q → (r : PlaceRow) × (slice_get rows i ≡ Some r) × (r.is_entry ≡ q.is_entry)
   row_there i q there =
-      let r = from_map row_view rows i (row_of p q) (ap (λ l. slice_get l i) rows_are ∙ map_at (row_of p) (places_of_program p) i q there) in
+      let r = from_map row_view rows i (flow_row p q) (ap (λ l. slice_get l i) rows_are ∙ map_at (flow_row p) (places_of_program p) i q there) in
       (r.0, r.1, ap (λ (z : Row). z.is_entry) r.2)
 
   -- the place of a row
   place_there : (i : ℕ) (r : PlaceRow) → slice_get rows i ≡ Some r → (q : Place) × (slice_get (places_of_program p) i ≡ Some q) × (r.is_entry ≡ q.is_entry)
   place_there i r there =
-      let q = from_map (row_of p) (places_of_program p) i (row_view r) (ap (λ l. slice_get l i) (sym rows_are) ∙ map_at row_view rows i r there) in
+      let q = from_map (flow_row p) (places_of_program p) i (row_view r) (ap (λ l. slice_get l i) (sym rows_are) ∙ map_at row_view rows i r there) in
       (q.0, q.1, sym (ap (λ (z : Row). z.is_entry) q.2))
 
   -- an image has the program's entries

@@ -16,7 +16,7 @@ use Rattle.image_form.specs.Rules.{IsImage}
 use Rattle.image_build_tables.specs.Spans.{span, code_span}
 use Rattle.image_build_tables.specs.Storages.{storages_of}
 use Rattle.image_build_tables.specs.Variables.{shape, shapes_of, owner, owners_of, declared_names, name_length, length_of_name, storage}
-use Rattle.rv_machine.specs.State.{State, reg}
+use Rattle.rv_machine.specs.State.{MachineState, reg}
 use Rattle.rv_machine.specs.Run.{is_stop}
 use Rattle.stop_engine_view.specs.Reading.{place_at, depth, frames, frames_from, greatest_depth}
 use Rattle.stop_engine_view.specs.Rows.{rows_at}
@@ -101,7 +101,7 @@ module _ (p : ProgramTree) (m : Form) (functions : map name_length m.functions �
     (literal_law : (n : ℕ) (l : LiteralTree) → slice_get p.literals n ≡ Some l → (1 ≤ length l.bytes) × (length l.bytes ≤ 4294967295))
     (h : HomedForm) (valid : IsValid h.unit) (homed : HaveHomes h) (e : EmittedForm) (code : IsCode h e) (storages : map storage m.variables ≡ storages_of h e (length m.variables)) (spans : map span m.functions ≡ map code_span e.functions) (words : m.owners ≡ e.owners) (outermost : slice_index e.owners 2 ≡ 0)
     (unit : HasVariablesIn p h.unit) (has : HasPlacesOf h.unit m) (tells : Tells h code.arrangement e) (stops_are : (address : ℕ) → is_stop (image.stop_addresses m) address ≡ is_stop (laid.stop_addresses e) address)
-    (place deep : ℕ) (activations : List source-frame.Frame) (visible : List Shown) (memory : source-memory.Memory) (s : State) (t : MeetAt p h e code.arrangement place deep activations visible memory s) where
+    (place deep : ℕ) (activations : List source-frame.Frame) (visible : List Shown) (memory : source-memory.Memory) (s : MachineState) (t : MeetAt p h e code.arrangement place deep activations visible memory s) where
   pub short : length s.code ≤ most_words s.map
   short = subst (λ r. length s.code ≤ most_words r) (sym t.stands.map) (subst (λ c. length c ≤ most_words e.map) (sym t.code) code.short)
 

@@ -4,7 +4,7 @@ use Rattle.std.proofs.lemmas.Option.{same_Some}
 use Rattle.debug_records.specs.declared.mode.Mode.{Mode}
 use Rattle.c_tree.specs.Programs.{ProgramTree, AutomaticTree}
 use Rattle.c_places.specs.Places.{places_of_program, visible}
-use Rattle.c_flow.specs.Rows.{Row, row_of, row_view, rows_of_program}
+use Rattle.c_flow.specs.Rows.{Row, flow_row, row_view, rows_of_program}
 use Rattle.c_type_laws.specs.Laws.{IsWellFormed}
 use Rattle.c_type_laws.specs.Names.{HasNames}
 use Rattle.c_meaning_values.specs.Memory as source-memory
@@ -12,9 +12,9 @@ use Rattle.c_meaning_steps.specs.declared.event.Frame as source-frame
 use Rattle.c_meaning_steps.specs.States.{Shown}
 use Rattle.image_form.specs.Form.{Form}
 use Rattle.image_form.specs.Rules.{IsImage}
-use Rattle.image_build_tables.specs.Tables.{sight}
+use Rattle.image_build_tables.specs.Tables.{pair_of_row}
 use Rattle.image_build_tables.specs.Rows.{telling_of}
-use Rattle.rv_machine.specs.State.{State}
+use Rattle.rv_machine.specs.State.{MachineState}
 use Rattle.rv_machine.specs.Run.{is_stop}
 use Rattle.stop_engine_view.specs.Run as image
 use Rattle.graph_core.specs.Graphs.{Graph, UnitForm}
@@ -116,7 +116,7 @@ module _ (mode : Mode) (p : ProgramTree) (h : HomedForm) (m : Form) (formed : Is
   scalars : AreScalars p h.unit
   scalars = are_scalars first h.unit statics functions p (scalars_of p formed first kept.built.forms)
 
-  rows_seen : map sight m.rows ≡ seen_from 1 (map (λ (r : Row). r.visible) (rows_of_program p))
+  rows_seen : map pair_of_row m.rows ≡ seen_from 1 (map (λ (r : Row). r.visible) (rows_of_program p))
   rows_seen = tables.visible ∙ seen_same 1 (rows_of_program p)
 
   -- the row of a place is that of its graph's function
@@ -125,7 +125,7 @@ module _ (mode : Mode) (p : ProgramTree) (h : HomedForm) (m : Form) (formed : Is
       let back = graph_back first.graphs h.unit.graphs functions f g at in
       let ascend = (facts_of p formed).ascend in
       let place = place_of p first kept.built.forms (numbered_in (places_of_program p) ascend) (λ k t there is_main. graph_markers p k t there is_main ascend) f n back.0 back.1 (place_back back.0 g back.2 n of) in
-      let row = from_map row_view made.parts.places place.0 (row_of p place.1) (ap (λ l. slice_get l place.0) made.parts.places_are ∙ map_at (row_of p) (places_of_program p) place.0 place.1 place.3) in
+      let row = from_map row_view made.parts.places place.0 (flow_row p place.1) (ap (λ l. slice_get l place.0) made.parts.places_are ∙ map_at (flow_row p) (places_of_program p) place.0 place.1 place.3) in
       let number = place.2 in
       record { index = place.0; row = row.0; number_is = omega (arith, number); is = row.1; function_is = ap (λ (z : Row). z.function) row.2 ∙ place.4 }
 
@@ -137,7 +137,7 @@ module _ (mode : Mode) (p : ProgramTree) (h : HomedForm) (m : Form) (formed : Is
   nodes_come : ComeToRecipes h made.emitted made.emits.code.arrangement m (telling_of h made.parts.places made.emitted)
   nodes_come = come p m tables.functions tables.variables tables.owners tables.names.0 tables.names.1 rules h homed.valid homed.homes made.emits.code.arrangement made.emitted made.parts.storages unit made.emits.told made.parts.places row_there
 
-  scalar_there : (place deep : ℕ) (activations : List source-frame.Frame) (shown : List Shown) (memory : source-memory.Memory) (s : State) (t : MeetAt p h made.emitted made.emits.code.arrangement place deep activations shown memory s)
+  scalar_there : (place deep : ℕ) (activations : List source-frame.Frame) (shown : List Shown) (memory : source-memory.Memory) (s : MachineState) (t : MeetAt p h made.emitted made.emits.code.arrangement place deep activations shown memory s)
       → t.lower.here.place ≡ place → (k x : ℕ) (v : AutomaticTree) → slice_get (visible p.automatics t.stop.at.scope) k ≡ Some x → slice_get p.automatics x ≡ Some v → v.in_memory ≡ false → IsScalarIn t.upper.here.graph (automatic_number p x) v.of
   scalar_there place deep activations shown memory s t here k x v is declared outside =
       let of = of_function h t.lower.here t.running.here in

@@ -14,7 +14,7 @@ use Rattle.c_tree.specs.Programs.{ProgramTree, StaticTree, AutomaticTree, Litera
 use Rattle.c_places.specs.Places.{Place, places_of_program}
 use Rattle.c_places.specs.Places as places
 use Rattle.c_flow.specs.Assigns.{variable_number}
-use Rattle.c_flow.specs.Rows.{Row, variable_if, numbers_of, row_of, rows_of_program}
+use Rattle.c_flow.specs.Rows.{Row, variable_if, numbers_of, flow_row, rows_of_program}
 use Rattle.c_meaning_values.specs.Memory as source-memory
 use Rattle.c_meaning_values.specs.Memory.{contents}
 use Rattle.c_meaning_steps.specs.declared.event.Frame as source-frame
@@ -28,8 +28,8 @@ use Rattle.image_form.specs.declared.verdicts.VisibleRow.{VisibleRow}
 use Rattle.image_build_tables.specs.Spans.{span, code_span}
 use Rattle.image_build_tables.specs.Storages.{storages_of}
 use Rattle.image_build_tables.specs.Variables.{shape, shapes_of, owner, owners_of, declared_names, name_length, length_of_name, storage}
-use Rattle.image_build_tables.specs.Tables.{Sight, sight}
-use Rattle.rv_machine.specs.State.{State}
+use Rattle.image_build_tables.specs.Tables.{VisiblePair, pair_of_row}
+use Rattle.rv_machine.specs.State.{MachineState}
 use Rattle.rv_machine.specs.Run.{is_stop}
 use Rattle.stop_engine_view.specs.Rows.{rows_at}
 use Rattle.stop_engine_view.specs.Run as image
@@ -94,9 +94,9 @@ module _ (p : ProgramTree) (m : Form) (functions : map name_length m.functions �
     (literal_law : (n : ℕ) (l : LiteralTree) → slice_get p.literals n ≡ Some l → (1 ≤ length l.bytes) × (length l.bytes ≤ 4294967295))
     (h : HomedForm) (valid : IsValid h.unit) (homed : HaveHomes h) (e : EmittedForm) (code : IsCode h e) (storages : map storage m.variables ≡ storages_of h e (length m.variables)) (spans : map span m.functions ≡ map code_span e.functions) (words : m.owners ≡ e.owners) (outermost : slice_index e.owners 2 ≡ 0)
     (unit : HasVariablesIn p h.unit) (has : HasPlacesOf h.unit m) (tells : Tells h code.arrangement e) (stops_are : (address : ℕ) → is_stop (image.stop_addresses m) address ≡ is_stop (laid.stop_addresses e) address)
-    (place deep : ℕ) (activations : List source-frame.Frame) (visible : List Shown) (memory : source-memory.Memory) (s : State) (t : MeetAt p h e code.arrangement place deep activations visible memory s)
+    (place deep : ℕ) (activations : List source-frame.Frame) (visible : List Shown) (memory : source-memory.Memory) (s : MachineState) (t : MeetAt p h e code.arrangement place deep activations visible memory s)
     -- rows stand place by place, for each variable that is visible there
-    (rows_seen : map sight m.rows ≡ seen_from 1 (map (λ (r : Row). r.visible) (rows_of_program p)))
+    (rows_seen : map pair_of_row m.rows ≡ seen_from 1 (map (λ (r : Row). r.visible) (rows_of_program p)))
     -- where a row says that a home shows a variable, that is so on all paths
     (home_holds : (k : ℕ) (r : VisibleRow) → slice_get m.rows k ≡ Some r → r.verdict ≡ Home → (f x : ℕ) (g : Graph) → slice_get h.unit.graphs f ≡ Some g → IsVariable g x r.variable → HoldsOnAllPaths (home_of h f) g r.place x (Of (Name x)))
     -- a visible variable that is not in memory is a scalar of the graph
@@ -141,11 +141,11 @@ module _ (p : ProgramTree) (m : Form) (functions : map name_length m.functions �
   below k x is = let v = declared_there k x is in slice_get_within p.automatics x v.0 v.1
 
   -- the rows are of them
-  rows_there : map sight (rows_at place m.rows) ≡ map (seen_at place) (map (automatic_number p) there)
+  rows_there : map pair_of_row (rows_at place m.rows) ≡ map (seen_at place) (map (automatic_number p) there)
   rows_there =
       let some = t.stop.some in
       let row : slice_get (map (λ (r : Row). r.visible) (rows_of_program p)) (place - 1) ≡ Some (numbers_of p there) =
-      map_at (λ (r : Row). r.visible) (rows_of_program p) (place - 1) (row_of p t.stop.at) (map_at (row_of p) (places_of_program p) (place - 1) t.stop.at t.stop.is) in
+      map_at (λ (r : Row). r.visible) (rows_of_program p) (place - 1) (flow_row p t.stop.at) (map_at (flow_row p) (places_of_program p) (place - 1) t.stop.at t.stop.is) in
       rows_of_place place (place - 1) m.rows (map (λ (r : Row). r.visible) (rows_of_program p)) (numbers_of p there) rows_seen row (omega (arith, some))
       ∙ ap (map (seen_at place)) (numbers_are p there below)
 
@@ -190,17 +190,17 @@ module _ (p : ProgramTree) (m : Form) (functions : map name_length m.functions �
       many : length (rows_at place m.rows) ≡ length there
       many =
           let all = ap length rows_there in
-          let a = length-map (rows_at place m.rows) sight in
+          let a = length-map (rows_at place m.rows) pair_of_row in
           let b = length-map (map (automatic_number p) there) (seen_at place) in
           let c = length-map there (automatic_number p) in
           omega (arith, all, a, b, c)
 
       each : (k x : ℕ) (r : VisibleRow) → slice_get there k ≡ Some x → slice_get (rows_at place m.rows) k ≡ Some r → SameVisible p m s memory (shown_of p deep memory x) r
       each k x r is at =
-          let alike : sight r ≡ seen_at place (automatic_number p x) =
-          same_Some (sight r) (seen_at place (automatic_number p x)) (sym (map_at sight (rows_at place m.rows) k r at) ∙ ap (λ l. slice_get l k) rows_there ∙ map_at (seen_at place) (map (automatic_number p) there) k (automatic_number p x) (map_at (automatic_number p) there k x is)) in
-          let here : r.place ≡ place = ap (λ (z : Sight). z.place) alike in
-          let variable : r.variable ≡ automatic_number p x = ap (λ (z : Sight). z.variable) alike in
+          let alike : pair_of_row r ≡ seen_at place (automatic_number p x) =
+          same_Some (pair_of_row r) (seen_at place (automatic_number p x)) (sym (map_at pair_of_row (rows_at place m.rows) k r at) ∙ ap (λ l. slice_get l k) rows_there ∙ map_at (seen_at place) (map (automatic_number p) there) k (automatic_number p x) (map_at (automatic_number p) there k x is)) in
+          let here : r.place ≡ place = ap (λ (z : VisiblePair). z.place) alike in
+          let variable : r.variable ≡ automatic_number p x = ap (λ (z : VisiblePair). z.variable) alike in
           let v = declared_there k x is in
           let i = row_there place m.rows k r at in
           record {

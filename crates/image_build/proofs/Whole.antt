@@ -15,10 +15,10 @@ use Rattle.c_meaning_steps.specs.declared.event.Frame as source-frame
 use Rattle.c_meaning_steps.specs.States as source
 use Rattle.c_meaning_steps.specs.States.{Event, Shown}
 use Rattle.image_form.specs.Form.{Form}
-use Rattle.rv_machine.specs.State.{State}
+use Rattle.rv_machine.specs.State.{MachineState}
 use Rattle.rv_machine.specs.Table.{started}
 use Rattle.rv_machine.specs.Run as machine
-use Rattle.rv_machine.specs.Run.{MachineEvent, run, is_stop}
+use Rattle.rv_machine.specs.Run.{MachineEvent, machine_run, is_stop}
 use Rattle.stop_engine_view.specs.Run as image
 use Rattle.event_runs.specs.Agreement.{Agree, Pairs}
 use Rattle.event_runs.specs.Following.{Follows, Reached, Both}
@@ -27,7 +27,7 @@ use Rattle.graph_core.specs.Graphs.{UnitForm}
 use Rattle.graph_core.specs.Memory as unit-memory
 use Rattle.graph_core.specs.Runs as unit
 use Rattle.graph_core.specs.Runs.{unit_run, frame}
-use Rattle.graph_build_names.specs.Conversions.{word_of}
+use Rattle.graph_build_names.specs.Conversions.{unsigned_bits}
 use Rattle.graph_build_runs.specs.Correspondence as built
 use Rattle.graph_build_runs.specs.Correspondence.{AreBytes}
 use Rattle.graph_build_runs.specs.Typed.{AreTyped, OwnersDiffer}
@@ -54,12 +54,12 @@ use Rattle.image_build.proofs.Carried.{frames_same}
 use Rattle.image_build.proofs.Shadowed.{shadowed, all_shadowed, frames_are, are_same, are_shown}
 
 -- the int of the word of an int is that int
-int_again : (z : ℤ) → holds (integer Int) z ≡ true → cast_signed w32 (word_of z) ≡ z
+int_again : (z : ℤ) → holds (integer Int) z ≡ true → cast_signed w32 (unsigned_bits z) ≡ z
 int_again (pos n) h = let le : n ≤ 2147483647 = leb-true n 2147483647 h in omega (arith, ints, le)
 int_again (negsuc n) h =
     let le : n ≤ 2147483647 = leb-true n 2147483647 (and_parts (int_le (negsuc 2147483647) (negsuc n)) true h).0 in
     let fits : FitsSigned w32 (negsuc n) = record { sfits = omega (arith, le) } in
-    let same : word_of (negsuc n) ≡ cast_unsigned w32 (negsuc n) = omega (arith, ints, le) in
+    let same : unsigned_bits (negsuc n) ≡ cast_unsigned w32 (negsuc n) = omega (arith, ints, le) in
     ap (cast_signed w32) same ∙ to_z-of_z w32 (negsuc n) fits
 
 are_bytes : (input : List ℕ) → AllByRecursion (λ b. b < 256) input → AreBytes input
@@ -76,7 +76,7 @@ module _ (p : ProgramTree) (first : UnitForm) (h : HomedForm) (m : Form) (e : Em
     -- what is so of each event of the program
     (source_events : (input : List ℕ) → AreBytes input → (turns : ℕ) → AllByRecursion (IsEventOf p) (events_of p input turns))
     -- where all meet at a stop, the machine stands at the program's stop
-    (same_stop : (place deep : ℕ) (activations : List source-frame.Frame) (visible : List Shown) (memory : source-memory.Memory) (s : State) → MeetAt p h e a place deep activations visible memory s → SameStop p m place deep activations visible memory s) where
+    (same_stop : (place deep : ℕ) (activations : List source-frame.Frame) (visible : List Shown) (memory : source-memory.Memory) (s : MachineState) → MeetAt p h e a place deep activations visible memory s → SameStop p m place deep activations visible memory s) where
   -- ---- Events
 
   -- an event of the program and one of the unit: one of the first unit is both
@@ -87,7 +87,7 @@ module _ (p : ProgramTree) (first : UnitForm) (h : HomedForm) (m : Form) (e : Em
   Met = Through event_of (IsEventOf p) (IsSeenRunning (over_homes h)) First (homed.SameSeen h) (emitted.SameSeen h e a)
 
   -- where all meet, with the shadows that the first unit shows
-  meet : (place depth : ℕ) (activations : List source-frame.Frame) (visible : List Shown) (memory : source-memory.Memory) (seen : List unit.Frame) (others : unit-memory.Memory) (c d : unit.Configuration) (s : State)
+  meet : (place depth : ℕ) (activations : List source-frame.Frame) (visible : List Shown) (memory : source-memory.Memory) (seen : List unit.Frame) (others : unit-memory.Memory) (c d : unit.Configuration) (s : MachineState)
       → IsStopOf p place depth visible memory → built.StandsAt place activations → depth ≡ length activations → built.SameFrames p memory others first activations seen → AreTyped memory → OwnersDiffer memory → built.SameMemory p memory others
       → Pairs passed.SameFrame seen (frame c.here ∷ map frame c.waiting) → others ≡ c.memory → homed.AreSame h c d → homed.AreShown h c.here d.here → IsRunning (over_homes h) d → emitted.StandsAt h e a d s → s.code ≡ e.code
       → MeetAt p h e a place depth activations visible memory s
@@ -142,8 +142,8 @@ module _ (p : ProgramTree) (first : UnitForm) (h : HomedForm) (m : Form) (e : Em
   -- the run of the image is that of the code
   image_is : (input : List ℕ) (limit : ℕ) → image.image_run m input limit ≡ emitted_run e input limit
   image_is input limit =
-      ap (λ r. run (image.stop_addresses m) limit (started r m.code m.initial input)) map_is
-      ∙ ap (λ c. run (image.stop_addresses m) limit (started e.map c m.initial input)) code_is ∙ ap (λ i. run (image.stop_addresses m) limit (started e.map e.code i input)) initial_is
+      ap (λ r. machine_run (image.stop_addresses m) limit (started r m.code m.initial input)) map_is
+      ∙ ap (λ c. machine_run (image.stop_addresses m) limit (started e.map c m.initial input)) code_is ∙ ap (λ i. machine_run (image.stop_addresses m) limit (started e.map e.code i input)) initial_is
       ∙ run_same (image.stop_addresses m) (stop_addresses e) stops_are limit (started e.map e.code e.initial input)
 
   -- it follows the program's events

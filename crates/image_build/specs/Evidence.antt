@@ -20,7 +20,8 @@ use Rattle.image_form.specs.declared.verdicts.Verdict.{Verdict}
 use Rattle.image_form.specs.declared.verdicts.Verdict.TheVariants as verdict
 use Rattle.image_form.specs.declared.verdicts.VisibleRow.{VisibleRow}
 
--- There is a path by the flow from a start by way of a place to a stop, on which no place between its ends assigns the variable.
+-- There is a path by the flow from a start by way of a place to a stop, on which no place between its ends assigns the
+-- variable.
 pub record HasPath (flow : FlowTable) (variable start via stop : ℕ) : Type 0 where
   pub path : List ℕ
   pub route : IsRoute (quest_by flow variable start via stop) path
@@ -29,7 +30,10 @@ pub record HasPath (flow : FlowTable) (variable start via stop : ℕ) : Type 0 w
 module _ (h : HomedForm) (a : Arrangement) (e : EmittedForm) where
   -- No word of a place writes a home: none of the code of the function that belongs to the place may.
   abbrev pub IsBare : (f place : ℕ) → Home → Type 0
-  IsBare f place home = (code : FunctionCode) → slice_get e.functions f ≡ Some code → (index : ℕ) → code.first ≤ address_of index → address_of index < code.end → slice_index e.owners index ≡ place → MayWrite (code_of h a f).storage e.code home index → ⊥
+  IsBare f place home =
+      (code : FunctionCode) → slice_get e.functions f ≡ Some code → (index : ℕ) → code.first ≤ address_of index
+      → address_of index < code.end → slice_index e.owners index ≡ place
+      → MayWrite (code_of h a f).storage e.code home index → ⊥
 
   -- The word at an address writes a home, and belongs to a place.
   pub record WritesAt (f place : ℕ) (home : Home) (address : ℕ) : Type 0 where
@@ -59,7 +63,8 @@ module _ (h : HomedForm) (a : Arrangement) (e : EmittedForm) where
 
   -- given: the flow of its program
   module _ (flow : FlowTable) where
-    -- EVIDENCE THAT AN ASSIGNMENT WENT: by a change it went from the place where the path begins, which assigns the variable, and no word of this place writes the variable's home.
+    -- EVIDENCE THAT AN ASSIGNMENT WENT: by a change it went from the place where the path begins, which assigns the
+    -- variable, and no word of this place writes the variable's home.
     pub record WasRemoved (variable stop change start : ℕ) : Type 0 where
       pub scalar : IsScalar variable
       pub removed : IsRemoval h.unit.log change variable start
@@ -67,8 +72,9 @@ module _ (h : HomedForm) (a : Arrangement) (e : EmittedForm) where
       pub path : HasPath flow variable start start stop
       pub bare : start ≢ 0 → IsBare scalar.f start (home_of h scalar.f scalar.x)
 
-    -- EVIDENCE THAT A HOME WAS WRITTEN FOR ANOTHER NAME: the change is of this kind and concerns the variable; the path begins where the variable is assigned; and the word at the address, which belongs to a place of the path before its
-    -- last, writes the variable's home.
+    -- EVIDENCE THAT A HOME WAS WRITTEN FOR ANOTHER NAME: the change is of this kind and concerns the variable; the path
+    -- begins where the variable is assigned; and the word at the address, which belongs to a place of the path before
+    -- its last, writes the variable's home.
     pub record WasWritten (kind : Kind) (variable stop change start address : ℕ) : Type 0 where
       pub scalar : IsScalar variable
       pub logged : IsLogged h.unit.log change kind variable
@@ -90,13 +96,18 @@ module _ (h : HomedForm) (a : Arrangement) (e : EmittedForm) where
     abbrev pub AreEvidentIn : List VisibleRow → Type 0
     AreEvidentIn rows = (r : VisibleRow) → Among r rows → IsEvidentIn r.variable r.place r.verdict
 
-    -- EVIDENCE OF A QUIET PATH: it begins at a place that assigns the variable, no change took that assignment, and no place between its ends assigns the variable or has a word that may write its home.
+    -- EVIDENCE OF A QUIET PATH: it begins at a place that assigns the variable, no change took that assignment, and no
+    -- place between its ends assigns the variable or has a word that may write its home.
     pub record IsQuietIn (variable stop start : ℕ) : Type 0 where
       pub scalar : IsScalar variable
       pub assigned : assigns flow.assignments.items start variable ≡ true
       pub stays : (number : ℕ) → IsRemoval h.unit.log number variable start → ⊥
-      pub path : GoesBy flow (λ p. (assigns flow.assignments.items p variable ≡ true) ⊎ OwnsWriter scalar.f p (home_of h scalar.f scalar.x)) start stop
+      pub path : GoesBy flow
+          (λ p. (assigns flow.assignments.items p variable ≡ true)
+          ⊎ OwnsWriter scalar.f p (home_of h scalar.f scalar.x))
+          start stop
 
     -- Where a row tells at which place a quiet path begins, there is one.
     abbrev pub AreQuietIn : List VisibleRow → Type 0
-    AreQuietIn rows = (r : VisibleRow) (start : ℕ) → Among r rows → r.quiet ≡ Some start → IsQuietIn r.variable r.place start
+    AreQuietIn rows =
+        (r : VisibleRow) (start : ℕ) → Among r rows → r.quiet ≡ Some start → IsQuietIn r.variable r.place start

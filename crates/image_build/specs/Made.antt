@@ -31,12 +31,12 @@ use Rattle.image_build_tables.specs.Tables.{assigned_pair, change_record, flow_p
 use Rattle.image_build.specs.Carried.{CarriesOut}
 use Rattle.image_build.specs.Evidence.{AreEvidentIn, AreQuietIn}
 
--- Verdicts are borne out by a unit with homes: where one says that a home shows a variable, or gives a recipe for it, that
--- is so on all paths. A recipe is given only where the home does not show the variable and no other recipe holds, and
--- beside it stands the least change that removed its assignment; a variable is hidden only where no recipe holds. At a
--- place that no path reaches each is said to be shown by its home. The change that one names is in the log, and what one
--- says to write a home does so, and hides the variable. Where nothing disturbs the home of a hidden variable on a path, the
--- least place at which such a path begins is told.
+-- Verdicts are borne out by a unit with homes: where one says that a home shows a variable, or gives a recipe for it,
+-- that is so on all paths. A recipe is given only where the home does not show the variable and no other recipe holds,
+-- and beside it stands the least change that removed its assignment; a variable is hidden only where no recipe holds.
+-- At a place that no path reaches each is said to be shown by its home. The change that one names is in the log, and
+-- what one says to write a home does so, and hides the variable. Where nothing disturbs the home of a hidden variable
+-- on a path, the least place at which such a path begins is told.
 pub record AreBorneOut (h : HomedForm) (told : List PlaceVerdict) : Type 0 where
   pub flow : FlowTable
   pub steps : flow.steps.items ≡ h.unit.steps
@@ -52,8 +52,8 @@ pub record AreBorneOut (h : HomedForm) (told : List PlaceVerdict) : Type 0 where
   pub written : AreWritten h told
   pub evident : AreEvident h.unit.log flow h told
 
--- The rows of an image say what verdicts say that are borne out, with the nodes of their recipes and with the addresses of what writes homes: they stand for the
--- same numbers as rows that say so; and there are no other nodes.
+-- The rows of an image say what verdicts say that are borne out, with the nodes of their recipes and with the addresses
+-- of what writes homes: they stand for the same numbers as rows that say so; and there are no other nodes.
 pub record HasRowsOf (h : HomedForm) (e : EmittedForm) (places : List PlaceRow) (m : Form) : Type 0 where
   pub told : List PlaceVerdict
   pub borne_out : AreBorneOut h told
@@ -62,7 +62,8 @@ pub record HasRowsOf (h : HomedForm) (e : EmittedForm) (places : List PlaceRow) 
   pub needed : AreNodesOf (telling_of h places e) m.nodes told
   pub same : map (row_numbers m.version.level) m.rows ≡ map (row_numbers m.version.level) rows
 
--- A UNIT HAS HOMES OF A MODE: it is valid, each of its names has a home by the rule of the mode, and names that interfere have homes apart.
+-- A UNIT HAS HOMES OF A MODE: it is valid, each of its names has a home by the rule of the mode, and names that
+-- interfere have homes apart.
 pub record IsHomed (mode : Mode) (h : HomedForm) : Type 0 where
   pub valid : IsValid h.unit
   pub homes : HaveHomes h
@@ -79,13 +80,13 @@ pub record HasHomesOf (mode : Mode) (u : UnitForm) (h : HomedForm) : Type 0 wher
   pub homed : IsHomed mode h
 
 -- THE PARTS OF AN IMAGE ARE THOSE OF A UNIT WITH HOMES and of its code, of a program: its words with their owners, its
--- initial bytes, and where its memory lies, are the code's; each function lies where its code does, with its frame; each
--- variable is kept where the code has it; each place has the address of its stop, and an entry that of its function; the
--- changes, the flow and the assignments are the unit's, and the names those of the program and of the passes of the
--- changes. Its rows say what is right of the unit on all paths to the place: by one that shows a variable its home has the
--- value, or the recipe gives it; and a variable is hidden only where neither its home nor any recipe that a note of the
--- unit gives does so. What a row says to hide a variable is evident in the words of the code, and so is the quiet path that
--- it tells of.
+-- initial bytes, and where its memory lies, are the code's; each function lies where its code does, with its frame;
+-- each variable is kept where the code has it; each place has the address of its stop, and an entry that of its
+-- function; the changes, the flow and the assignments are the unit's, and the names those of the program and of the
+-- passes of the changes. Its rows say what is right of the unit on all paths to the place: by one that shows a variable
+-- its home has the value, or the recipe gives it; and a variable is hidden only where neither its home nor any recipe
+-- that a note of the unit gives does so. What a row says to hide a variable is evident in the words of the code, and so
+-- is the quiet path that it tells of.
 pub record HasPartsOf (p : ProgramTree) (h : HomedForm) (a : Arrangement) (e : EmittedForm) (m : Form) : Type 0 where
   pub version : m.version ≡ version_of_map e.map
   pub mode : m.mode ≡ h.mode
@@ -105,8 +106,8 @@ pub record HasPartsOf (p : ProgramTree) (h : HomedForm) (a : Arrangement) (e : E
   pub evident : AreEvidentIn h a e rows.borne_out.flow rows.rows
   pub quiet : AreQuietIn h a e rows.borne_out.flow rows.rows
 
--- AN IMAGE IS MADE OF A UNIT WITH HOMES, of a program: its parts are those of the unit and of its code, and that code does
--- what the unit does over its homes, event by event, with what the unit's homes and objects hold at each stop.
+-- AN IMAGE IS MADE OF A UNIT WITH HOMES, of a program: its parts are those of the unit and of its code, and that code
+-- does what the unit does over its homes, event by event, with what the unit's homes and objects hold at each stop.
 pub record IsMadeOf (p : ProgramTree) (h : HomedForm) (m : Form) : Type 0 where
   pub emitted : EmittedForm
   pub arrangement : Arrangement

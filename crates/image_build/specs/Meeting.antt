@@ -1,6 +1,6 @@
 -- What meets at a stop: the program's run, its unit's, the unit's over homes, and the machine's.
 use Rattle.std.specs.Prelude.{◌≡◌, ℕ, List, ◌∷◌, length, map}
-use Rattle.rv_machine.specs.State.{State}
+use Rattle.rv_machine.specs.State.{MachineState}
 use Rattle.c_tree.specs.Programs.{ProgramTree}
 use Rattle.c_meaning_values.specs.Memory as source-memory
 use Rattle.c_meaning_steps.specs.declared.event.Frame as source-frame
@@ -16,8 +16,11 @@ use Rattle.rv_emit_runs.specs.Standing as machine
 use Rattle.graph_homes.specs.Owned.{IsRunning}
 use Rattle.image_build.specs.Sources.{IsStopOf}
 
--- The program is at a stop, its unit is there with the same activations and the same memory, over homes too, where what recipes say is so, and the machine stands where the unit over homes is.
-pub record MeetAt (p : ProgramTree) (h : HomedForm) (e : EmittedForm) (a : Arrangement) (place deep : ℕ) (activations : List source-frame.Frame) (visible : List Shown) (memory : source-memory.Memory) (s : State) : Type 0 where
+-- The program is at a stop, its unit is there with the same activations and the same memory, over homes too, where what
+-- recipes say is so, and the machine stands where the unit over homes is.
+pub record MeetAt (p : ProgramTree) (h : HomedForm) (e : EmittedForm) (a : Arrangement) (place deep : ℕ)
+    (activations : List source-frame.Frame) (visible : List Shown) (memory : source-memory.Memory) (s : MachineState)
+    : Type 0 where
   pub upper : Configuration
   pub lower : Configuration
   pub stop : IsStopOf p place deep visible memory

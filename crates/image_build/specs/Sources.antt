@@ -25,7 +25,8 @@ module _ (p : ProgramTree) where
   abbrev pub shown_of : (depth : ℕ) → Memory → ℕ → Shown
   shown_of depth memory x = record { variable = x; values = contents (Variable x depth) memory }
 
-  -- A stop is at a place of the program, which is no entry; it shows what is visible there, with what it holds; each object is as its owner is declared, and those of static variables live.
+  -- A stop is at a place of the program, which is no entry; it shows what is visible there, with what it holds; each
+  -- object is as its owner is declared, and those of static variables live.
   pub record IsStopOf (place depth : ℕ) (shown : List Shown) (memory : Memory) : Type 0 where
     pub some : 1 ≤ place
     pub at : Place

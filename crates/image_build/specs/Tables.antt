@@ -12,10 +12,11 @@ use Rattle.image_form.specs.Form.{Form}
 use Rattle.image_form.specs.declared.tables.AssignedPair.{AssignedPair}
 use Rattle.image_form.specs.declared.tables.FlowPair.{FlowPair}
 use Rattle.image_build_tables.specs.Variables.{declared_names, entry, length_of_name, name_length, owner, owners_of, shape, shapes_of}
-use Rattle.image_build_tables.specs.Tables.{Spot, assigned_pair, flow_pair, sight, spot}
+use Rattle.image_build_tables.specs.Tables.{Spot, assigned_pair, flow_pair, pair_of_row, spot}
 pub use Rattle.image_truth_units.specs.Tables.{entry_number as entry_of, entry_place, visible_from}
 
--- A unit has a graph for each function of its program, that begins where the function does, and its steps and assignments.
+-- A unit has a graph for each function of its program, that begins where the function does, and its steps and
+-- assignments.
 pub record HasShapeOf (p : ProgramTree) (u : UnitForm) : Type 0 where
   pub functions : length u.graphs ≡ length p.functions
   pub entries : map entry_place u.graphs ≡ map (entry_of p) p.functions
@@ -26,10 +27,12 @@ pub record HasShapeOf (p : ProgramTree) (u : UnitForm) : Type 0 where
 abbrev pub spot_of : Row → Spot
 spot_of r = record { position = r.position; line = r.line; function = r.function }
 
--- THE TABLES OF AN IMAGE ARE ITS PROGRAM'S. It has the program's functions and variables, with their names: each function begins at its place, and each variable is declared at its
--- position, in its function, of its elements and of so many of them. Its places are the program's, in their order, each at its position, on its line, in its function; execution goes from one place directly to
--- another where that is a step of the program's flow, and a place assigns a variable where the program's does; and a row tells of each variable that is visible at a
--- place, place by place, and of no other.
+-- THE TABLES OF AN IMAGE ARE ITS PROGRAM'S. It has the program's functions and variables, with their names: each
+-- function begins at its place, and each variable is declared at its position, in its function, of its elements and of
+-- so many of them. Its places are the program's, in their order, each at its position, on its line, in its function;
+-- execution goes from one place directly to another where that is a step of the program's flow, and a place assigns a
+-- variable where the program's does; and a row tells of each variable that is visible at a place, place by place, and
+-- of no other.
 pub record HasTablesOf (p : ProgramTree) (m : Form) : Type 0 where
   pub functions : map name_length m.functions ≡ map length_of_name p.functions
   pub entries : map entry m.functions ≡ map (entry_of p) p.functions
@@ -39,4 +42,4 @@ pub record HasTablesOf (p : ProgramTree) (m : Form) : Type 0 where
   pub places : map spot m.places ≡ map spot_of (rows_of_program p)
   pub flow : (s : FlowPair) → Contains m.flow s ↔ Contains (map flow_pair (steps_of_program p)) s
   pub assigned : (a : AssignedPair) → Contains m.assigned a ↔ Contains (map assigned_pair (assignments_of_program p)) a
-  pub visible : map sight m.rows ≡ visible_from 1 (rows_of_program p)
+  pub visible : map pair_of_row m.rows ≡ visible_from 1 (rows_of_program p)

@@ -9,7 +9,7 @@ use Rattle.graph_core.specs.Graphs.{Graph, block_view, graph_view, instruction_v
 use Rattle.rv_emit_tables.specs.declared.emitted.EmittedFunction.{EmittedFunction}
 use Rattle.rv_emit_tables.specs.declared.emitted.PlacedStop.{PlacedStop}
 use Rattle.rv_emit_tables.specs.Emitted.{function_view}
-use Rattle.image_build_tables.specs.Variables.{counted}
+use Rattle.image_build_tables.specs.Variables.{bounded_count}
 use Rattle.image_build_tables.proofs.Ahead.{behind_first}
 use Rattle.places.specs.declared.table.PlaceRow.{PlaceRow}
 use Rattle.image_build_tables.specs.Places.{addresses_from, addresses_of, stop_addresses}
@@ -17,14 +17,14 @@ use Rattle.image_build_tables.specs.Rows.{firsts_from, instruction_number}
 use Rattle.image_build_tables.proofs.Growing.{firsts_seen}
 
 -- what is added as far as numbers go is the sum as far as they go
-pub counted_sum : (added sum number n m : ℕ) → added ≡ min (n + number) 4294967295 → n ≡ counted sum → number ≡ counted m → added ≡ counted (sum + m)
+pub counted_sum : (added sum number n m : ℕ) → added ≡ min (n + number) 4294967295 → n ≡ bounded_count sum → number ≡ bounded_count m → added ≡ bounded_count (sum + m)
 counted_sum added sum number n m is one other = omega (arith, is, one, other)
 
 pub block_length : (b : declared-block.Block) → length b.instructions.items ≡ length (block_view b).instructions
 block_length b = sym (length-map b.instructions.items instruction_view)
 
 -- how many stand before a block is behind those of the blocks before it
-pub before_step : (blocks : List declared-block.Block) (b : declared-block.Block) (counts pushed firsts : List ℕ) (count sum : ℕ) → b ∷ behind_first blocks ≡ blocks → pushed ≡ counts ++ (count ∷ []) → count ≡ counted sum
+pub before_step : (blocks : List declared-block.Block) (b : declared-block.Block) (counts pushed firsts : List ℕ) (count sum : ℕ) → b ∷ behind_first blocks ≡ blocks → pushed ≡ counts ++ (count ∷ []) → count ≡ bounded_count sum
     → counts ++ firsts_from sum (map block_view blocks) ≡ firsts → pushed ++ firsts_from (sum + length (block_view b).instructions) (map block_view (behind_first blocks)) ≡ firsts
 before_step blocks b counts pushed firsts count sum whole push is told =
     let rest = firsts_from (sum + length (block_view b).instructions) (map block_view (behind_first blocks)) in
@@ -48,7 +48,7 @@ pub firsts_there : (graphs : List declared-graph.Graph) (known : List (List ℕ)
 firsts_there graphs known f block is = ap (λ l. option_map (λ (firsts : List ℕ). get_or firsts block 0) (slice_get l f)) is ∙ there graphs f block
 
 -- the number of an instruction
-pub number_sum : (number sum n index : ℕ) → number ≡ counted sum → sum ≡ min (n + index) 18446744073709551615 → number ≡ min (n + index) 4294967295
+pub number_sum : (number sum n index : ℕ) → number ≡ bounded_count sum → sum ≡ min (n + index) 18446744073709551615 → number ≡ min (n + index) 4294967295
 number_sum number sum n index is added = omega (arith, is, added)
 
 -- where a graph is none, no word writes a home of its function

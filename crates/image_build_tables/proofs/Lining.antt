@@ -11,7 +11,7 @@ use Rattle.image_form.specs.declared.verdicts.VisibleRow.{VisibleRow}
 use Rattle.image_build_tables.proofs.Ahead.{behind_first}
 use Rattle.image_build_tables.specs.Nodes.{Begin, Naming}
 use Rattle.image_build_tables.specs.Rows.{AreRowsOf, IsNodeIn, IsRowOf, IsVerdictOf, Telling, naming_at, quiet_of}
-use Rattle.image_build_tables.specs.Tables.{sight, sight_of_verdict}
+use Rattle.image_build_tables.specs.Tables.{pair_of_row, sight_of_verdict}
 use Rattle.image_build_tables.proofs.Growing.{begin_fewer, begin_itself, begin_twice, node_kept}
 
 -- the node that is told of at a place stays it
@@ -36,11 +36,11 @@ row_put w v q rows pushed is put = put ∙ ap (λ (o : Option ℕ). rows ++ (rec
 
 -- the sights of rows, and of those ahead, are those of all
 pub sights_step : (ahead : List PlaceVerdict) (w : PlaceVerdict) (v : Verdict) (rows pushed : List VisibleRow) (all : List PlaceVerdict) → w ∷ behind_first ahead ≡ ahead → pushed ≡ rows ++ (row_of w v ∷ [])
-    → map sight rows ++ map sight_of_verdict ahead ≡ map sight_of_verdict all → map sight pushed ++ map sight_of_verdict (behind_first ahead) ≡ map sight_of_verdict all
+    → map pair_of_row rows ++ map sight_of_verdict ahead ≡ map sight_of_verdict all → map pair_of_row pushed ++ map sight_of_verdict (behind_first ahead) ≡ map sight_of_verdict all
 sights_step ahead w v rows pushed all whole push told =
     let rest = map sight_of_verdict (behind_first ahead) in
-    ap (λ l. map sight l ++ rest) push ∙ ap (λ l. l ++ rest) (map-append sight rows (row_of w v ∷ [])) ∙ append_assoc (map sight rows) (sight_of_verdict w ∷ []) rest
-    ∙ ap (λ ws. map sight rows ++ map sight_of_verdict ws) whole ∙ told
+    ap (λ l. map pair_of_row l ++ rest) push ∙ ap (λ l. l ++ rest) (map-append pair_of_row rows (row_of w v ∷ [])) ∙ append_assoc (map pair_of_row rows) (sight_of_verdict w ∷ []) rest
+    ∙ ap (λ ws. map pair_of_row rows ++ map sight_of_verdict ws) whole ∙ told
 
 -- what is ahead, told by rows, tells all with those that are there, however the nodes grow
 abbrev pub TellAll : Telling → List Node → List VisibleRow → (ahead all : List PlaceVerdict) → Type 0

@@ -19,7 +19,7 @@ use Rattle.image_form.proofs.RecordsBack.{node_back}
 use Rattle.image_form_sections.specs.Layouts.{node_cmp}
 use Rattle.image_form_sections.proofs.FirstAt.{same_three, three_alike, three_same, three_self}
 use Rattle.image_build_tables.specs.Nodes.{AreEarlier, AreOnce, Begin, IsNodeOf, Naming, TellsNumbers, home_node, key, operand_node}
-use Rattle.image_build_tables.specs.Variables.{counted}
+use Rattle.image_build_tables.specs.Variables.{bounded_count as counted}
 use Rattle.image_build_tables.proofs.Growing.{begin_fewer}
 
 -- ---- What a node is tells it

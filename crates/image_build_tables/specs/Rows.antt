@@ -19,31 +19,36 @@ use Rattle.image_form.specs.declared.recipes.Node.{Node}
 use Rattle.image_form.specs.declared.verdicts.Verdict.{Verdict}
 use Rattle.image_form.specs.declared.verdicts.Verdict.TheVariants as verdict
 use Rattle.image_form.specs.declared.verdicts.VisibleRow.{VisibleRow}
-use Rattle.image_build_tables.specs.Variables.{counted}
+use Rattle.image_build_tables.specs.Variables.{bounded_count}
 use Rattle.image_build_tables.specs.declared.rows.Telling as declared-telling
 use Rattle.image_build_tables.specs.Nodes.{AreNewOf, IsNodeOf, IsPartOf, Naming, size_of}
 
 -- for each block how many instructions stand before it, where so many stand before the first
 abbrev pub firsts_from : (count : ℕ) → List Block → List ℕ
 firsts_from count [] = []
-firsts_from count (b ∷ more) = counted count ∷ firsts_from (count + length b.instructions) more
+firsts_from count (b ∷ more) = bounded_count count ∷ firsts_from (count + length b.instructions) more
 
 -- the number of an instruction among those of its graph, block by block
 abbrev pub instruction_number : Graph → (block index : ℕ) → ℕ
-instruction_number g block index = counted (get_or (firsts_from 0 g.blocks) block 0 + index)
+instruction_number g block index = bounded_count (get_or (firsts_from 0 g.blocks) block 0 + index)
 
 -- the address of the word that writes a home
 abbrev pub address_of_writer : List Graph → List FunctionCode → declared-writer.Writer → Option ℕ
 address_of_writer graphs codes (writer.Instruction f block index) =
-    option_and_then (λ (g : Graph). option_and_then (λ (c : FunctionCode). slice_get c.writers (instruction_number g block index)) (slice_get codes f)) (slice_get graphs f)
-address_of_writer graphs codes (writer.Binding f parameter) = option_and_then (λ (c : FunctionCode). slice_get c.bindings parameter) (slice_get codes f)
+    option_and_then
+    (λ (g : Graph). option_and_then (λ (c : FunctionCode). slice_get c.writers (instruction_number g block index))
+    (slice_get codes f))
+    (slice_get graphs f)
+address_of_writer graphs codes (writer.Binding f parameter) =
+    option_and_then (λ (c : FunctionCode). slice_get c.bindings parameter) (slice_get codes f)
 
 -- that of one that may be none
 abbrev pub address_of_some : List Graph → List FunctionCode → Option declared-writer.Writer → Option ℕ
 address_of_some graphs codes None = None
 address_of_some graphs codes (Some w) = address_of_writer graphs codes w
 
--- By what recipes at places are told: the graphs, homes and codes of all functions, the addresses of static objects, and the function of each place.
+-- By what recipes at places are told: the graphs, homes and codes of all functions, the addresses of static objects,
+-- and the function of each place.
 pub record Telling : Type 0 where
   pub graphs : List Graph
   pub homes : List (List Home)
@@ -63,7 +68,12 @@ telling_view t = record {
 -- by what the recipes of a function are told, if it is there
 abbrev pub naming_in : Telling → (function : ℕ) → Option Naming
 naming_in t f =
-    option_and_then (λ (g : Graph). option_and_then (λ (homes : List Home). option_map (λ (c : FunctionCode). record { graph = g; homes = homes; slots = c.slots; statics = t.statics }) (slice_get t.codes f)) (slice_get t.homes f)) (slice_get t.graphs f)
+    option_and_then (λ (g : Graph). option_and_then (λ (homes : List Home). option_map (λ (c : FunctionCode). record {
+      graph = g;
+      homes = homes;
+      slots = c.slots;
+      statics = t.statics;
+    }) (slice_get t.codes f)) (slice_get t.homes f)) (slice_get t.graphs f)
 
 -- by what those at a place are told; places are numbered from 1
 abbrev pub naming_at : Telling → (place : ℕ) → Option Naming
@@ -75,12 +85,16 @@ abbrev pub IsNodeIn : List Node → Option Naming → Recipe → ℕ → Type 0
 IsNodeIn nodes None r k = k ≡ 4294967295
 IsNodeIn nodes (Some n) r k = IsNodeOf nodes n r k
 
--- what an image says where this is told at a place: the same, with the node of the recipe, and the address of the word that writes the home
+-- what an image says where this is told at a place: the same, with the node of the recipe, and the address of the word
+-- that writes the home
 abbrev pub IsVerdictOf : Telling → List Node → (place : ℕ) → told-verdict.Verdict → Verdict → Type 0
 IsVerdictOf t nodes place told.Home v = v ≡ verdict.Home
-IsVerdictOf t nodes place (told.Recovered r change) v = (k : ℕ) × (v ≡ verdict.Recovered change k) × IsNodeIn nodes (naming_at t place) (recipe_view r) k
-IsVerdictOf t nodes place (told.Noncurrent change start w q) v = v ≡ verdict.Noncurrent change start.0 (address_of_some t.graphs t.codes w)
-IsVerdictOf t nodes place (told.Nonresident change start w q) v = v ≡ verdict.Nonresident change start.0 (address_of_writer t.graphs t.codes w)
+IsVerdictOf t nodes place (told.Recovered r change) v =
+    (k : ℕ) × (v ≡ verdict.Recovered change k) × IsNodeIn nodes (naming_at t place) (recipe_view r) k
+IsVerdictOf t nodes place (told.Noncurrent change start w q) v =
+    v ≡ verdict.Noncurrent change start.0 (address_of_some t.graphs t.codes w)
+IsVerdictOf t nodes place (told.Nonresident change start w q) v =
+    v ≡ verdict.Nonresident change start.0 (address_of_writer t.graphs t.codes w)
 
 -- the place at which the quiet path begins that is told of, if one is
 abbrev pub quiet_of : told-verdict.Verdict → Option ℕ
@@ -103,7 +117,8 @@ AreRowsOf t nodes [] (r ∷ rows) = ⊥
 AreRowsOf t nodes (w ∷ more) [] = ⊥
 AreRowsOf t nodes (w ∷ more) (r ∷ rows) = IsRowOf t nodes w r × AreRowsOf t nodes more rows
 
--- each node behind the old ones is that of the recipe or of a part of it, where there is a function in whose names it is; else there is none
+-- each node behind the old ones is that of the recipe or of a part of it, where there is a function in whose names it
+-- is; else there is none
 abbrev pub AreNewIn : (old new : List Node) → Option Naming → Recipe → Type 0
 AreNewIn old new None r = length new ≤ length old
 AreNewIn old new (Some n) r = AreNewOf old new n r
@@ -141,7 +156,9 @@ size_told (told.Nonresident change start w q) = 0
 
 -- the recipes that are told have at most four levels
 abbrev pub AreShallow : List told-row.PlaceVerdict → Type 0
-AreShallow all = (w : told-row.PlaceVerdict) (r : declared-recipe.Recipe) (change : ℕ) → Among w all → w.verdict ≡ told.Recovered r change → depth_of (recipe_view r) ≤ 4
+AreShallow all =
+    (w : told-row.PlaceVerdict) (r : declared-recipe.Recipe) (change : ℕ) → Among w all
+    → w.verdict ≡ told.Recovered r change → depth_of (recipe_view r) ≤ 4
 
 -- Each verdict says that the home of its variable shows it.
 abbrev pub AreShown : List told-row.PlaceVerdict → Type 0
@@ -149,4 +166,5 @@ AreShown all = (w : told-row.PlaceVerdict) → Among w all → w.verdict ≡ tol
 
 -- by what recipes are told in an image with this code, of a unit with these homes, at these places
 abbrev pub telling_of : HomedForm → List PlaceRow → EmittedForm → Telling
-telling_of h rows e = record { graphs = h.unit.graphs; homes = h.homes; codes = e.functions; statics = e.statics; places = rows }
+telling_of h rows e =
+    record { graphs = h.unit.graphs; homes = h.homes; codes = e.functions; statics = e.statics; places = rows }

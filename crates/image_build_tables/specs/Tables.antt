@@ -2,7 +2,7 @@
 use Rattle.std.specs.Prelude.{ℕ, length}
 use Rattle.debug_records.specs.Change.{letters}
 use Rattle.graph_core.specs.Graphs.{Logged}
-use Rattle.image_build_tables.specs.Variables.{counted}
+use Rattle.image_build_tables.specs.Variables.{bounded_count}
 use Rattle.image_form.specs.declared.tables.Change.{Change}
 use Rattle.image_form_sections.specs.declared.version.Level.TheVariants.{Quiet}
 use Rattle.image_form_sections.specs.declared.version.Version.{Version}
@@ -30,7 +30,13 @@ assigned_pair a = record { place = a.place.0; variable = a.var.0 }
 
 -- a change of a log as an image has it: its pass's name is told by its length, and stands among the image's names
 abbrev pub change_record : Logged → Change
-change_record c = record { pass_length = counted (length (letters c.pass)); kind = c.kind; place = c.place; variable = c.variable }
+change_record c =
+    record {
+      pass_length = bounded_count (length (letters c.pass));
+      kind = c.kind;
+      place = c.place;
+      variable = c.variable;
+    }
 
 -- Where a place stands: the position of its token, its line, its function.
 pub record Spot : Type 0 where
@@ -47,14 +53,14 @@ abbrev pub spot_of_row : PlaceRow → Spot
 spot_of_row r = record { position = r.position; line = r.line; function = r.function }
 
 -- A variable that is visible at a place.
-pub record Sight : Type 0 where
+pub record VisiblePair : Type 0 where
   pub place : ℕ
   pub variable : ℕ
 
 -- of what place and variable a row of an image is
-abbrev pub sight : VisibleRow → Sight
-sight r = record { place = r.place; variable = r.variable }
+abbrev pub pair_of_row : VisibleRow → VisiblePair
+pair_of_row r = record { place = r.place; variable = r.variable }
 
 -- of what place and variable a verdict is
-abbrev pub sight_of_verdict : PlaceVerdict → Sight
+abbrev pub sight_of_verdict : PlaceVerdict → VisiblePair
 sight_of_verdict v = record { place = v.place.0; variable = v.var.0 }

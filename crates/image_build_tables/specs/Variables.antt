@@ -32,20 +32,21 @@ element_by_stars base zero = element_of_integer base
 element_by_stars base (suc stars) = Pointer
 
 -- the element type of an object's type
-abbrev pub element_of : ObjectType → ElementType
-element_of (type.Scalar s) = element_by_stars s.base s.stars
-element_of (type.Array s count) = element_by_stars s.base s.stars
+abbrev pub element_of_object : ObjectType → ElementType
+element_of_object (type.Scalar s) = element_by_stars s.base s.stars
+element_of_object (type.Array s count) = element_by_stars s.base s.stars
 
 -- the number of elements of an array; 0 for a scalar
-abbrev pub count_of : ObjectType → ℕ
-count_of (type.Scalar s) = 0
-count_of (type.Array s count) = count
+abbrev pub element_count : ObjectType → ℕ
+element_count (type.Scalar s) = 0
+element_count (type.Array s count) = count
 
 -- how many there are, as far as numbers of 32 bits go
-abbrev pub counted : ℕ → ℕ
-counted n = min n 4294967295
+abbrev pub bounded_count : ℕ → ℕ
+bounded_count n = min n 4294967295
 
--- What an image says of a variable, but for its function and where it is kept: how long its name is, where it is declared, of what elements it is made and of how many.
+-- What an image says of a variable, but for its function and where it is kept: how long its name is, where it is
+-- declared, of what elements it is made and of how many.
 pub record Shape : Type 0 where
   pub name_length : ℕ
   pub position : ℕ
@@ -58,15 +59,27 @@ shape v = record { name_length = v.name_length; position = v.position; element =
 
 -- a named static variable has its name, the line and column where it is declared, its element and its count
 abbrev pub static_shape : StaticTree → Shape
-static_shape v = record { name_length = counted (length v.name); position = v.spot.at; element = element_of v.of; count = count_of v.of }
+static_shape v =
+    record {
+      name_length = bounded_count (length v.name);
+      position = v.spot.at;
+      element = element_of_object v.of;
+      count = element_count v.of;
+    }
 
 -- a string literal has no name, and is an array of bytes
 abbrev pub literal_shape : LiteralTree → Shape
-literal_shape l = record { name_length = 0; position = l.spot.at; element = U8; count = counted (length l.bytes) }
+literal_shape l = record { name_length = 0; position = l.spot.at; element = U8; count = bounded_count (length l.bytes) }
 
 -- an automatic variable has its name, the line and column where it is declared, its element and its count
 abbrev pub automatic_shape : AutomaticTree → Shape
-automatic_shape v = record { name_length = counted (length v.name); position = v.spot.at; element = element_of v.of; count = count_of v.of }
+automatic_shape v =
+    record {
+      name_length = bounded_count (length v.name);
+      position = v.spot.at;
+      element = element_of_object v.of;
+      count = element_count v.of;
+    }
 
 -- the variables of a program: the named static ones, the literals, the automatic ones
 abbrev pub shapes_of : ProgramTree → List Shape
@@ -80,7 +93,8 @@ owner v = v.function
 abbrev pub storage : Variable → Storage
 storage v = v.storage
 
--- to which functions variables belong, of functions the first of which has this number: as many as a function has are its, function by function
+-- to which functions variables belong, of functions the first of which has this number: as many as a function has are
+-- its, function by function
 abbrev pub owned_from : (number : ℕ) → List TypedFunctionTree → List (Option ℕ)
 owned_from number [] = []
 owned_from number (f ∷ more) = replicate f.variables (Some number) ++ owned_from (number + 1) more
@@ -95,7 +109,9 @@ entry f = f.entry
 
 -- the names of a program's functions and variables, one after the other
 abbrev pub declared_names : ProgramTree → List ℕ
-declared_names p = flat_map (λ (f : TypedFunctionTree). f.name) p.functions ++ (flat_map (λ (v : StaticTree). v.name) p.statics ++ flat_map (λ (v : AutomaticTree). v.name) p.automatics)
+declared_names p =
+    flat_map (λ (f : TypedFunctionTree). f.name) p.functions
+    ++ (flat_map (λ (v : StaticTree). v.name) p.statics ++ flat_map (λ (v : AutomaticTree). v.name) p.automatics)
 
 -- the names of the passes that made changes, one after the other, once for each change
 abbrev pub pass_names : List Logged → List ℕ
@@ -107,4 +123,4 @@ name_length f = f.name_length
 
 -- how many letters the name of a function of the program has
 abbrev pub length_of_name : TypedFunctionTree → ℕ
-length_of_name f = counted (length f.name)
+length_of_name f = bounded_count (length f.name)

@@ -11,7 +11,7 @@ ghost use Rattle.image_build_tables.specs.Places.{address, addresses_of};
 ghost use Rattle.image_build_tables.specs.Rows.{AreNodesOf, AreRowsOf, AreShown, size_told, telling_of};
 ghost use Rattle.c_tree.specs.Programs.{program_view};
 ghost use Rattle.image_build_tables.specs.Variables.{declared_names, entry, length_of_name, name_length, owned_from, owner, owners_of, pass_names, shape, shapes_of, storage};
-ghost use Rattle.image_build_tables.specs.Tables.{assigned_pair, change_record, flow_pair, version_of_map, sight, sight_of_verdict, spot, spot_of_row};
+ghost use Rattle.image_build_tables.specs.Tables.{assigned_pair, change_record, flow_pair, version_of_map, pair_of_row, sight_of_verdict, spot, spot_of_row};
 
 use crate::pairs::{assigned_of, changes_of, flow_of};
 use crate::places_table::places_of;
@@ -94,7 +94,7 @@ pub fn image_of(alloc: Global, parts: &Parts<'_>, emitted: Emitted) -> Result<Im
         m.nodes.items parts.now.verdicts.now m.rows.items) }
     ensures calls { IfOk result (λ m. m.calls.items ≡ []) }
     ensures members { IfOk result (λ m. m.members.items ≡ []) }
-    ensures visible { IfOk result (λ m. map sight m.rows.items ≡ map sight_of_verdict parts.now.verdicts.now) }
+    ensures visible { IfOk result (λ m. map pair_of_row m.rows.items ≡ map sight_of_verdict parts.now.verdicts.now) }
 {
     let unit = &parts.homed.unit;
     let log = unit.log.changes();

@@ -1,7 +1,7 @@
 //! Types of elements.
 
 ghost use Rattle.std.specs.Prelude.{◌≡◌};
-ghost use Rattle.image_build_tables.specs.Variables.{count_of, element_by_stars, element_of, element_of_integer};
+ghost use Rattle.image_build_tables.specs.Variables.{element_count, element_by_stars, element_of_object, element_of_integer};
 
 use c_tree::{IntegerType, ObjectType, Scalar};
 use image_form::ElementType;
@@ -33,8 +33,8 @@ fn of_scalar(scalar: Scalar) -> ElementType
 
 /// The type of an object's elements, and how many it has; 0 for a scalar.
 pub fn elements_of(of: ObjectType) -> (ElementType, u32)
-    ensures element { result.0 ≡ element_of of }
-    ensures count { result.1 ≡ count_of of }
+    ensures element { result.0 ≡ element_of_object of }
+    ensures count { result.1 ≡ element_count of }
 {
     match of {
         ObjectType::Scalar(scalar) => (of_scalar(scalar), 0),

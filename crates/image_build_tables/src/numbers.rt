@@ -1,11 +1,11 @@
 //! Numbers of 32 bits.
 
 ghost use Rattle.std.specs.Prelude.{◌≡◌, get_or, slice_set};
-ghost use Rattle.image_build_tables.specs.Variables.{counted};
+ghost use Rattle.image_build_tables.specs.Variables.{bounded_count};
 
 /// A count as a number of 32 bits, the greatest where it is more.
 pub fn number_of(count: usize) -> u32
-    ensures { result ≡ counted count }
+    ensures { result ≡ bounded_count count }
 {
     if count < 4294967295 {
         count as u32

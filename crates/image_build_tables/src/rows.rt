@@ -8,7 +8,7 @@ ghost use Rattle.graph_core.specs.Graphs.{block_view, graph_view, recipe_view};
 ghost use Rattle.graph_core.specs.Validity.{total};
 ghost use Rattle.image_build_tables.specs.Nodes.{AreEarlier, AreOnce, Begin, naming_view, size_of};
 ghost use Rattle.image_build_tables.specs.Rows.{AreNewBy, AreNewIn, AreNodesOf, AreRowsOf, AreShown, IsNodeIn, IsVerdictOf, address_of_some, address_of_writer, firsts_from, naming_at, naming_in, quiet_of, size_told, telling_view};
-ghost use Rattle.image_build_tables.specs.Tables.{sight, sight_of_verdict};
+ghost use Rattle.image_build_tables.specs.Tables.{pair_of_row, sight_of_verdict};
 
 use crate::nodes::{Naming, Nodes};
 use crate::{entry, number_of};
@@ -266,7 +266,7 @@ pub fn rows_of(
     verdicts: &[PlaceVerdict],
     telling: Telling<'_>,
 ) -> Result<(Vec<VisibleRow>, Vec<Node>), AllocError>
-    ensures sights { IfOk result (λ r. map sight r.0.items ≡ map sight_of_verdict verdicts.now) }
+    ensures sights { IfOk result (λ r. map pair_of_row r.0.items ≡ map sight_of_verdict verdicts.now) }
     ensures nodes { IfOk result
         (λ r. length r.1.items < 2 ^ 32 → AreNodesOf (telling_view telling.entry) r.1.items verdicts.now) }
     ensures once { IfOk result (λ r. length r.1.items < 2 ^ 32 → AreOnce r.1.items) }

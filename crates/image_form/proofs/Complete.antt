@@ -6,7 +6,7 @@ use Rattle.std.specs.Str.{bytes_eq}
 use Rattle.std.proofs.lemmas.Bool.{le-leb, le-ltb, eq-eqb, and_from}
 use Rattle.std.proofs.lemmas.List.{length-map}
 use Rattle.image_form_sections.specs.Breaches.{Check, first_breach, first_broken}
-use Rattle.image_form.specs.Decoding.{decoded, word_numbers, sections_of}
+use Rattle.image_form.specs.Decoding.{form_of_sections, word_numbers, sections_of}
 use Rattle.image_form.specs.Form.{Form}
 use Rattle.image_form.specs.Numbers.{function_numbers, place_numbers, variable_numbers, change_numbers, flow_numbers, assigned_numbers, row_numbers, node_numbers}
 use Rattle.image_form.specs.Reading.{read_of}
@@ -21,7 +21,7 @@ use Rattle.image_form_sections.specs.TestsOfVariables.{variable_tests}
 use Rattle.memory_map.specs.Maps.{most_words}
 use Rattle.image_form_sections.specs.declared.section.Section.TheVariants.{Code, Initial, Functions, Places, Rows, Members, Names}
 use Rattle.image_form_sections.specs.declared.version.Version.{Version}
-use Rattle.image_form_sections.specs.Order.{order, behind}
+use Rattle.image_form_sections.specs.Order.{order, sections_end}
 use Rattle.image_form_sections.specs.Versions.{is_read, has_callers, has_structures, header_size}
 use Rattle.image_form.proofs.Counts.{records_inside}
 use Rattle.image_form.proofs.ChangesKept.{changes_complete, flow_complete, assigned_complete}
@@ -75,7 +75,7 @@ module _ (f : Form) (image : IsImage f) where
 
   pub told_size : size_told (spelling f) ≡ length (spelling f)
   unfolding size_told size
-  told_size = (λ i. behind (version_is f (is_told f image) i).level (counts_are f (is_told f image) i) order) ∙ sym (length-spelling f)
+  told_size = (λ i. sections_end (version_is f (is_told f image) i).level (counts_are f (is_told f image) i) order) ∙ sym (length-spelling f)
 
   -- The numbers that only some headers have keep their rules.
   long_kept : (b : Bool) → has_callers f.version.level ≡ b → AllByRecursion (λ c. c.kept ≡ true) (cond b (long_checks (spelling f)) [])
@@ -147,5 +147,5 @@ module _ (f : Form) (image : IsImage f) where
       let back = sections_back f image in
       let program : breach_of_program (sections_at (spelling f)) ≡ Ok tt = ap breach_of_program back ∙ program_kept in
       let tables : breach_of_tables (sections_at (spelling f)) ≡ Ok tt = ap breach_of_tables back ∙ tables_kept in
-      let same : decoded (sections_at (spelling f)) ≡ f = ap decoded back ∙ decoded_back f image in
+      let same : form_of_sections (sections_at (spelling f)) ≡ f = ap form_of_sections back ∙ decoded_back f image in
       rw (long, checks_kept, program, tables, same) refl

@@ -2,7 +2,7 @@
 use Rattle.std.proofs.Common.{◌+◌, ◌^◌, ◌<◌, ◌≤◌, length, arith}
 use Rattle.image_form_sections.specs.declared.section.Section.{Section}
 use Rattle.image_form_sections.specs.declared.section.Section.TheVariants.{Functions}
-use Rattle.image_form_sections.specs.Order.{record_size, start}
+use Rattle.image_form_sections.specs.Order.{record_size, section_start}
 use Rattle.image_form_sections.specs.Versions.{header_size}
 use Rattle.image_form_sections.proofs.SectionLaws.{ends_inside, record_some, header_some, times_low}
 use Rattle.image_form.specs.Form.{Form}
@@ -15,7 +15,7 @@ unfolding size
 records_inside f s =
     let level = f.version.level in
     let own = times_low 1 (record_size level s) (record_count f s) (record_some level s) in
-    let begins : header_size level ≤ start level (record_count f) s = omega arith in
+    let begins : header_size level ≤ section_start level (record_count f) s = omega arith in
     omega (arith, own, begins, header_some level, ends_inside level (record_count f) s)
 
 pub few_records : (f : Form) → size f < 2 ^ 32 → (s : Section) → record_count f s < 2 ^ 32

@@ -14,14 +14,14 @@ use Rattle.image_form_sections.specs.Versions.{has_callers, header_size, level_o
 use Rattle.image_form_sections.specs.declared.version.Level.{Level}
 use Rattle.image_form.specs.Numbers.{function_numbers, place_numbers, variable_numbers, change_numbers, flow_numbers, assigned_numbers, row_numbers, call_numbers, member_numbers, node_numbers}
 use Rattle.image_form_sections.specs.Breaches.{Gives}
-use Rattle.image_form.specs.Decoding.{decoded, sections_of, word_numbers}
+use Rattle.image_form.specs.Decoding.{form_of_sections, sections_of, word_numbers}
 use Rattle.image_form.specs.Form.{Form}
 use Rattle.image_form_sections.specs.Layouts.{rows_in, sections_in}
 use Rattle.image_form.specs.Lent.{are_bytes}
 use Rattle.image_form.specs.Reading.{read_of}
 use Rattle.image_form_sections.specs.Checking.{size_told}
 use Rattle.image_form.specs.Rules.{IsImage}
-use Rattle.image_form_sections.specs.Sections.{Sections, count_of, sections_at}
+use Rattle.image_form_sections.specs.Sections.{Sections, section_records, sections_at}
 use Rattle.image_form.specs.Spelling.{size, header, record_count, spelled, spelling}
 use Rattle.image_form.specs.Views.{viewed}
 use Rattle.image_form.proofs.Counts.{few_records}
@@ -46,8 +46,8 @@ pub told_spelled : (bytes : List ℕ) (f : Form) → IsImage f → bytes ≡ spe
 told_spelled bytes f image e = subst (λ (b : List ℕ). size_told b ≡ length b) (sym e) (told_size f image)
 
 -- What its sections say is the image.
-pub form_spelled : (bytes : List ℕ) (f : Form) → IsImage f → bytes ≡ spelling f → decoded (sections_at bytes) ≡ f
-form_spelled bytes f image e = ap (λ (b : List ℕ). decoded (sections_at b)) e ∙ form_back f image
+pub form_spelled : (bytes : List ℕ) (f : Form) → IsImage f → bytes ≡ spelling f → form_of_sections (sections_at bytes) ≡ f
+form_spelled bytes f image e = ap (λ (b : List ℕ). form_of_sections (sections_at b)) e ∙ form_back f image
 
 -- There are as many records as rows.
 pub counted : {B : Type 0} (f : List ℕ → B) (rows : List (List ℕ)) → length rows ≡ length (map f rows)
@@ -60,7 +60,7 @@ got_mapped f (r ∷ rows) zero low = refl
 got_mapped f (r ∷ rows) (suc n) low = got_mapped f rows n (omega (arith, low))
 
 -- The sections that say an image have as many rows as it has records.
-pub counts_told : (f : Form) (s : Section) → count_of (sections_of f) s ≡ record_count f s
+pub counts_told : (f : Form) (s : Section) → section_records (sections_of f) s ≡ record_count f s
 counts_told f Code = length-map f.code word_numbers
 counts_told f Initial = refl
 counts_told f Functions = length-map f.functions (function_numbers f.version.level)
@@ -96,7 +96,7 @@ sections_told v = let sound = view_sound v in sym (sections_back (viewed v) soun
 
 -- The size of the header by the number of the version.
 pub header_told : (v : View) (level : Level) (n : ℕ) → level ≡ level_of v.layout.version → n ≡ header_size level → n ≡ header_size (viewed v).version.level
-unfolding decoded
+unfolding form_of_sections
 header_told v level n is size = size ∙ ap header_size is
 
 -- The bytes of the code words lie behind the header.
@@ -122,10 +122,10 @@ bytes_few v =
     (same, omega (arith, same, sound.0.sizes.whole))
 
 -- No section has more records than a number can say.
-pub few_told : (v : View) (l : Layout) → sections_of (viewed v) ≡ sections_in l → (s : Section) → count_of (sections_in l) s < 2 ^ 32
+pub few_told : (v : View) (l : Layout) → sections_of (viewed v) ≡ sections_in l → (s : Section) → section_records (sections_in l) s < 2 ^ 32
 few_told v l told s =
     let f = viewed v in
-    let same : count_of (sections_of f) s ≡ count_of (sections_in l) s = ap (λ (t : Sections). count_of t s) told in
+    let same : section_records (sections_of f) s ≡ section_records (sections_in l) s = ap (λ (t : Sections). section_records t s) told in
     omega (arith, few_records f (view_sound v).0.sizes.whole s, same, counts_told f s)
 
 -- The numbers of a header that say what the sections have.
@@ -155,7 +155,7 @@ header_got v l told h says =
     let version = says.version ∙ sym (ap (λ (s : Sections). s.version) told) in
     let size = says.size ∙ (bytes_few v).0 in
     let mode = says.mode ∙ sym (ap (λ (s : Sections). s.mode) told) in
-    let is = λ (s : Section). sym (ap (λ (t : Sections). count_of t s) told) ∙ counts_told f s in
+    let is = λ (s : Section). sym (ap (λ (t : Sections). section_records t s) told) ∙ counts_told f s in
     let code = says.code ∙ is Code in
     let initial = says.initial ∙ is Initial in
     let functions = says.functions ∙ is Functions in

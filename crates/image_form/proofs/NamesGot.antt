@@ -9,7 +9,7 @@ use Rattle.image_form_sections.specs.declared.table.Table.{Table}
 use Rattle.image_form.specs.declared.tables.Change.{Change}
 use Rattle.image_form.specs.declared.tables.Function.{Function}
 use Rattle.image_form.specs.declared.variables.Variable.{Variable}
-use Rattle.image_form.specs.Decoding.{decoded, word_of, function_of, variable_of, change_of}
+use Rattle.image_form.specs.Decoding.{form_of_sections, only_number, function_of_row, variable_of, change_of}
 use Rattle.image_form_sections.specs.Layouts.{rows_in}
 use Rattle.image_form.specs.Names.{name_at}
 use Rattle.image_form_sections.specs.Sections.{cell}
@@ -22,24 +22,24 @@ sum_next [] (suc k) = refl
 sum_next (l ∷ ls) zero = omega arith
 sum_next (l ∷ ls) (suc k) = omega (arith, sum-cons l (take (suc k) ls), sum-cons l (take k ls), sum_next ls k)
 
-length_got : (rows : List (List ℕ)) (k : ℕ) → get_or (map word_of rows) k 0 ≡ cell rows k 0
+length_got : (rows : List (List ℕ)) (k : ℕ) → get_or (map only_number rows) k 0 ≡ cell rows k 0
 length_got [] zero = refl
 length_got [] (suc k) = refl
 length_got (r ∷ rows) zero = refl
 length_got (r ∷ rows) (suc k) = length_got rows k
 
 -- The bytes behind one name more.
-pub behind_next : (rows : List (List ℕ)) (k : ℕ) (bytes rest : List ℕ) → rest ≡ drop (sum (take k (map word_of rows))) bytes
-    → drop (cell rows k 0) rest ≡ drop (sum (take (k + 1) (map word_of rows))) bytes
+pub behind_next : (rows : List (List ℕ)) (k : ℕ) (bytes rest : List ℕ) → rest ≡ drop (sum (take k (map only_number rows))) bytes
+    → drop (cell rows k 0) rest ≡ drop (sum (take (k + 1) (map only_number rows))) bytes
 behind_next rows k bytes rest e =
-    let ls = map word_of rows in
+    let ls = map only_number rows in
     let more : k + 1 ≡ suc k = omega arith in
     let sums : sum (take k ls) + cell rows k 0 ≡ sum (take (k + 1) ls) = ap (λ (n : ℕ). sum (take k ls) + n) (sym (length_got rows k)) ∙ sym (sum_next ls k) ∙ ap (λ (n : ℕ). sum (take n ls)) (sym more) in
     ap (drop (cell rows k 0)) e ∙ drop-drop (cell rows k 0) (sum (take k ls)) bytes ∙ ap (λ (n : ℕ). drop n bytes) sums
 
 -- A row's name lies behind those of the rows before.
-pub name_there : (rows : List (List ℕ)) (k : ℕ) (bytes rest : List ℕ) → rest ≡ drop (sum (take k (map word_of rows))) bytes
-    → take (cell rows k 0) rest ≡ name_at (map word_of rows) k bytes
+pub name_there : (rows : List (List ℕ)) (k : ℕ) (bytes rest : List ℕ) → rest ≡ drop (sum (take k (map only_number rows))) bytes
+    → take (cell rows k 0) rest ≡ name_at (map only_number rows) k bytes
 name_there rows k bytes rest e = (λ i. take (sym (length_got rows k) i) (e i))
 
 -- The n-th name, by the lengths of three tables.
@@ -49,12 +49,12 @@ name_by fs vs cs names n =
     (cond (ltb (n - length fs) (length vs)) (name_at vs (n - length fs) (drop (sum fs) names))
     (name_at cs (n - length fs - length vs) (drop (sum fs + sum vs) names)))
 
-lengths_told : {A : Type 0} (of_numbers : List ℕ → A) (measure : A → ℕ) → ((r : List ℕ) → measure (of_numbers r) ≡ word_of r) → (rows : List (List ℕ)) → map measure (map of_numbers rows) ≡ map word_of rows
+lengths_told : {A : Type 0} (of_numbers : List ℕ → A) (measure : A → ℕ) → ((r : List ℕ) → measure (of_numbers r) ≡ only_number r) → (rows : List (List ℕ)) → map measure (map of_numbers rows) ≡ map only_number rows
 lengths_told of_numbers measure each [] = refl
 lengths_told of_numbers measure each (r ∷ rows) = let head = each r in let tail = lengths_told of_numbers measure each rows in (λ i. head i ∷ tail i)
 
-as_many : {A : Type 0} (of_numbers : List ℕ → A) (rows : List (List ℕ)) → length (map of_numbers rows) ≡ length (map word_of rows)
-as_many of_numbers rows = length-map rows of_numbers ∙ sym (length-map rows word_of)
+as_many : {A : Type 0} (of_numbers : List ℕ → A) (rows : List (List ℕ)) → length (map of_numbers rows) ≡ length (map only_number rows)
+as_many of_numbers rows = length-map rows of_numbers ∙ sym (length-map rows only_number)
 
 -- It is a function's,
 by_first : (fs vs cs names : List ℕ) (n : ℕ) → n < length fs → name_at fs n names ≡ name_by fs vs cs names n
@@ -85,20 +85,20 @@ by_third fs vs cs names rest more n a b is_a is_b past beyond behind behind_more
 
 -- The lengths of the names of a view's functions, variables and changes.
 abbrev pub lengths_in : Table → List ℕ
-lengths_in t = map word_of (rows_in t)
+lengths_in t = map only_number (rows_in t)
 
 length-lengths : (t : Table) → length (rows_in t) ≡ length (lengths_in t)
-length-lengths t = sym (length-map (rows_in t) word_of)
+length-lengths t = sym (length-map (rows_in t) only_number)
 
 module _ (v : View) (n : ℕ) where
   name_told : name_by (lengths_in v.layout.functions) (lengths_in v.layout.variables) (lengths_in v.layout.changes) v.layout.names.now n ≡ name_of (viewed v) n
-  unfolding decoded
+  unfolding form_of_sections
   name_told =
       let names = v.layout.names.now in
-      let f = lengths_told function_of (λ (g : Function). g.name_length) (λ r. refl) (rows_in v.layout.functions) in
+      let f = lengths_told function_of_row (λ (g : Function). g.name_length) (λ r. refl) (rows_in v.layout.functions) in
       let w = lengths_told variable_of (λ (g : Variable). g.name_length) (λ r. refl) (rows_in v.layout.variables) in
       let p = lengths_told change_of (λ (g : Change). g.pass_length) (λ r. refl) (rows_in v.layout.changes) in
-      let a = as_many function_of (rows_in v.layout.functions) in
+      let a = as_many function_of_row (rows_in v.layout.functions) in
       let b = as_many variable_of (rows_in v.layout.variables) in
       sym (λ i.
       cond (ltb n (a i)) (name_at (f i) n names)

@@ -18,10 +18,10 @@ use Rattle.image_form_sections.specs.declared.section.Section.TheVariants.{Code,
 use Rattle.image_form_sections.specs.declared.version.Level.{Level}
 use Rattle.image_form_sections.specs.declared.version.Level.TheVariants.{Plain, Quiet, Callers}
 use Rattle.image_form_sections.specs.declared.version.Version.{Version}
-use Rattle.image_form_sections.specs.Order.{order, number_of, record_size, count_offset, start}
-use Rattle.image_form_sections.specs.Sections.{number_at, numbers_at, rows_at, version_told, count_told, bytes_from, rows_of, sections_at}
+use Rattle.image_form_sections.specs.Order.{order, section_number, record_size, count_offset, section_start as start}
+use Rattle.image_form_sections.specs.Sections.{number_at, numbers_at, number_rows_at, version_told, count_told, bytes_from, rows_of, sections_at}
 use Rattle.image_form_sections.specs.Versions.{version_number, version_of, has_callers, header_size}
-use Rattle.image_form.specs.Decoding.{word_of, function_of, place_of, variable_of, change_of, flow_of, assigned_of, row_of, call_of, member_of, node_of, decoded, word_numbers, sections_of}
+use Rattle.image_form.specs.Decoding.{only_number, function_of_row, place_of, variable_of, change_of, flow_pair_of, assigned_of, visible_row_of, call_row_of, member_of, node_of, form_of_sections, word_numbers, sections_of}
 use Rattle.image_form.specs.Form.{Form}
 use Rattle.image_form.specs.Numbers.{mode_number, no_function, function_numbers, place_numbers, variable_numbers, change_numbers, flow_numbers, assigned_numbers, verdict_then, row_numbers, call_numbers, member_numbers, node_numbers}
 use Rattle.image_form.specs.Rules.{AllFit, RecordsFit, FitRules, IsImage}
@@ -83,10 +83,10 @@ map_back numbers of_numbers (x ∷ xs) back = let head = back.0 in let tail = ma
 section_sized : {A : Type 0} (numbers : A → List ℕ) (width size : ℕ) → ((x : A) → length (numbers x) ≡ width) → 4 * width ≡ size → (xs : List A) → length (section numbers xs) ≡ size * length xs
 section_sized numbers width size sized whole xs = length-section width numbers sized xs ∙ ap (λ (n : ℕ). n * length xs) whole
 
-functions_back : (level : Level) (gs : List Function) → (has_callers level ≡ false → AllByRecursion (λ g. g.saved ≡ 0) gs) → map function_of (map (function_numbers level) gs) ≡ gs
-functions_back Plain gs none = map_back (function_numbers Plain) function_of gs (all_of (λ g e. function_back Plain g (λ _. e)) gs (none refl))
-functions_back Quiet gs none = map_back (function_numbers Quiet) function_of gs (all_of (λ g e. function_back Quiet g (λ _. e)) gs (none refl))
-functions_back Callers gs none = map_back (function_numbers Callers) function_of gs (all_always (λ g. refl) gs)
+functions_back : (level : Level) (gs : List Function) → (has_callers level ≡ false → AllByRecursion (λ g. g.saved ≡ 0) gs) → map function_of_row (map (function_numbers level) gs) ≡ gs
+functions_back Plain gs none = map_back (function_numbers Plain) function_of_row gs (all_of (λ g e. function_back Plain g (λ _. e)) gs (none refl))
+functions_back Quiet gs none = map_back (function_numbers Quiet) function_of_row gs (all_of (λ g e. function_back Quiet g (λ _. e)) gs (none refl))
+functions_back Callers gs none = map_back (function_numbers Callers) function_of_row gs (all_always (λ g. refl) gs)
 
 -- The numbers of the header that only some versions have.
 long_fits : (b : Bool) (calls members : ℕ) → calls < 2 ^ 32 → members < 2 ^ 32 → AllFit (cond b (calls ∷ members ∷ 0 ∷ 0 ∷ []) [])
@@ -222,7 +222,7 @@ module _ (f : Form) (told : IsTold f) where
 
   -- What stands behind a section.
   abbrev rest : Section → List ℕ
-  rest s = flat_map (section_bytes f) (drop (suc (number_of s)) order)
+  rest s = flat_map (section_bytes f) (drop (suc (section_number s)) order)
 
   -- A section lies where the header says.
   lies_at : (s : Section) → bytes_from (spelling f) s ≡ section_bytes f s ++ rest s
@@ -235,7 +235,7 @@ module _ (f : Form) (told : IsTold f) where
   rows_there s numbers xs sized count bytes fit =
       let as_many = count_is s ∙ count in
       let lies = lies_at s ∙ ap (λ (b : List ℕ). b ++ rest s) bytes in
-      (λ i. rows_at (record_size (version_is i).level s / 4) (as_many i) (lies i)) ∙ rows_back (record_size f.version.level s / 4) numbers sized xs (rest s) fit
+      (λ i. number_rows_at (record_size (version_is i).level s / 4) (as_many i) (lies i)) ∙ rows_back (record_size f.version.level s / 4) numbers sized xs (rest s) fit
 
   words_there : (s : Section) (ns : List ℕ) → record_size f.version.level s / 4 ≡ 1 → record_count f s ≡ length ns → section_bytes f s ≡ spelled ns → AllFit ns → rows_of (spelling f) s ≡ map word_numbers ns
   words_there s ns width count bytes fit = rows_there s word_numbers ns (λ x. sym width) count (bytes ∙ sym (section-words ns)) (words_fit ns fit)
@@ -304,24 +304,24 @@ module _ (f : Form) (image : IsImage f) where
   no_calls : f.calls ≡ []
   no_calls = image.calls.none (ap (λ (v : Version). has_callers v.level) (sym (version_back f.version)) ∙ read_no_calls (version_number f.version) image.sizes.version)
 
-  rows_are : map row_of (map (row_numbers f.version.level) f.rows) ≡ f.rows
-  rows_are = map_back (row_numbers f.version.level) row_of f.rows (each_from (λ r. row_of (row_numbers f.version.level r) ≡ r) f.rows (λ i r at.
+  rows_are : map visible_row_of (map (row_numbers f.version.level) f.rows) ≡ f.rows
+  rows_are = map_back (row_numbers f.version.level) visible_row_of f.rows (each_from (λ r. visible_row_of (row_numbers f.version.level r) ≡ r) f.rows (λ i r at.
       row_back f f.version.level r image.assigned (each_at _ f.rows i r image.rows.verdicts at) (each_at _ f.rows i r image.rows.quiet at) (λ none. each_at _ f.rows i r (image.rows.none_quiet none) at)))
 
-  pub decoded_back : decoded (sections_of f) ≡ f
-  unfolding decoded
+  pub decoded_back : form_of_sections (sections_of f) ≡ f
+  unfolding form_of_sections
   decoded_back =
       let version = version_back f.version in
       let mode = mode_back f.mode in
-      let code = map_back word_numbers word_of f.code (all_always (λ x. refl) f.code) in
+      let code = map_back word_numbers only_number f.code (all_always (λ x. refl) f.code) in
       let functions = functions_back f.version.level f.functions image.functions.none_saved in
       let places = map_back place_numbers place_of f.places (all_always (λ x. refl) f.places) in
-      let owners = map_back word_numbers word_of f.owners (all_always (λ x. refl) f.owners) in
+      let owners = map_back word_numbers only_number f.owners (all_always (λ x. refl) f.owners) in
       let variables = map_back variable_numbers variable_of f.variables (all_of (variable_back f few_functions) f.variables image.variables.each) in
       let changes = map_back change_numbers change_of f.changes (all_always change_back f.changes) in
-      let flow = map_back flow_numbers flow_of f.flow (all_always (λ x. refl) f.flow) in
+      let flow = map_back flow_numbers flow_pair_of f.flow (all_always (λ x. refl) f.flow) in
       let assigned = map_back assigned_numbers assigned_of f.assigned (all_always (λ x. refl) f.assigned) in
-      let calls : map call_of (map call_numbers f.calls) ≡ f.calls = ap (λ (cs : List CallRow). map call_of (map call_numbers cs)) no_calls ∙ sym no_calls in
+      let calls : map call_row_of (map call_numbers f.calls) ≡ f.calls = ap (λ (cs : List CallRow). map call_row_of (map call_numbers cs)) no_calls ∙ sym no_calls in
       let members = map_back member_numbers member_of f.members (all_always member_back f.members) in
       let nodes = map_back node_numbers node_of f.nodes (all_always node_back f.nodes) in
       (λ i. record {
@@ -343,9 +343,9 @@ module _ (f : Form) (image : IsImage f) where
         names = f.names;
       })
 
-  pub form_back : decoded (sections_at (spelling f)) ≡ f
-  form_back = ap decoded sections_back ∙ decoded_back
+  pub form_back : form_of_sections (sections_at (spelling f)) ≡ f
+  form_back = ap form_of_sections sections_back ∙ decoded_back
 
 -- Images that are spelled alike are alike.
 pub spells_one : SpellsOneImage
-spells_one f g image_f image_g e = sym (form_back f image_f) ∙ ap (λ (b : List ℕ). decoded (sections_at b)) e ∙ form_back g image_g
+spells_one f g image_f image_g e = sym (form_back f image_f) ∙ ap (λ (b : List ℕ). form_of_sections (sections_at b)) e ∙ form_back g image_g

@@ -6,7 +6,7 @@ use Rattle.std.proofs.lemmas.List.{take_at, drop_at, length-append}
 use Rattle.std.proofs.lemmas.List.Concat.{flat_map-cons}
 use Rattle.std.proofs.lemmas.Nat.{from_le_bytes-to_le_bytes_4}
 use Rattle.image_form.specs.Decoding.{word_numbers}
-use Rattle.image_form_sections.specs.Sections.{number_at, numbers_at, rows_at}
+use Rattle.image_form_sections.specs.Sections.{number_at, numbers_at, number_rows_at}
 use Rattle.image_form.specs.Rules.{AllFit, RecordsFit}
 use Rattle.image_form.specs.Spelling.{section, spelled}
 
@@ -51,13 +51,13 @@ module _ {A : Type 0} (width : ℕ) (numbers : A → List ℕ) (sized : (x : A) 
   record_back x rest fit = ap (λ (n : ℕ). numbers_at n 0 (spelled (numbers x) ++ rest)) (sym (sized x)) ∙ numbers_back (numbers x) rest [] 0 refl fit
 
   -- Rows that were spelled are read back.
-  pub rows_back : (xs : List A) (rest : List ℕ) → RecordsFit numbers xs → rows_at width (length xs) (section numbers xs ++ rest) ≡ map numbers xs
+  pub rows_back : (xs : List A) (rest : List ℕ) → RecordsFit numbers xs → number_rows_at width (length xs) (section numbers xs ++ rest) ≡ map numbers xs
   rows_back [] rest fit = refl
   rows_back (x ∷ xs) rest fit =
       let behind = section numbers xs ++ rest in
       let head : numbers_at width 0 (section numbers (x ∷ xs) ++ rest) ≡ numbers x = ap (numbers_at width 0) (section-cons x xs rest) ∙ record_back x behind fit.0 in
       let after : drop (4 * width) (section numbers (x ∷ xs) ++ rest) ≡ behind = ap (drop (4 * width)) (section-cons x xs rest) ∙ drop_at (spelled (numbers x)) behind (4 * width) (length-record x) in
-      let tail : rows_at width (length xs) (drop (4 * width) (section numbers (x ∷ xs) ++ rest)) ≡ map numbers xs = ap (rows_at width (length xs)) after ∙ rows_back xs rest fit.1 in
+      let tail : number_rows_at width (length xs) (drop (4 * width) (section numbers (x ∷ xs) ++ rest)) ≡ map numbers xs = ap (number_rows_at width (length xs)) after ∙ rows_back xs rest fit.1 in
       (λ i. head i ∷ tail i)
 
   pub length-section : (xs : List A) → length (section numbers xs) ≡ 4 * width * length xs
@@ -80,5 +80,5 @@ pub words_fit : (ns : List ℕ) → AllFit ns → RecordsFit word_numbers ns
 words_fit [] fit = tt
 words_fit (n ∷ ns) fit = ((fit.0, tt), words_fit ns fit.1)
 
-pub words_back : (ns : List ℕ) (rest : List ℕ) → AllFit ns → rows_at 1 (length ns) (spelled ns ++ rest) ≡ map word_numbers ns
-words_back ns rest fit = ap (λ (b : List ℕ). rows_at 1 (length ns) (b ++ rest)) (sym (section-words ns)) ∙ rows_back 1 word_numbers (λ x. refl) ns rest (words_fit ns fit)
+pub words_back : (ns : List ℕ) (rest : List ℕ) → AllFit ns → number_rows_at 1 (length ns) (spelled ns ++ rest) ≡ map word_numbers ns
+words_back ns rest fit = ap (λ (b : List ℕ). number_rows_at 1 (length ns) (b ++ rest)) (sym (section-words ns)) ∙ rows_back 1 word_numbers (λ x. refl) ns rest (words_fit ns fit)

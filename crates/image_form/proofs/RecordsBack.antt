@@ -29,7 +29,7 @@ use Rattle.image_form.specs.declared.members.Member.{Member}
 use Rattle.image_form_sections.specs.declared.version.Level.{Level}
 use Rattle.image_form_sections.specs.declared.version.Level.TheVariants.{Plain, Quiet, Callers}
 use Rattle.image_form_sections.specs.Versions.{has_quiet, has_callers}
-use Rattle.image_form.specs.Decoding.{mode_of, owner_of, element_of, storage_of, variable_of, kind_of, change_of, writer_of, quiet_of, row_of, function_of, member_of, node_of}
+use Rattle.image_form.specs.Decoding.{mode_of, owning_function, element_type_of, storage_of, variable_of, kind_of, change_of, writer_of, quiet_of, visible_row_of, function_of_row, member_of, node_of}
 use Rattle.image_form.specs.Form.{Form, numbered}
 use Rattle.image_form.specs.Numbers.{mode_number, no_function, element_number, storage_number, storage_value, variable_numbers, kind_number, change_numbers, verdict_then, last_if, row_numbers, function_numbers, member_numbers, operation_number, truncation_number, node_numbers}
 use Rattle.image_form.specs.RulesOfChanges.{AssignedRules}
@@ -52,7 +52,7 @@ pub mode_back : (m : Mode) → mode_of (mode_number m) ≡ m
 mode_back Slots = refl
 mode_back Registers = refl
 
-element_back : (e : ElementType) → element_of (element_number e) ≡ e
+element_back : (e : ElementType) → element_type_of (element_number e) ≡ e
 element_back U8 = refl
 element_back I8 = refl
 element_back U16 = refl
@@ -120,7 +120,7 @@ kept_there f k (Register number) kept = kept.0
 kept_there f k (Slot offset) kept = number_there f.functions k _ kept
 
 -- A function that is there has a number below the one that stands for none.
-owner_back : (f : Form) (function : Option ℕ) (storage : Storage) → length f.functions < no_function → IsKept f function storage → owner_of (unwrap_or function no_function) ≡ function
+owner_back : (f : Form) (function : Option ℕ) (storage : Storage) → length f.functions < no_function → IsKept f function storage → owning_function (unwrap_or function no_function) ≡ function
 owner_back f None storage few kept = refl
 owner_back f (Some k) storage few kept =
     let there = kept_there f k storage kept in
@@ -150,7 +150,7 @@ with_verdict : ℕ → ℕ → Verdict → Option ℕ → VisibleRow
 with_verdict place variable verdict quiet = record { place = place; variable = variable; verdict = verdict; quiet = quiet }
 
 verdict_back : (f : Form) (place variable : ℕ) (v : Verdict) (more : List ℕ) → IsVerdict f variable v
-    → row_of (place ∷ variable ∷ verdict_then v more) ≡ with_verdict place variable v (quiet_of (get_or more 0 0))
+    → visible_row_of (place ∷ variable ∷ verdict_then v more) ≡ with_verdict place variable v (quiet_of (get_or more 0 0))
 unfolding with_verdict
 verdict_back f place variable Home more valid = refl
 verdict_back f place variable (Recovered change node) more valid = refl
@@ -182,14 +182,14 @@ quiet_back f true variable v (Some start) rules valid none =
     rw other refl
 
 pub row_back : (f : Form) (level : Level) (r : VisibleRow) → AssignedRules f → IsVerdict f r.variable r.verdict → IsQuietStart f r.variable r.verdict r.quiet
-    → (has_quiet level ≡ false → r.quiet ≡ None) → row_of (row_numbers level r) ≡ r
+    → (has_quiet level ≡ false → r.quiet ≡ None) → visible_row_of (row_numbers level r) ≡ r
 unfolding with_verdict
 row_back f level r rules valid quiet none =
     verdict_back f r.place r.variable r.verdict (last_if (has_quiet level) (unwrap_or r.quiet 0)) valid
     ∙ ap (with_verdict r.place r.variable r.verdict) (quiet_back f (has_quiet level) r.variable r.verdict r.quiet rules quiet none)
 
 -- A function's saved registers are 0 where they are not told.
-pub function_back : (level : Level) (g : Function) → (has_callers level ≡ false → g.saved ≡ 0) → function_of (function_numbers level g) ≡ g
+pub function_back : (level : Level) (g : Function) → (has_callers level ≡ false → g.saved ≡ 0) → function_of_row (function_numbers level g) ≡ g
 function_back Plain g none = λ i. record {
   name_length = g.name_length;
   first = g.first;

@@ -16,8 +16,8 @@ use Rattle.image_form_sections.specs.Checking.{size_told, long_checks, header_ch
 use Rattle.image_form_sections.specs.declared.section.Section.{Section}
 use Rattle.image_form_sections.specs.declared.section.Section.TheVariants.{Code, Initial, Functions, Places, Owners, Variables, Changes, Flow, Assigned, Rows, Calls, Members, Nodes, Names}
 use Rattle.image_form_sections.specs.declared.version.Level.{Level}
-use Rattle.image_form_sections.specs.Order.{order, record_size, behind, start}
-use Rattle.image_form_sections.specs.Sections.{number_at, numbers_at, rows_at, Sections, version_told, count_of, count_told, bytes_from, rows_of, sections_at}
+use Rattle.image_form_sections.specs.Order.{order, record_size, sections_end as behind, section_start as start}
+use Rattle.image_form_sections.specs.Sections.{number_at, numbers_at, number_rows_at, Sections, version_told, section_records, count_told, bytes_from, rows_of, sections_at}
 use Rattle.image_form_sections.specs.TestsOfChanges.{change_tests, flow_tests, assigned_tests, row_tests}
 use Rattle.image_form_sections.specs.TestsOfCode.{function_tests, place_tests, owner_tests}
 use Rattle.image_form_sections.specs.TestsOfNames.{name_tests, first_misfit}
@@ -28,7 +28,7 @@ use Rattle.image_form_sections.proofs.Inside.{told_inside}
 use Rattle.image_form_sections.proofs.Octets.{AreBytes, AreBytes-drop, AreBytes-take, number_fits}
 use Rattle.image_form_sections.proofs.RowLaws.{length-rows_at}
 use Rattle.image_form_sections.proofs.SectionLaws.{bytes_of, behind_one, numbers_inside}
-use Rattle.image_form.specs.Decoding.{verdict_of, word_of, function_of, place_of, variable_of, change_of, flow_of, assigned_of, row_of, call_of, member_of, node_of, word_numbers, decoded, sections_of}
+use Rattle.image_form.specs.Decoding.{verdict_of, only_number, function_of_row, place_of, variable_of, change_of, flow_pair_of, assigned_of, visible_row_of, call_row_of, member_of, node_of, word_numbers, form_of_sections, sections_of}
 use Rattle.image_form.specs.Form.{Form}
 use Rattle.image_form.specs.Numbers.{mode_number, no_function, function_numbers, place_numbers, variable_numbers, change_numbers, flow_numbers, assigned_numbers, row_numbers, call_numbers, member_numbers, node_numbers}
 use Rattle.image_form.specs.Reading.{read_of}
@@ -106,7 +106,7 @@ tables_parts s e =
       assigned = kept_of _ _ _ (assigned_tests s) (length s.assigned) b.0;
       rows = kept_of _ _ _ (row_tests s) (length s.rows) c.0;
       nodes = kept_of _ _ _ (node_tests s) (length s.nodes) d.0;
-      names = no_misfit (start (level_of s.version) (count_of s) Names) (first_misfit (name_tests s) s.names) d.1;
+      names = no_misfit (start (level_of s.version) (section_records s) Names) (first_misfit (name_tests s) s.names) d.1;
     }
 
 kept_each : (checks : List Check) → first_breach checks ≡ Ok tt → AllByRecursion (λ c. c.kept ≡ true) checks
@@ -260,7 +260,7 @@ module _ (bytes : List ℕ) (kept : IsKept bytes) where
   no_callers = read_no_calls (number_at bytes 4) kept.header_kept.1.0
 
   calls_none : rows_of bytes Calls ≡ []
-  calls_none = ap (λ (b : Bool). rows_at 7 (cond b (number_at bytes 64) 0) (bytes_from bytes Calls)) no_callers
+  calls_none = ap (λ (b : Bool). number_rows_at 7 (cond b (number_at bytes 64) 0) (bytes_from bytes Calls)) no_callers
 
   members_count : (b : Bool) → has_callers level ≡ b → AllByRecursion (λ c. c.kept ≡ true) (cond b (long_checks bytes) []) → count_told bytes Members ≡ 0
   unfolding has_structures
@@ -268,7 +268,7 @@ module _ (bytes : List ℕ) (kept : IsKept bytes) where
   members_count false lacks all = ap (λ (b : Bool). cond b (number_at bytes 68) 0) lacks
 
   members_none : rows_of bytes Members ≡ []
-  members_none = ap (λ (n : ℕ). rows_at 5 n (bytes_from bytes Members)) (members_count (has_callers level) refl long_kept)
+  members_none = ap (λ (n : ℕ). number_rows_at 5 n (bytes_from bytes Members)) (members_count (has_callers level) refl long_kept)
 
   shaped : (s : Section) → ShapedRows (record_size level s / 4) (rows_of bytes s)
   shaped s = row_shape (record_size level s / 4) (count_told bytes s) (bytes_from bytes s)
@@ -277,22 +277,22 @@ module _ (bytes : List ℕ) (kept : IsKept bytes) where
       → map numbers (map of_numbers (rows_of bytes s)) ≡ rows_of bytes s
   plain s numbers of_numbers told = plain_told (record_size level s / 4) (count_told bytes s) (bytes_from bytes s) numbers of_numbers told
 
-  told : sections_of (decoded (sections_at bytes)) ≡ sections_at bytes
-  unfolding decoded sections_at
+  told : sections_of (form_of_sections (sections_at bytes)) ≡ sections_at bytes
+  unfolding form_of_sections sections_at
   told =
       let s = sections_at bytes in
       let version = sym version_is in
       let mode = mode_told (number_at bytes 12) mode_small in
-      let code = plain Code word_numbers word_of (λ b. refl) in
-      let functions = plain Functions (function_numbers level) function_of (function_told level) in
+      let code = plain Code word_numbers only_number (λ b. refl) in
+      let functions = plain Functions (function_numbers level) function_of_row (function_told level) in
       let places = plain Places place_numbers place_of (λ b. refl) in
-      let owners = plain Owners word_numbers word_of (λ b. refl) in
+      let owners = plain Owners word_numbers only_number (λ b. refl) in
       let variables = variables_told s (shaped Variables) kept.program.variables in
       let changes = changes_told s (shaped Changes) kept.program.changes in
-      let flow = plain Flow flow_numbers flow_of (λ b. refl) in
+      let flow = plain Flow flow_numbers flow_pair_of (λ b. refl) in
       let assigned = plain Assigned assigned_numbers assigned_of (λ b. refl) in
       let rows = visible_rows_told s level (shaped Rows) kept.tables.rows in
-      let calls : map call_numbers (map call_of (rows_of bytes Calls)) ≡ rows_of bytes Calls = ap (λ (rs : List (List ℕ)). map call_numbers (map call_of rs)) calls_none ∙ sym calls_none in
+      let calls : map call_numbers (map call_row_of (rows_of bytes Calls)) ≡ rows_of bytes Calls = ap (λ (rs : List (List ℕ)). map call_numbers (map call_row_of rs)) calls_none ∙ sym calls_none in
       let members : map member_numbers (map member_of (rows_of bytes Members)) ≡ rows_of bytes Members = ap (λ (rs : List (List ℕ)). map member_numbers (map member_of rs)) members_none ∙ sym members_none in
       let nodes = nodes_told s (shaped Nodes) kept.tables.nodes in
       (λ i. record {
@@ -314,9 +314,9 @@ module _ (bytes : List ℕ) (kept : IsKept bytes) where
         names = s.names;
       })
 
-  body_is : body (decoded (sections_at bytes)) ≡ drop (header_size level) bytes
+  body_is : body (form_of_sections (sections_at bytes)) ≡ drop (header_size level) bytes
   body_is =
-      let f = decoded (sections_at bytes) in
+      let f = form_of_sections (sections_at bytes) in
       let raw : section_bytes f ≡ raw_bytes (sections_of f) = λ i s. section_raw f s i in
       ap (λ (part : Section → List ℕ). flat_map part order) raw ∙ ap (λ (s : Sections). flat_map (raw_bytes s) order) told ∙ sym behind_is
 
@@ -325,48 +325,48 @@ module _ (bytes : List ℕ) (kept : IsKept bytes) where
   of_rows : {A : Type 0} (of_numbers : List ℕ → A) (s : Section) → length (map of_numbers (rows_of bytes s)) ≡ count_told bytes s
   of_rows of_numbers s = length-map (rows_of bytes s) of_numbers ∙ length-rows_at (record_size level s / 4) (count_told bytes s) (bytes_from bytes s)
 
-  count_is : (s : Section) → record_count (decoded (sections_at bytes)) s ≡ count_told bytes s
-  unfolding decoded sections_at
-  count_is Code = of_rows word_of Code
+  count_is : (s : Section) → record_count (form_of_sections (sections_at bytes)) s ≡ count_told bytes s
+  unfolding form_of_sections sections_at
+  count_is Code = of_rows only_number Code
   count_is Initial = length-take-le (count_told bytes Initial) (bytes_from bytes Initial) (let low = inside Initial in omega (arith, low))
-  count_is Functions = of_rows function_of Functions
+  count_is Functions = of_rows function_of_row Functions
   count_is Places = of_rows place_of Places
-  count_is Owners = of_rows word_of Owners
+  count_is Owners = of_rows only_number Owners
   count_is Variables = of_rows variable_of Variables
   count_is Changes = of_rows change_of Changes
-  count_is Flow = of_rows flow_of Flow
+  count_is Flow = of_rows flow_pair_of Flow
   count_is Assigned = of_rows assigned_of Assigned
-  count_is Rows = of_rows row_of Rows
-  count_is Calls = of_rows call_of Calls
+  count_is Rows = of_rows visible_row_of Rows
+  count_is Calls = of_rows call_row_of Calls
   count_is Members = of_rows member_of Members
   count_is Nodes = of_rows node_of Nodes
   count_is Names = let low = inside Names in omega (arith, low, names_end)
 
-  level_is : (decoded (sections_at bytes)).version.level ≡ level
-  unfolding decoded sections_at
+  level_is : (form_of_sections (sections_at bytes)).version.level ≡ level
+  unfolding form_of_sections sections_at
   level_is = refl
 
-  map_is : (decoded (sections_at bytes)).version.map ≡ (version_told bytes).map
-  unfolding decoded sections_at
+  map_is : (form_of_sections (sections_at bytes)).version.map ≡ (version_told bytes).map
+  unfolding form_of_sections sections_at
   map_is = refl
 
-  whole_size : size (decoded (sections_at bytes)) ≡ length bytes
+  whole_size : size (form_of_sections (sections_at bytes)) ≡ length bytes
   unfolding size size_told
   whole_size =
-      let counts : record_count (decoded (sections_at bytes)) ≡ count_told bytes = λ i s. count_is s i in
+      let counts : record_count (form_of_sections (sections_at bytes)) ≡ count_told bytes = λ i s. count_is s i in
       (λ i. behind (level_is i) (counts i) order) ∙ size_is
 
-  mode_is : mode_number (decoded (sections_at bytes)).mode ≡ number_at bytes 12
-  unfolding decoded sections_at
+  mode_is : mode_number (form_of_sections (sections_at bytes)).mode ≡ number_at bytes 12
+  unfolding form_of_sections sections_at
   mode_is = mode_told (number_at bytes 12) mode_small
 
-  number_is : version_number (decoded (sections_at bytes)).version ≡ number_at bytes 4
-  unfolding decoded sections_at
+  number_is : version_number (form_of_sections (sections_at bytes)).version ≡ number_at bytes 4
+  unfolding form_of_sections sections_at
   number_is = sym version_is
 
-  short_is : short_header (decoded (sections_at bytes)) ≡ numbers_at 15 4 bytes
+  short_is : short_header (form_of_sections (sections_at bytes)) ≡ numbers_at 15 4 bytes
   short_is =
-      let f = decoded (sections_at bytes) in
+      let f = form_of_sections (sections_at bytes) in
       let size = whole_size ∙ sym total_is in
       let zero_is = sym zero_last in
       (λ i.
@@ -375,9 +375,9 @@ module _ (bytes : List ℕ) (kept : IsKept bytes) where
 
   -- The numbers that only some headers have.
   long_is : (b : Bool) → has_callers level ≡ b → AllByRecursion (λ c. c.kept ≡ true) (cond b (long_checks bytes) [])
-      → long_header (decoded (sections_at bytes)) ≡ numbers_at (cond b 4 0) 64 bytes
+      → long_header (form_of_sections (sections_at bytes)) ≡ numbers_at (cond b 4 0) 64 bytes
   long_is true has all =
-      let f = decoded (sections_at bytes) in
+      let f = form_of_sections (sections_at bytes) in
       let calls : length f.calls ≡ number_at bytes 64 = count_is Calls ∙ ap (λ (b : Bool). cond b (number_at bytes 64) 0) has in
       let members : length f.members ≡ number_at bytes 68 = count_is Members ∙ ap (λ (b : Bool). cond b (number_at bytes 68) 0) has in
       let first = sym (eqb-true (number_at bytes 72) 0 all.1.0) in
@@ -385,7 +385,7 @@ module _ (bytes : List ℕ) (kept : IsKept bytes) where
       let told_so : has_callers f.version.level ≡ true = ap has_callers level_is ∙ has in
       ap (λ (b : Bool). cond b (length f.calls ∷ length f.members ∷ 0 ∷ 0 ∷ []) []) told_so ∙ (λ i. calls i ∷ members i ∷ first i ∷ second i ∷ [])
   long_is false lacks all =
-      let f = decoded (sections_at bytes) in
+      let f = form_of_sections (sections_at bytes) in
       let told_so : has_callers f.version.level ≡ false = ap has_callers level_is ∙ lacks in
       ap (λ (b : Bool). cond b (length f.calls ∷ length f.members ∷ 0 ∷ 0 ∷ []) []) told_so
 
@@ -403,10 +403,10 @@ module _ (bytes : List ℕ) (kept : IsKept bytes) where
       sum_of true = refl
       sum_of false = refl
 
-  spelled_so : bytes ≡ spelling (decoded (sections_at bytes))
+  spelled_so : bytes ≡ spelling (form_of_sections (sections_at bytes))
   unfolding spelling
   spelled_so =
-      let f = decoded (sections_at bytes) in
+      let f = form_of_sections (sections_at bytes) in
       let more : ℕ = cond (has_callers level) 4 0 in
       let long = header_long (has_callers level) refl in
       let short : spelled (short_header f) ≡ take 60 (drop 4 bytes) = ap spelled short_is ∙ numbers_spelled 15 4 bytes kept.are (omega (arith, kept.long)) in
@@ -424,11 +424,11 @@ module _ (bytes : List ℕ) (kept : IsKept bytes) where
 
   -- ---- the image
 
-  sizes : SizeRules (decoded (sections_at bytes))
+  sizes : SizeRules (form_of_sections (sections_at bytes))
   sizes =
       let h = kept.header_kept.1.1.1.1 in
       let initial = and_parts (leb (count_told bytes Initial) bytes_size) (count_told bytes Initial % 4 == 0) h.1.1.0 in
-      let most : most_words (decoded (sections_at bytes)).version.map ≡ most_words (version_told bytes).map = ap most_words map_is in
+      let most : most_words (form_of_sections (sections_at bytes)).version.map ≡ most_words (version_told bytes).map = ap most_words map_is in
       record {
         version = ap is_read number_is ∙ kept.header_kept.1.0;
         code = omega (arith, count_is Code, most, leb-true (count_told bytes Code) (most_words (version_told bytes).map) h.1.0);
@@ -445,14 +445,14 @@ module _ (bytes : List ℕ) (kept : IsKept bytes) where
   fit_from s numbers xs same =
       records_fit numbers xs (subst (AllByRecursion AllFit) (sym same) (rows_fit (record_size level s / 4) (count_told bytes s) (bytes_from bytes s) (are_from s)))
 
-  initial_bytes : AreBytes (decoded (sections_at bytes)).initial
-  unfolding decoded sections_at
+  initial_bytes : AreBytes (form_of_sections (sections_at bytes)).initial
+  unfolding form_of_sections sections_at
   initial_bytes = AreBytes-take (count_told bytes Initial) (bytes_from bytes Initial) (are_from Initial)
 
-  fits : FitRules (decoded (sections_at bytes))
+  fits : FitRules (form_of_sections (sections_at bytes))
   unfolding sections_at
   fits =
-      let f = decoded (sections_at bytes) in
+      let f = form_of_sections (sections_at bytes) in
       record {
         code = words_fit_alone f.code (fit_words Code f.code (ap (λ (s : Sections). s.code) told));
         initial = all_bytes f.initial initial_bytes;
@@ -472,39 +472,39 @@ module _ (bytes : List ℕ) (kept : IsKept bytes) where
       fit_words : (s : Section) (ns : List ℕ) → map word_numbers ns ≡ rows_of bytes s → AllByRecursion AllFit (map word_numbers ns)
       fit_words s ns same = subst (AllByRecursion AllFit) (sym same) (rows_fit (record_size level s / 4) (count_told bytes s) (bytes_from bytes s) (are_from s))
 
-  few : length (decoded (sections_at bytes)).functions < no_function
-  few = less_functions (decoded (sections_at bytes)) sizes.whole
+  few : length (form_of_sections (sections_at bytes)).functions < no_function
+  few = less_functions (form_of_sections (sections_at bytes)) sizes.whole
 
-  tells_functions : TellsFunctions (decoded (sections_at bytes))
-  unfolding decoded
+  tells_functions : TellsFunctions (form_of_sections (sections_at bytes))
+  unfolding form_of_sections
   tells_functions = all_mapped (λ v. v.function ≢ Some no_function) variable_of (λ row. owner_apart (get_or row 1 0)) (sections_at bytes).variables
 
-  tells_saved : TellsSaved (decoded (sections_at bytes))
-  unfolding decoded sections_at
-  tells_saved none = all_rows (λ g. g.saved ≡ 0) function_of (rows_of bytes Functions) (λ i row at. let b = shaped Functions i row at in rw b.1 (saved_none level b.0 none))
+  tells_saved : TellsSaved (form_of_sections (sections_at bytes))
+  unfolding form_of_sections sections_at
+  tells_saved none = all_rows (λ g. g.saved ≡ 0) function_of_row (rows_of bytes Functions) (λ i row at. let b = shaped Functions i row at in rw b.1 (saved_none level b.0 none))
 
-  tells_writers : TellsWriters (decoded (sections_at bytes))
-  unfolding decoded
-  tells_writers = all_mapped (λ r. TellsWriter r.verdict) row_of (λ row. verdict_apart (get_or row 2 0) (get_or row 3 0) (get_or row 4 0) (get_or row 5 0)) (sections_at bytes).rows
+  tells_writers : TellsWriters (form_of_sections (sections_at bytes))
+  unfolding form_of_sections
+  tells_writers = all_mapped (λ r. TellsWriter r.verdict) visible_row_of (λ row. verdict_apart (get_or row 2 0) (get_or row 3 0) (get_or row 4 0) (get_or row 5 0)) (sections_at bytes).rows
 
-  tells_quiet : TellsQuiet (decoded (sections_at bytes))
-  unfolding decoded sections_at
+  tells_quiet : TellsQuiet (form_of_sections (sections_at bytes))
+  unfolding form_of_sections sections_at
   tells_quiet = (
-    all_mapped (λ r. r.quiet ≢ Some 0) row_of (λ row. quiet_apart (get_or row 6 0)) (rows_of bytes Rows),
-    λ none. all_rows (λ r. r.quiet ≡ None) row_of (rows_of bytes Rows) (λ i row at. let b = shaped Rows i row at in rw b.1 (quiet_none level b.0 none)),
+    all_mapped (λ r. r.quiet ≢ Some 0) visible_row_of (λ row. quiet_apart (get_or row 6 0)) (rows_of bytes Rows),
+    λ none. all_rows (λ r. r.quiet ≡ None) visible_row_of (rows_of bytes Rows) (λ i row at. let b = shaped Rows i row at in rw b.1 (quiet_none level b.0 none)),
   )
 
-  calls_rule : CallRules (decoded (sections_at bytes))
-  unfolding decoded sections_at
-  calls_rule = record { none = λ _. ap (map call_of) calls_none }
+  calls_rule : CallRules (form_of_sections (sections_at bytes))
+  unfolding form_of_sections sections_at
+  calls_rule = record { none = λ _. ap (map call_row_of) calls_none }
 
-  members_rule : MemberRules (decoded (sections_at bytes))
-  unfolding decoded sections_at
+  members_rule : MemberRules (form_of_sections (sections_at bytes))
+  unfolding form_of_sections sections_at
   members_rule = record { none = λ _. ap (map member_of) members_none; structures = λ _. ap (map member_of) members_none }
 
-  image_is : IsImage (decoded (sections_at bytes))
+  image_is : IsImage (form_of_sections (sections_at bytes))
   image_is =
-      let f = decoded (sections_at bytes) in
+      let f = form_of_sections (sections_at bytes) in
       let program : ProgramKept (sections_of f) = subst ProgramKept (sym told) kept.program in
       let tables : TablesKept (sections_of f) = subst TablesKept (sym told) kept.tables in
       let functions = functions_sound f tells_saved (λ i lt. program.functions i (omega (arith, lt, length-map f.functions (function_numbers f.version.level)))) in
@@ -536,8 +536,8 @@ same_ok : {A : Type 0} (x y : A) → ◌≡◌ {A = Result A Fault} (Ok x) (Ok y
 same_ok x y e = cc
 
 -- What is read are the sections that were checked.
-pub read_from : (r : Result Sections Fault) (f : Form) → (r >>= λ s. Ok (decoded s)) ≡ Ok f → (s : Sections) × (r ≡ Ok s) × (decoded s ≡ f)
-read_from (Ok s) f e = (s, refl, same_ok (decoded s) f e)
+pub read_from : (r : Result Sections Fault) (f : Form) → (r >>= λ s. Ok (form_of_sections s)) ≡ Ok f → (s : Sections) × (r ≡ Ok s) × (form_of_sections s ≡ f)
+read_from (Ok s) f e = (s, refl, same_ok (form_of_sections s) f e)
 read_from (Err d) f e = absurd cc
 
 pub read_sound : (bytes : List ℕ) (f : Form) → AreBytes bytes → read_of bytes ≡ Ok f → IsImage f × (bytes ≡ spelling f)
@@ -555,4 +555,4 @@ read_sound bytes f are e =
       program = program_parts (sections_at bytes) program.0;
       tables = tables_parts (sections_at bytes) tables.0;
     } in
-    subst (λ (g : Form). IsImage g × (bytes ≡ spelling g)) (ap decoded (same_ok (sections_at bytes) read.0 tables.1) ∙ read.2) (image_is bytes kept, spelled_so bytes kept)
+    subst (λ (g : Form). IsImage g × (bytes ≡ spelling g)) (ap form_of_sections (same_ok (sections_at bytes) read.0 tables.1) ∙ read.2) (image_is bytes kept, spelled_so bytes kept)

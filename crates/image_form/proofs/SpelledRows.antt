@@ -9,7 +9,7 @@ use Rattle.std.proofs.lemmas.Nat.{le_bytes_4}
 use Rattle.std.proofs.Math.Seq.{take-add}
 use Rattle.image_form_sections.proofs.Octets.{AreBytes, AreBytes-drop, AreBytes-take, number_fits}
 use Rattle.image_form.specs.Rules.{AllFit, RecordsFit}
-use Rattle.image_form_sections.specs.Sections.{number_at, numbers_at, rows_at}
+use Rattle.image_form_sections.specs.Sections.{number_at, numbers_at, number_rows_at}
 use Rattle.image_form.specs.Spelling.{section, spelled}
 
 pub all_bytes : (bytes : List ℕ) → AreBytes bytes → AllByRecursion (λ b. b < 256) bytes
@@ -39,18 +39,18 @@ numbers_spelled (suc n) at bytes are le =
 abbrev pub spelled_rows : List (List ℕ) → List ℕ
 spelled_rows rows = flat_map spelled rows
 
-pub rows_spelled : (width n : ℕ) (bytes : List ℕ) → AreBytes bytes → 4 * width * n ≤ length bytes → spelled_rows (rows_at width n bytes) ≡ take (4 * width * n) bytes
+pub rows_spelled : (width n : ℕ) (bytes : List ℕ) → AreBytes bytes → 4 * width * n ≤ length bytes → spelled_rows (number_rows_at width n bytes) ≡ take (4 * width * n) bytes
 rows_spelled width zero bytes are le = let none : 4 * width * 0 ≡ 0 = omega arith in rw none refl
 rows_spelled width (suc n) bytes are le =
     let size : 4 * width * suc n ≡ 4 * width + 4 * width * n = omega arith in
     let head : spelled (numbers_at width 0 bytes) ≡ take (4 * width) bytes = numbers_spelled width 0 bytes are (omega (arith, le)) in
     let tail = rows_spelled width n (drop (4 * width) bytes) (AreBytes-drop (4 * width) bytes are) (omega (arith, le, length-drop (4 * width) bytes)) in
-    flat_map-cons spelled (numbers_at width 0 bytes) (rows_at width n (drop (4 * width) bytes))
+    flat_map-cons spelled (numbers_at width 0 bytes) (number_rows_at width n (drop (4 * width) bytes))
     ∙ (λ i. head i ++ tail i)
     ∙ sym (take-add (4 * width) (4 * width * n) bytes)
     ∙ ap (λ (k : ℕ). take k bytes) (sym size)
 
-pub rows_fit : (width n : ℕ) (bytes : List ℕ) → AreBytes bytes → AllByRecursion AllFit (rows_at width n bytes)
+pub rows_fit : (width n : ℕ) (bytes : List ℕ) → AreBytes bytes → AllByRecursion AllFit (number_rows_at width n bytes)
 rows_fit width zero bytes are = tt
 rows_fit width (suc n) bytes are = (numbers_fit width 0 bytes are, rows_fit width n (drop (4 * width) bytes) (AreBytes-drop (4 * width) bytes are))
 

@@ -4,9 +4,9 @@ use Rattle.std.specs.Prelude.{map, slice_get, unwrap_or, ◌==◌, ◌&&◌, ◌
 use Rattle.std.proofs.lemmas.Bool.{eq-eqb, true≢false, eqb-true, leb-true, and_parts, cases_Bool}
 use Rattle.std.proofs.lemmas.Bool.Decides.{nat_tests}
 use Rattle.std.proofs.lemmas.Option.{slice_get_within, get_or_from_slice_get, same_Some}
-use Rattle.image_form.specs.Decoding.{mode_of, owner_of, element_of, storage_of, variable_of, kind_of, change_of, writer_of, quiet_of, function_of, row_of, operation_of, truncation_of, node_of}
+use Rattle.image_form.specs.Decoding.{mode_of, owning_function, element_type_of, storage_of, variable_of, kind_of, change_of, writer_of, quiet_of, function_of_row, visible_row_of, operation_of, truncation_of, node_of}
 use Rattle.image_form.specs.Numbers.{mode_number, no_function, element_number, storage_number, storage_value, variable_numbers, kind_number, change_numbers, function_numbers, row_numbers, operation_number, truncation_number, node_numbers}
-use Rattle.image_form_sections.specs.Sections.{number_at, numbers_at, rows_at, cell, Sections}
+use Rattle.image_form_sections.specs.Sections.{number_at, numbers_at, number_rows_at, cell, Sections}
 use Rattle.image_form_sections.specs.TestsOfChanges.{change_tests, row_tests, is_change, is_kind, is_node_or_start, is_writer}
 use Rattle.image_form_sections.specs.TestsOfNodes.{node_tests, is_right, is_operand, is_new_node}
 use Rattle.image_form_sections.specs.TestsOfTables.{within}
@@ -19,7 +19,7 @@ use Rattle.image_form_sections.specs.Versions.{has_quiet, has_callers, level_of}
 use Rattle.image_form.proofs.Kept.{AllTrue}
 
 -- A row is some numbers of the bytes.
-pub row_shape : (width n : ℕ) (bytes : List ℕ) (i : ℕ) (row : List ℕ) → slice_get (rows_at width n bytes) i ≡ Some row → (b : List ℕ) × (row ≡ numbers_at width 0 b)
+pub row_shape : (width n : ℕ) (bytes : List ℕ) (i : ℕ) (row : List ℕ) → slice_get (number_rows_at width n bytes) i ≡ Some row → (b : List ℕ) × (row ≡ numbers_at width 0 b)
 row_shape width zero bytes i row at = absurd cc
 row_shape width (suc n) bytes zero row at = (bytes, sym (same_Some (numbers_at width 0 bytes) row at))
 row_shape width (suc n) bytes (suc i) row at = row_shape width n (drop (4 * width) bytes) i row at
@@ -30,8 +30,8 @@ rows_told numbers of_numbers [] told = refl
 rows_told numbers of_numbers (row ∷ rows) told = let head = told 0 row refl in let tail = rows_told numbers of_numbers rows (λ i r at. told (suc i) r at) in (λ i. head i ∷ tail i)
 
 -- Rows of which all are told.
-pub plain_told : {A : Type 0} (width n : ℕ) (bytes : List ℕ) (numbers : A → List ℕ) (of_numbers : List ℕ → A) → ((b : List ℕ) → numbers (of_numbers (numbers_at width 0 b)) ≡ numbers_at width 0 b) → map numbers (map of_numbers (rows_at width n bytes)) ≡ rows_at width n bytes
-plain_told width n bytes numbers of_numbers told = rows_told numbers of_numbers (rows_at width n bytes) (λ i row at.
+pub plain_told : {A : Type 0} (width n : ℕ) (bytes : List ℕ) (numbers : A → List ℕ) (of_numbers : List ℕ → A) → ((b : List ℕ) → numbers (of_numbers (numbers_at width 0 b)) ≡ numbers_at width 0 b) → map numbers (map of_numbers (number_rows_at width n bytes)) ≡ number_rows_at width n bytes
+plain_told width n bytes numbers of_numbers told = rows_told numbers of_numbers (number_rows_at width n bytes) (λ i row at.
     let shape = row_shape width n bytes i row at in
     rw shape.1 (told shape.0))
 
@@ -40,14 +40,14 @@ mode_told zero le = refl
 mode_told (suc zero) le = refl
 mode_told (suc (suc n)) le = absurd (omega (arith, le))
 
-owner_told : (n : ℕ) → unwrap_or (owner_of n) no_function ≡ n
+owner_told : (n : ℕ) → unwrap_or (owning_function n) no_function ≡ n
 owner_told n = elim (cases_Bool (n == no_function)) [
   | inl same ↦ rw same (sym (eqb-true n no_function same))
   | inr apart ↦ rw apart refl
 ]
 
 -- A function's number is not the one that stands for none.
-pub owner_apart : (n : ℕ) → owner_of n ≢ Some no_function
+pub owner_apart : (n : ℕ) → owning_function n ≢ Some no_function
 owner_apart n e = elim (cases_Bool (n == no_function)) [
   | inl same ↦ let none = rw same at e in cc
   | inr apart ↦ let some = same_Some n no_function (rw apart at e) in let yes = eq-eqb n no_function some in true≢false (sym yes ∙ apart)
@@ -72,24 +72,24 @@ pub quiet_apart : (n : ℕ) → quiet_of n ≢ Some 0
 quiet_apart n = writer_apart n
 
 -- A function of a version of each level.
-pub function_told : (level : Level) (b : List ℕ) → function_numbers level (function_of (numbers_at (record_size level Functions / 4) 0 b)) ≡ numbers_at (record_size level Functions / 4) 0 b
+pub function_told : (level : Level) (b : List ℕ) → function_numbers level (function_of_row (numbers_at (record_size level Functions / 4) 0 b)) ≡ numbers_at (record_size level Functions / 4) 0 b
 function_told Plain b = refl
 function_told Quiet b = refl
 function_told Callers b = refl
 
 -- Where the registers that are saved are not told, they are 0.
-pub saved_none : (level : Level) (b : List ℕ) → has_callers level ≡ false → (function_of (numbers_at (record_size level Functions / 4) 0 b)).saved ≡ 0
+pub saved_none : (level : Level) (b : List ℕ) → has_callers level ≡ false → (function_of_row (numbers_at (record_size level Functions / 4) 0 b)).saved ≡ 0
 saved_none Plain b none = refl
 saved_none Quiet b none = refl
 saved_none Callers b none = absurd cc
 
 -- Where quiet paths are not told, there are none.
-pub quiet_none : (level : Level) (b : List ℕ) → has_quiet level ≡ false → (row_of (numbers_at (record_size level Rows / 4) 0 b)).quiet ≡ None
+pub quiet_none : (level : Level) (b : List ℕ) → has_quiet level ≡ false → (visible_row_of (numbers_at (record_size level Rows / 4) 0 b)).quiet ≡ None
 quiet_none Plain b none = refl
 quiet_none Quiet b none = absurd cc
 quiet_none Callers b none = absurd cc
 
-element_told : (n : ℕ) → n ≤ 6 → element_number (element_of n) ≡ n
+element_told : (n : ℕ) → n ≤ 6 → element_number (element_type_of n) ≡ n
 element_told zero le = refl
 element_told (suc zero) le = refl
 element_told (suc (suc zero)) le = refl
@@ -188,7 +188,7 @@ module _ (s : Sections) where
 
   -- A row of a version of this level.
   abbrev RowTold : Level → List ℕ → Type 0
-  RowTold level b = row_numbers level (row_of (numbers_at (record_size level Rows / 4) 0 b)) ≡ numbers_at (record_size level Rows / 4) 0 b
+  RowTold level b = row_numbers level (visible_row_of (numbers_at (record_size level Rows / 4) 0 b)) ≡ numbers_at (record_size level Rows / 4) 0 b
 
   long_told : (i : ℕ) (b : List ℕ) → get_or s.rows i [] ≡ numbers_at 7 0 b → AllTrue (row_tests s i) → RowTold Quiet b
   unfolding is_change is_node_or_start is_writer
@@ -237,8 +237,8 @@ module _ (s : Sections) where
   visible_told Quiet i b row kept = long_told i b row kept
   visible_told Callers i b row kept = long_told i b row kept
 
-  pub visible_rows_told : (level : Level) → ShapedRows (record_size level Rows / 4) s.rows → ((i : ℕ) → i < length s.rows → AllTrue (row_tests s i)) → map (row_numbers level) (map row_of s.rows) ≡ s.rows
-  visible_rows_told level shape kept = rows_told (row_numbers level) row_of s.rows (λ i row at.
+  pub visible_rows_told : (level : Level) → ShapedRows (record_size level Rows / 4) s.rows → ((i : ℕ) → i < length s.rows → AllTrue (row_tests s i)) → map (row_numbers level) (map visible_row_of s.rows) ≡ s.rows
+  visible_rows_told level shape kept = rows_told (row_numbers level) visible_row_of s.rows (λ i row at.
       let b = shape i row at in
       rw b.1 (visible_told level i b.0 (get_or_from_slice_get s.rows i row [] at ∙ b.1) (kept i (slice_get_within s.rows i row at))))
 

@@ -35,8 +35,8 @@ abbrev pub mode_of : ℕ → Mode
 mode_of n = if n == 0 then Slots else Registers
 
 -- The function of its numbers; one that is not there is 0.
-abbrev pub function_of : List ℕ → Function
-function_of ns = record {
+abbrev pub function_of_row : List ℕ → Function
+function_of_row ns = record {
   name_length = slice_index ns 0;
   first = slice_index ns 1;
   end = slice_index ns 2;
@@ -55,12 +55,12 @@ place_of ns = record {
 }
 
 -- The number of a variable's function, if it has one.
-abbrev pub owner_of : ℕ → Option ℕ
-owner_of n = if n == no_function then None else Some n
+abbrev pub owning_function : ℕ → Option ℕ
+owning_function n = if n == no_function then None else Some n
 
 -- The element type of a number; the greatest one stands for all above it.
-abbrev pub element_of : ℕ → ElementType
-element_of n = slice_index_or (U8 ∷ I8 ∷ U16 ∷ I16 ∷ U32 ∷ I32 ∷ []) n Pointer
+abbrev pub element_type_of : ℕ → ElementType
+element_type_of n = slice_index_or (U8 ∷ I8 ∷ U16 ∷ I16 ∷ U32 ∷ I32 ∷ []) n Pointer
 
 -- The storage of its number and its value.
 abbrev pub storage_of : ℕ → ℕ → Storage
@@ -70,9 +70,9 @@ storage_of n value = slice_index_or (Static value ∷ Frame value ∷ Register v
 abbrev pub variable_of : List ℕ → Variable
 variable_of ns = record {
   name_length = slice_index ns 0;
-  function = owner_of (slice_index ns 1);
+  function = owning_function (slice_index ns 1);
   position = slice_index ns 2;
-  element = element_of (slice_index ns 3);
+  element = element_type_of (slice_index ns 3);
   storage = storage_of (slice_index ns 4) (slice_index ns 5);
   count = slice_index ns 6;
 }
@@ -91,8 +91,8 @@ change_of ns = record {
 }
 
 -- The flow pair of two numbers.
-abbrev pub flow_of : List ℕ → FlowPair
-flow_of ns = record { from = slice_index ns 0; to = slice_index ns 1 }
+abbrev pub flow_pair_of : List ℕ → FlowPair
+flow_pair_of ns = record { from = slice_index ns 0; to = slice_index ns 1 }
 
 -- The assigned pair of two numbers.
 abbrev pub assigned_of : List ℕ → AssignedPair
@@ -113,8 +113,8 @@ abbrev pub quiet_of : ℕ → Option ℕ
 quiet_of n = if n == 0 then None else Some n
 
 -- The visible row of its numbers; one that is not there is 0.
-abbrev pub row_of : List ℕ → VisibleRow
-row_of ns = record {
+abbrev pub visible_row_of : List ℕ → VisibleRow
+visible_row_of ns = record {
   place = slice_index ns 0;
   variable = slice_index ns 1;
   verdict = verdict_of (slice_index ns 2) (slice_index ns 3) (slice_index ns 4) (slice_index ns 5);
@@ -122,8 +122,8 @@ row_of ns = record {
 }
 
 -- The row of a call of seven numbers.
-abbrev pub call_of : List ℕ → CallRow
-call_of ns = record {
+abbrev pub call_row_of : List ℕ → CallRow
+call_row_of ns = record {
   address = slice_index ns 0;
   variable = slice_index ns 1;
   verdict = verdict_of (slice_index ns 2) (slice_index ns 3) (slice_index ns 4) (slice_index ns 5);
@@ -136,14 +136,15 @@ member_of ns = record {
   structure = slice_index ns 0;
   name_length = slice_index ns 1;
   offset = slice_index ns 2;
-  element = element_of (slice_index ns 3);
+  element = element_type_of (slice_index ns 3);
   count = slice_index ns 4;
 }
 
 -- The operation of a number, from 3 on; the greatest one stands for all above it.
 abbrev pub operation_of : ℕ → Operation
 operation_of n =
-    slice_index_or (Add ∷ Sub ∷ Mul ∷ Div ∷ Divu ∷ Rem ∷ Remu ∷ Sll ∷ Srl ∷ Sra ∷ And ∷ Or ∷ Xor ∷ Slt ∷ []) (n - 3) Sltu
+    slice_index_or (Add ∷ Sub ∷ Mul ∷ Div ∷ Divu ∷ Rem ∷ Remu ∷ Sll ∷ Srl ∷ Sra ∷ And ∷ Or ∷ Xor ∷ Slt ∷ []) (n - 3)
+    Sltu
 
 -- The truncation of a number, from 18 on; the greatest one stands for all above it.
 abbrev pub truncation_of : ℕ → Truncation
@@ -163,25 +164,25 @@ node_of ns =
     (computed_of (slice_index ns 0) (slice_index ns 1) (slice_index ns 2))
 
 -- The only number of a row.
-abbrev pub word_of : List ℕ → ℕ
-word_of ns = slice_index ns 0
+abbrev pub only_number : List ℕ → ℕ
+only_number ns = slice_index ns 0
 
 -- The image that the sections say.
-unfoldable pub decoded : Sections → Form
-decoded s = record {
+unfoldable pub form_of_sections : Sections → Form
+form_of_sections s = record {
   version = version_of s.version;
   mode = mode_of s.mode;
-  code = map word_of s.code;
+  code = map only_number s.code;
   initial = s.initial;
-  functions = map function_of s.functions;
+  functions = map function_of_row s.functions;
   places = map place_of s.places;
-  owners = map word_of s.owners;
+  owners = map only_number s.owners;
   variables = map variable_of s.variables;
   changes = map change_of s.changes;
-  flow = map flow_of s.flow;
+  flow = map flow_pair_of s.flow;
   assigned = map assigned_of s.assigned;
-  rows = map row_of s.rows;
-  calls = map call_of s.calls;
+  rows = map visible_row_of s.rows;
+  calls = map call_row_of s.calls;
   members = map member_of s.members;
   nodes = map node_of s.nodes;
   names = s.names;

@@ -31,4 +31,5 @@ variable_name f k = name_at (variable_name_lengths f) k (drop (sum (function_nam
 
 -- The name of the pass that made the k-th change, counted from 0.
 abbrev pub pass_name : Form → ℕ → List ℕ
-pass_name f k = name_at (pass_name_lengths f) k (drop (sum (function_name_lengths f) + sum (variable_name_lengths f)) f.names)
+pass_name f k =
+    name_at (pass_name_lengths f) k (drop (sum (function_name_lengths f) + sum (variable_name_lengths f)) f.names)

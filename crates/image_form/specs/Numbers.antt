@@ -96,7 +96,8 @@ flow_numbers p = p.from ∷ p.to ∷ []
 abbrev pub assigned_numbers : AssignedPair → List ℕ
 assigned_numbers p = p.place ∷ p.variable ∷ []
 
--- The verdict, the change, the node or the start place, and the writer's address, 0 where there is none; then more numbers.
+-- The verdict, the change, the node or the start place, and the writer's address, 0 where there is none; then more
+-- numbers.
 abbrev pub verdict_then : Verdict → (more : List ℕ) → List ℕ
 verdict_then Home more = 0 ∷ 0 ∷ 0 ∷ 0 ∷ more
 verdict_then (Recovered change node) more = 1 ∷ change ∷ node ∷ 0 ∷ more

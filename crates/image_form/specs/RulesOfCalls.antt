@@ -1,5 +1,5 @@
--- The rules of the rows of calls and of the members of structures. No version that is read has either: what a row or a member
--- must be is told with the first version that has them.
+-- The rules of the rows of calls and of the members of structures. No version that is read has either: what a row or a
+-- member must be is told with the first version that has them.
 use Rattle.std.specs.Prelude.{◌≡◌, false, []}
 use Rattle.image_form.specs.Form.{Form}
 use Rattle.image_form_sections.specs.Versions.{has_callers, has_structures}

@@ -40,7 +40,8 @@ abbrev pub HasDepth : List Node → ℕ → ℕ → Type 0
 HasDepth nodes zero i = ⊥
 HasDepth nodes (suc depth) i = IsSomeAnd (slice_get nodes i) (λ n. AllByRecursion (HasDepth nodes depth) (operands n))
 
--- The rules of an image's nodes: what they name, that their operands are earlier ones, at most four levels, and no two of them alike.
+-- The rules of an image's nodes: what they name, that their operands are earlier ones, at most four levels, and no two
+-- of them alike.
 pub record NodeRules (f : Form) : Type 0 where
   pub homes : AllByRecursion (NamesHome f) f.nodes
   -- Operands are earlier nodes.

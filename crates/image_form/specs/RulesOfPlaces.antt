@@ -36,4 +36,5 @@ pub record OwnerRules (f : Form) : Type 0 where
   -- It is 0 or a place of the word's function.
   pub owned : (w n : ℕ) → slice_get f.owners w ≡ Some n → n ≢ 0 → IsOwner f w n
   -- The word at a place's address has that place.
-  pub at_places : (i w : ℕ) (p : Place) → slice_get f.places i ≡ Some p → p.address ≡ word_address w → slice_get f.owners w ≡ Some (i + 1)
+  pub at_places : (i w : ℕ) (p : Place) → slice_get f.places i ≡ Some p → p.address ≡ word_address w
+      → slice_get f.owners w ≡ Some (i + 1)

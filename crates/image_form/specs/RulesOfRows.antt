@@ -14,7 +14,8 @@ use Rattle.image_form_sections.specs.Versions.{has_quiet}
 -- The variable belongs to the function of the place.
 abbrev pub IsVisible : Form → ℕ → ℕ → Type 0
 IsVisible f place variable =
-    IsSomeAnd (numbered f.places place) (λ p. IsSomeAnd (slice_get f.variables variable) (λ v. v.function ≡ Some p.function))
+    IsSomeAnd (numbered f.places place)
+    (λ p. IsSomeAnd (slice_get f.variables variable) (λ v. v.function ≡ Some p.function))
 
 -- The writer of a change of this kind: none where an assignment went, else the address of a code word.
 abbrev pub IsWriter : Form → Kind → Option ℕ → Type 0
@@ -24,7 +25,8 @@ IsWriter f kind (Some address) = (is_taken kind ≡ false) × IsCodeAddress f ad
 -- A change of the variable, a start place, and a writer that fits the change.
 abbrev pub IsEvidence : Form → ℕ → ℕ → ℕ → Option ℕ → Type 0
 IsEvidence f variable change start writer =
-    IsSomeAnd (numbered f.changes change) (λ c. (c.variable ≡ variable) × IsWriter f c.kind writer) × IsPlaceNumber f start
+    IsSomeAnd (numbered f.changes change) (λ c. (c.variable ≡ variable) × IsWriter f c.kind writer)
+    × IsPlaceNumber f start
 
 -- What a verdict on the variable may name.
 abbrev pub IsVerdict : Form → ℕ → Verdict → Type 0

@@ -1,10 +1,10 @@
--- The bytes of an image: a header of 64 bytes, or of 80 where its version has rows of calls, then the sections in their order,
--- without gaps. Each number is four bytes, the lowest first.
+-- The bytes of an image: a header of 64 bytes, or of 80 where its version has rows of calls, then the sections in their
+-- order, without gaps. Each number is four bytes, the lowest first.
 use Rattle.std.specs.Prelude.{ℕ, if◌then◌else◌, List, [], ◌∷◌, ◌++◌, length, codes}
 use Rattle.std.specs.List.{flat_map}
 use Rattle.byteorder.specs.Endian.{little_bytes}
 use Rattle.image_form.specs.Form.{Form}
-use Rattle.image_form_sections.specs.Order.{order, behind}
+use Rattle.image_form_sections.specs.Order.{order, sections_end}
 use Rattle.image_form_sections.specs.declared.section.Section.{Section}
 use Rattle.image_form_sections.specs.declared.section.Section.TheVariants.{Code, Initial, Functions, Places, Owners, Variables, Changes, Flow, Assigned, Rows, Calls, Members, Nodes, Names}
 use Rattle.image_form.specs.Numbers.{mode_number, function_numbers, place_numbers, variable_numbers, change_numbers, flow_numbers, assigned_numbers, row_numbers, call_numbers, member_numbers, node_numbers}
@@ -37,10 +37,10 @@ record_count f Names = length f.names
 
 -- How many bytes an image has.
 unfoldable pub size : Form → ℕ
-size f = behind f.version.level (record_count f) order
+size f = sections_end f.version.level (record_count f) order
 
--- The numbers of the header behind its first four bytes, as far as each version has them: the version, the size, the mode, how
--- many records each section has.
+-- The numbers of the header behind its first four bytes, as far as each version has them: the version, the size, the
+-- mode, how many records each section has.
 abbrev pub short_header : Form → List ℕ
 short_header f =
     version_number f.version ∷ size f ∷ mode_number f.mode ∷ length f.code ∷ length f.initial ∷ length f.functions

@@ -37,7 +37,7 @@ pub struct View<'a> {
     ghost fit: { are_bytes bytes.now ≡ true },
 }
 
-#[tactic(auto, unfolding(crate::specs::Decoding::decoded), using(crate::proofs::Got::counted, crate::proofs::Got::got_mapped))]
+#[tactic(auto, unfolding(crate::specs::Decoding::form_of_sections), using(crate::proofs::Got::counted, crate::proofs::Got::got_mapped))]
 impl<'a> View<'a> {
     ghost use Rattle.image_form.specs.RawRecords.{header_numbers, numbers_of_call, numbers_of_change, numbers_of_function, numbers_of_member, numbers_of_node, numbers_of_place, numbers_of_row, numbers_of_variable};
     ghost use Rattle.image_form.specs.Views.{name_of, viewed};

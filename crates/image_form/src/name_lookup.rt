@@ -1,7 +1,7 @@
 //! Names, found by the lengths that the rows of tables tell.
 
 ghost use Rattle.std.specs.Prelude.{◌≡◌, drop, map, sum, take};
-ghost use Rattle.image_form.specs.Decoding.{word_of};
+ghost use Rattle.image_form.specs.Decoding.{only_number};
 ghost use Rattle.image_form_sections.specs.Layouts.{rows_in};
 ghost use Rattle.image_form.specs.Names.{name_at};
 
@@ -9,7 +9,7 @@ use image_form_sections::Table;
 
 /// The name of a row, in bytes that begin with the name of the table's first row.
 pub fn name_in<'a>(table: &Table<'_>, row: usize, bytes: &'a [u8]) -> &'a [u8]
-    ensures { result.now ≡ name_at (map word_of (rows_in table.now)) row bytes.now }
+    ensures { result.now ≡ name_at (map only_number (rows_in table.now)) row bytes.now }
 {
     let rest = behind_names(table, row, bytes);
     front(rest, table.number(row, 0) as usize)
@@ -17,7 +17,7 @@ pub fn name_in<'a>(table: &Table<'_>, row: usize, bytes: &'a [u8]) -> &'a [u8]
 
 /// The bytes behind the names of the first rows.
 pub fn behind_names<'a>(table: &Table<'_>, rows: usize, bytes: &'a [u8]) -> &'a [u8]
-    ensures { result.now ≡ drop (sum (take rows (map word_of (rows_in table.now)))) bytes.now }
+    ensures { result.now ≡ drop (sum (take rows (map only_number (rows_in table.now)))) bytes.now }
 {
     let mut rest = bytes;
     for row in 0..rows {

@@ -1,7 +1,7 @@
 //! An image from its bytes.
 
 ghost use Rattle.std.specs.Prelude.{◌≡◌, IfOk, Ok};
-ghost use Rattle.image_form.specs.Decoding.{decoded};
+ghost use Rattle.image_form.specs.Decoding.{form_of_sections};
 ghost use Rattle.image_form.specs.Form.{Form, form};
 ghost use Rattle.image_form.specs.Lent.{image_in};
 ghost use Rattle.image_form.specs.Reading.{read_of};
@@ -67,9 +67,9 @@ fn view_exactly(alloc: Global, bytes: &[u8]) -> Result<View<'_>, ImageErr>
     Ok(View::new(bytes, &layout))
 }
 
-#[tactic(auto, unfolding(crate::specs::Decoding::decoded))]
+#[tactic(auto, unfolding(crate::specs::Decoding::form_of_sections))]
 fn image_of(alloc: Global, layout: &Layout<'_>) -> Result<Image, AllocError>
-    ensures { IfOk result (λ image. form image ≡ decoded (sections_in layout.now)) }
+    ensures { IfOk result (λ image. form image ≡ form_of_sections (sections_in layout.now)) }
 {
     Ok(Image {
         version: version_of(layout.version),

@@ -1,7 +1,7 @@
 //! Records as numbers of 32 bits, little endian, and back.
 
 ghost use Rattle.std.specs.Prelude.{◌≡◌, ℕ, ◌++◌, List, [], IfOk, OnOk, map, slice_index_or};
-ghost use Rattle.image_form.specs.Decoding.{assigned_of, call_of, change_of, element_of, flow_of, function_of, kind_of, computed_of, member_of, mode_of, node_of, operation_of, owner_of, place_of, quiet_of, row_of, storage_of, truncation_of, variable_of, verdict_of, word_numbers, word_of, writer_of};
+ghost use Rattle.image_form.specs.Decoding.{assigned_of, call_row_of, change_of, element_type_of, flow_pair_of, function_of_row, kind_of, computed_of, member_of, mode_of, node_of, operation_of, owning_function, place_of, quiet_of, visible_row_of, storage_of, truncation_of, variable_of, verdict_of, word_numbers, only_number, writer_of};
 ghost use Rattle.image_form_sections.specs.Layouts.{rows_in};
 ghost use Rattle.image_form.specs.Numbers.{assigned_numbers, call_numbers, change_numbers, element_number, flow_numbers, function_numbers, kind_number, last_if, member_numbers, node_numbers, operation_number, place_numbers, row_numbers, storage_number, storage_value, truncation_number, variable_numbers, verdict_numbers};
 ghost use Rattle.image_form.specs.Spelling.{section, spelled};
@@ -83,7 +83,7 @@ pub fn take_records<R: Record>(alloc: Global, table: &Table<'_>) -> Result<Vec<R
 impl Record for u32 {
     ghost numbers = { λ _. word_numbers };
 
-    ghost of_numbers = { word_of };
+    ghost of_numbers = { only_number };
 
     fn put(&self, _level: Level, out: &mut Vec<u8>) -> Result<(), AllocError> {
         put_numbers(out, &[*self])
@@ -97,7 +97,7 @@ impl Record for u32 {
 impl Record for Function {
     ghost numbers = { function_numbers };
 
-    ghost of_numbers = { function_of };
+    ghost of_numbers = { function_of_row };
 
     fn put(&self, level: Level, out: &mut Vec<u8>) -> Result<(), AllocError> {
         put_numbers(
@@ -212,7 +212,7 @@ impl Record for Change {
 impl Record for FlowPair {
     ghost numbers = { λ _. flow_numbers };
 
-    ghost of_numbers = { flow_of };
+    ghost of_numbers = { flow_pair_of };
 
     fn put(&self, _level: Level, out: &mut Vec<u8>) -> Result<(), AllocError> {
         put_numbers(out, &[self.from, self.to])
@@ -246,7 +246,7 @@ impl Record for AssignedPair {
 impl Record for VisibleRow {
     ghost numbers = { row_numbers };
 
-    ghost of_numbers = { row_of };
+    ghost of_numbers = { visible_row_of };
 
     fn put(&self, level: Level, out: &mut Vec<u8>) -> Result<(), AllocError> {
         put_numbers(out, &[self.place, self.variable])?;
@@ -272,7 +272,7 @@ impl Record for VisibleRow {
 impl Record for CallRow {
     ghost numbers = { λ _. call_numbers };
 
-    ghost of_numbers = { call_of };
+    ghost of_numbers = { call_row_of };
 
     fn put(&self, _level: Level, out: &mut Vec<u8>) -> Result<(), AllocError> {
         put_numbers(out, &[self.address, self.variable])?;
@@ -493,7 +493,7 @@ pub fn mode_of(number: u32) -> Mode
 }
 
 fn owner_of(number: u32) -> Option<u32>
-    ensures { result ≡ owner_of number }
+    ensures { result ≡ owning_function number }
 {
     if number == NO_FUNCTION {
         None
@@ -503,7 +503,7 @@ fn owner_of(number: u32) -> Option<u32>
 }
 
 fn element_of(number: u32) -> ElementType
-    ensures { result ≡ element_of number }
+    ensures { result ≡ element_type_of number }
 {
     match number {
         0 => ElementType::U8,

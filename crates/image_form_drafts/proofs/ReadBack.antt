@@ -11,9 +11,9 @@ use Rattle.image_form_sections.specs.declared.section.Section.TheVariants.{Code,
 use Rattle.image_form_sections.specs.declared.version.Level.{Level}
 use Rattle.image_form_sections.specs.declared.version.Level.TheVariants.{Plain, Quiet, Callers}
 use Rattle.image_form_sections.specs.declared.version.Version.{Version}
-use Rattle.image_form.specs.Decoding.{place_of, change_of, flow_of, assigned_of, mode_of, node_of}
-use Rattle.image_form.specs.Order.{behind, order, record_size}
-use Rattle.image_form.specs.Sections.{number_at, numbers_at, rows_at}
+use Rattle.image_form.specs.Decoding.{place_of, change_of, flow_pair_of, assigned_of, mode_of, node_of}
+use Rattle.image_form.specs.Order.{sections_end, order, record_size}
+use Rattle.image_form.specs.Sections.{number_at, numbers_at, number_rows_at}
 use Rattle.image_form.specs.Versions.{has_callers, header_size, version_number, version_of}
 use Rattle.image_form.specs.Form.{Form}
 use Rattle.image_form.specs.Numbers.{mode_number, function_numbers, place_numbers, variable_numbers, change_numbers, flow_numbers, assigned_numbers, row_numbers, call_numbers, member_numbers, node_numbers}
@@ -52,8 +52,8 @@ table_same : {A : Type 0} (width : ℕ) (numbers : A → List ℕ) (sized : (x :
     → RecordsFit numbers xs → RecordsFit numbers ys → section numbers xs ≡ section numbers ys → map numbers xs ≡ map numbers ys
 table_same width numbers sized xs ys count fit fit' e =
     sym (rows_back width numbers sized xs [] fit)
-    ∙ ap (λ (n : ℕ). rows_at width n (section numbers xs ++ [])) count
-    ∙ ap (λ (b : List ℕ). rows_at width (length ys) (b ++ [])) e
+    ∙ ap (λ (n : ℕ). number_rows_at width n (section numbers xs ++ [])) count
+    ∙ ap (λ (b : List ℕ). number_rows_at width (length ys) (b ++ [])) e
     ∙ rows_back width numbers sized ys [] fit'
 
 of_numbers_same : {A : Type 0} (numbers : A → List ℕ) (of_numbers : List ℕ → A)
@@ -152,7 +152,7 @@ short_fits f whole =
     )
 
 -- As many rows of calls and as many members take as many bytes, where the other sections have as many records.
-others_same : (level : Level) (count other : Section → ℕ) → behind level count order ≡ behind level other order
+others_same : (level : Level) (count other : Section → ℕ) → sections_end level count order ≡ sections_end level other order
     → count Code ≡ other Code → count Initial ≡ other Initial → count Functions ≡ other Functions
     → count Places ≡ other Places → count Owners ≡ other Owners → count Variables ≡ other Variables
     → count Changes ≡ other Changes → count Flow ≡ other Flow → count Assigned ≡ other Assigned
@@ -256,9 +256,9 @@ module _ (f g : Form) (owners : length f.owners ≡ length f.code) (fit : AreFit
       words_same (long_numbers f) (long_numbers g) refl (long_fits f whole) (long_fits g image.sizes.whole)
       (ap spelled (sym (long_is f level is)) ∙ long_same ∙ ap spelled (long_is g refl is))
 
-  sizes : behind g.version.level (record_count f) order ≡ behind g.version.level (record_count g) order
+  sizes : sections_end g.version.level (record_count f) order ≡ sections_end g.version.level (record_count g) order
   unfolding size
-  sizes = ap (λ (l : Level). behind l (record_count f) order) (sym level) ∙ told 1
+  sizes = ap (λ (l : Level). sections_end l (record_count f) order) (sym level) ∙ told 1
 
   -- of calls and members, where the header tells of them and where it does not
   callers : (b : Bool) → has_callers g.version.level ≡ b
@@ -340,7 +340,7 @@ module _ (f g : Form) (owners : length f.owners ≡ length f.code) (fit : AreFit
         fit.variables image.fits.variables sections.1.1.1.1.1.0);
     changes = sym (records_same 5 change_numbers (λ x. refl) change_of change_back f.changes g.changes (counts Changes)
         fit.changes image.fits.changes sections.1.1.1.1.1.1.0);
-    flow = sym (records_same 2 flow_numbers (λ x. refl) flow_of (λ x. refl) f.flow g.flow (counts Flow)
+    flow = sym (records_same 2 flow_numbers (λ x. refl) flow_pair_of (λ x. refl) f.flow g.flow (counts Flow)
         fit.flow image.fits.flow sections.1.1.1.1.1.1.1.0);
     assigned = sym (records_same 2 assigned_numbers (λ x. refl) assigned_of (λ x. refl) f.assigned g.assigned
         (counts Assigned) fit.assigned image.fits.assigned sections.1.1.1.1.1.1.1.1.0);

@@ -3,7 +3,8 @@ use Rattle.image_form.specs.Form.{Form}
 use Rattle.image_form.specs.Numbers.{assigned_numbers, call_numbers, change_numbers, flow_numbers, function_numbers, member_numbers, node_numbers, place_numbers, row_numbers, variable_numbers}
 use Rattle.image_form.specs.Rules.{AllFit, RecordsFit}
 
--- The words and owners of code, and the numbers that stand for functions, places, variables, changes, steps, assigned pairs, visible rows, rows of calls, members and nodes fit 32 bits.
+-- The words and owners of code, and the numbers that stand for functions, places, variables, changes, steps, assigned
+-- pairs, visible rows, rows of calls, members and nodes fit 32 bits.
 pub record AreFit (f : Form) : Type 0 where
   pub code : AllFit f.code
   pub functions : RecordsFit (function_numbers f.version.level) f.functions

@@ -7,7 +7,7 @@ use Rattle.std.proofs.lemmas.List.Sums.{sum_by-cons, sum_by-append}
 use Rattle.image_form_sections.specs.declared.section.Section.{Section}
 use Rattle.image_form_sections.specs.declared.section.Section.TheVariants.{Code, Initial, Functions, Places, Owners, Variables, Changes, Flow, Assigned, Rows, Calls, Members, Nodes, Names}
 use Rattle.image_form_sections.specs.declared.version.Level.{Level}
-use Rattle.image_form_sections.specs.Order.{order, number_of, record_size, count_offset, is_always, is_told, behind, start}
+use Rattle.image_form_sections.specs.Order.{order, section_number, record_size, count_offset, is_always, is_told, sections_end, section_start}
 use Rattle.image_form_sections.specs.Versions.{has_quiet, has_callers, header_size}
 
 -- What holds of each section holds of all of a list.
@@ -16,7 +16,7 @@ all_sections each [] = tt
 all_sections each (s ∷ ss) = (each s, all_sections each ss)
 
 -- Each section stands in the order behind as many as its number says.
-pub stands : (s : Section) → order ≡ take (number_of s) order ++ s ∷ drop (suc (number_of s)) order
+pub stands : (s : Section) → order ≡ take (section_number s) order ++ s ∷ drop (suc (section_number s)) order
 stands Code = refl
 stands Initial = refl
 stands Functions = refl
@@ -128,27 +128,27 @@ module _ (level : Level) (count : Section → ℕ) where
   bytes_of s = record_size level s * count s
 
   -- What stands before a section, the section and what stands behind it.
-  pub behind_split : (before after : List Section) → behind level count (before ++ after) ≡ behind level count before + sum_by bytes_of after
+  pub behind_split : (before after : List Section) → sections_end level count (before ++ after) ≡ sections_end level count before + sum_by bytes_of after
   behind_split before after = omega (arith, sum_by-append bytes_of before after)
 
   -- The byte behind a section.
-  pub behind_one : (before : List Section) (s : Section) → behind level count (before ++ s ∷ []) ≡ behind level count before + record_size level s * count s
+  pub behind_one : (before : List Section) (s : Section) → sections_end level count (before ++ s ∷ []) ≡ sections_end level count before + record_size level s * count s
   behind_one before s = omega (arith, behind_split before (s ∷ []), sum_by-cons bytes_of s [])
 
   -- The byte behind one section more.
-  pub behind_next : (i : ℕ) (d : Section) → i < 14 → behind level count (take i order) + record_size level (get_or order i d) * count (get_or order i d) ≡ behind level count (take (i + 1) order)
+  pub behind_next : (i : ℕ) (d : Section) → i < 14 → sections_end level count (take i order) + record_size level (get_or order i d) * count (get_or order i d) ≡ sections_end level count (take (i + 1) order)
   behind_next i d low =
       let longer : take (i + 1) order ≡ take i order ++ get_or order i d ∷ [] = rw add-one (take-suc order i d low) in
-      sym (ap (behind level count) longer ∙ behind_one (take i order) (get_or order i d))
+      sym (ap (sections_end level count) longer ∙ behind_one (take i order) (get_or order i d))
 
   -- A section ends where the whole ends, or before.
-  pub ends_inside : (s : Section) → start level count s + record_size level s * count s ≤ behind level count order
+  pub ends_inside : (s : Section) → section_start level count s + record_size level s * count s ≤ sections_end level count order
   ends_inside s =
-      let after = drop (suc (number_of s)) order in
-      omega (arith, ap (behind level count) (stands s), behind_split (take (number_of s) order) (s ∷ after), sum_by-cons bytes_of s after)
+      let after = drop (suc (section_number s)) order in
+      omega (arith, ap (sections_end level count) (stands s), behind_split (take (section_number s) order) (s ∷ after), sum_by-cons bytes_of s after)
 
   -- It has no more records than the whole has bytes.
-  pub count_inside : (s : Section) → count s ≤ behind level count order
+  pub count_inside : (s : Section) → count s ≤ sections_end level count order
   count_inside s =
       let some : 1 * count s ≤ record_size level s * count s = times_low 1 (record_size level s) (count s) (record_some level s) in
       omega (arith, some, ends_inside s)

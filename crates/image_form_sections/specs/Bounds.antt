@@ -4,16 +4,16 @@ use Rattle.memory_map.specs.Maps as maps
 use Rattle.memory_map.specs.declared.map.Map.{Map}
 
 -- The address of the first code word.
-unfoldable pub code_start : ℕ
-code_start = maps.code_start
+unfoldable pub first_code_address : ℕ
+first_code_address = maps.code_start
 
 -- The address of the w-th code word.
 abbrev pub word_address : ℕ → ℕ
-word_address w = code_start + 4 * w
+word_address w = first_code_address + 4 * w
 
 -- The address at which static memory begins.
-unfoldable pub static_start : Map → ℕ
-static_start m = maps.bytes_start m
+unfoldable pub first_static_address : Map → ℕ
+first_static_address m = maps.bytes_start m
 
 -- How many bytes static memory has.
 unfoldable pub static_size : ℕ

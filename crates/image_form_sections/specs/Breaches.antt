@@ -32,8 +32,8 @@ first_false [] = None
 first_false (true ∷ tests) = option_map suc (first_false tests)
 first_false (false ∷ tests) = Some 0
 
--- The first of so many rows from the i-th on with a test that fails, and the number of the first such test. A row has a test for
--- each of its numbers.
+-- The first of so many rows from the i-th on with a test that fails, and the number of the first such test. A row has a
+-- test for each of its numbers.
 abbrev pub first_broken : (ℕ → List Bool) → ℕ → ℕ → Option (ℕ × ℕ)
 first_broken tests zero i = None
 first_broken tests (suc n) i = option_map_or (λ k. Some (i, k)) (first_false (tests i)) (first_broken tests n (suc i))

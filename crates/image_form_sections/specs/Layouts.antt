@@ -8,12 +8,12 @@ use Rattle.std.specs.Ordering.{nat_cmp, ordering_then}
 use Rattle.std.specs.declared.cmp.Ordering.{Ordering}
 use Rattle.image_form_sections.specs.declared.layout.Layout.{Layout}
 use Rattle.image_form_sections.specs.declared.table.Table.{Table}
-use Rattle.image_form_sections.specs.Sections.{rows_at, Sections}
+use Rattle.image_form_sections.specs.Sections.{number_rows_at, Sections}
 use Rattle.image_form_sections.specs.TestsOfChanges.{is_quiet_place, is_taken_from, pair_key}
 
 -- The rows of a table.
 abbrev pub rows_in : Table → List (List ℕ)
-rows_in t = rows_at t.width t.count t.bytes.now
+rows_in t = number_rows_at t.width t.count t.bytes.now
 
 -- The sections of a layout.
 abbrev pub sections_in : Layout → Sections
@@ -38,7 +38,8 @@ sections_in l = record {
 
 -- The map has for each address the first place with that address.
 abbrev pub HoldsFirstPlaces : BTreeMap ℕ ℕ → List (List ℕ) → Type 0
-HoldsFirstPlaces map places = (address : ℕ) → tree.get nat_cmp map address ≡ position_from (λ p. slice_index p 3 == address) 0 places
+HoldsFirstPlaces map places =
+    (address : ℕ) → tree.get nat_cmp map address ≡ position_from (λ p. slice_index p 3 == address) 0 places
 
 -- The order of nodes as three numbers.
 abbrev pub node_cmp : ℕ × ℕ × ℕ → ℕ × ℕ × ℕ → Ordering

@@ -1,5 +1,5 @@
--- The table of the sections: in which order they stand, how many bytes a record of each has, and where the header says how
--- many records there are.
+-- The table of the sections: in which order they stand, how many bytes a record of each has, and where the header says
+-- how many records there are.
 use Rattle.std.specs.Prelude.{ℕ, ◌+◌, ◌*◌, ◌||◌, Bool, true, false, if◌then◌else◌, List, [], ◌∷◌, take, sum_by}
 use Rattle.image_form_sections.specs.declared.section.Section.{Section}
 use Rattle.image_form_sections.specs.declared.section.Section.TheVariants.{Code, Initial, Functions, Places, Owners, Variables, Changes, Flow, Assigned, Rows, Calls, Members, Nodes, Names}
@@ -9,25 +9,26 @@ use Rattle.image_form_sections.specs.Versions.{has_quiet, has_callers, header_si
 -- The sections in the order of the file.
 abbrev pub order : List Section
 order =
-    Code ∷ Initial ∷ Functions ∷ Places ∷ Owners ∷ Variables ∷ Changes ∷ Flow ∷ Assigned ∷ Rows ∷ Calls ∷ Members ∷ Nodes
+    Code ∷ Initial ∷ Functions ∷ Places ∷ Owners ∷ Variables ∷ Changes ∷ Flow ∷ Assigned ∷ Rows ∷ Calls ∷ Members
+    ∷ Nodes
     ∷ Names ∷ []
 
 -- How many sections stand before one.
-abbrev pub number_of : Section → ℕ
-number_of Code = 0
-number_of Initial = 1
-number_of Functions = 2
-number_of Places = 3
-number_of Owners = 4
-number_of Variables = 5
-number_of Changes = 6
-number_of Flow = 7
-number_of Assigned = 8
-number_of Rows = 9
-number_of Calls = 10
-number_of Members = 11
-number_of Nodes = 12
-number_of Names = 13
+abbrev pub section_number : Section → ℕ
+section_number Code = 0
+section_number Initial = 1
+section_number Functions = 2
+section_number Places = 3
+section_number Owners = 4
+section_number Variables = 5
+section_number Changes = 6
+section_number Flow = 7
+section_number Assigned = 8
+section_number Rows = 9
+section_number Calls = 10
+section_number Members = 11
+section_number Nodes = 12
+section_number Names = 13
 
 -- How many bytes a record has, in a version of this level.
 abbrev pub record_size : Level → Section → ℕ
@@ -85,9 +86,9 @@ abbrev pub is_told : Level → Section → Bool
 is_told level section = is_always section || has_callers level
 
 -- The byte behind the header and sections of so many records each.
-abbrev pub behind : Level → (Section → ℕ) → List Section → ℕ
-behind level count sections = header_size level + sum_by (λ s. record_size level s * count s) sections
+abbrev pub sections_end : Level → (Section → ℕ) → List Section → ℕ
+sections_end level count sections = header_size level + sum_by (λ s. record_size level s * count s) sections
 
 -- The byte at which a section begins: behind the header and the sections before it.
-abbrev pub start : Level → (Section → ℕ) → Section → ℕ
-start level count section = behind level count (take (number_of section) order)
+abbrev pub section_start : Level → (Section → ℕ) → Section → ℕ
+section_start level count section = sections_end level count (take (section_number section) order)

@@ -1,7 +1,7 @@
 -- The sections of an image as numbers, before they are understood: a row of numbers for each record.
 use Rattle.std.specs.Prelude.{ℕ, zero, suc, ◌+◌, ◌*◌, ◌/◌, if◌then◌else◌, List, [], ◌∷◌, length, take, drop, slice_index, slice_index_or}
 use Rattle.std.specs.Int.{w32, from_le_bytes}
-use Rattle.image_form_sections.specs.Order.{count_offset, is_told, record_size, start}
+use Rattle.image_form_sections.specs.Order.{count_offset, is_told, record_size, section_start}
 use Rattle.image_form_sections.specs.declared.section.Section.{Section}
 use Rattle.image_form_sections.specs.declared.section.Section.TheVariants.{Code, Initial, Functions, Places, Owners, Variables, Changes, Flow, Assigned, Rows, Calls, Members, Nodes, Names}
 use Rattle.image_form_sections.specs.declared.version.Version.{Version}
@@ -17,9 +17,9 @@ numbers_at zero at bytes = []
 numbers_at (suc n) at bytes = number_at bytes at ∷ numbers_at n (at + 4) bytes
 
 -- So many rows from the first byte on, each of `width` numbers.
-abbrev pub rows_at : ℕ → ℕ → List ℕ → List (List ℕ)
-rows_at width zero bytes = []
-rows_at width (suc n) bytes = numbers_at width 0 bytes ∷ rows_at width n (drop (4 * width) bytes)
+abbrev pub number_rows_at : ℕ → ℕ → List ℕ → List (List ℕ)
+number_rows_at width zero bytes = []
+number_rows_at width (suc n) bytes = numbers_at width 0 bytes ∷ number_rows_at width n (drop (4 * width) bytes)
 
 -- The k-th number of the i-th row, 0 where there is none.
 abbrev pub cell : List (List ℕ) → ℕ → ℕ → ℕ
@@ -45,21 +45,21 @@ pub record Sections : Type 0 where
   pub names : List ℕ
 
 -- How many records each section has.
-abbrev pub count_of : Sections → Section → ℕ
-count_of s Code = length s.code
-count_of s Initial = length s.initial
-count_of s Functions = length s.functions
-count_of s Places = length s.places
-count_of s Owners = length s.owners
-count_of s Variables = length s.variables
-count_of s Changes = length s.changes
-count_of s Flow = length s.flow
-count_of s Assigned = length s.assigned
-count_of s Rows = length s.rows
-count_of s Calls = length s.calls
-count_of s Members = length s.members
-count_of s Nodes = length s.nodes
-count_of s Names = length s.names
+abbrev pub section_records : Sections → Section → ℕ
+section_records s Code = length s.code
+section_records s Initial = length s.initial
+section_records s Functions = length s.functions
+section_records s Places = length s.places
+section_records s Owners = length s.owners
+section_records s Variables = length s.variables
+section_records s Changes = length s.changes
+section_records s Flow = length s.flow
+section_records s Assigned = length s.assigned
+section_records s Rows = length s.rows
+section_records s Calls = length s.calls
+section_records s Members = length s.members
+section_records s Nodes = length s.nodes
+section_records s Names = length s.names
 
 -- The version that the header says.
 abbrev pub version_told : List ℕ → Version
@@ -71,11 +71,12 @@ count_told bytes which = if is_told (version_told bytes).level which then number
 
 -- The bytes from the first one of a section on.
 abbrev pub bytes_from : List ℕ → Section → List ℕ
-bytes_from bytes which = drop (start (version_told bytes).level (count_told bytes) which) bytes
+bytes_from bytes which = drop (section_start (version_told bytes).level (count_told bytes) which) bytes
 
 -- The rows of a section, as many as the header says.
 abbrev pub rows_of : List ℕ → Section → List (List ℕ)
-rows_of bytes which = rows_at (record_size (version_told bytes).level which / 4) (count_told bytes which) (bytes_from bytes which)
+rows_of bytes which =
+    number_rows_at (record_size (version_told bytes).level which / 4) (count_told bytes which) (bytes_from bytes which)
 
 -- The sections of bytes, by the counts of the header.
 unfoldable pub sections_at : List ℕ → Sections

@@ -22,7 +22,8 @@ change_tests s i =
 -- The two places of the i-th flow pair.
 abbrev pub flow_tests : Sections → ℕ → List Bool
 flow_tests s i =
-    (is_place s (cell s.flow i 0) && is_not_below s.flow 0 i) ∷ (is_place s (cell s.flow i 1) && is_pair_above s.flow i) ∷ []
+    (is_place s (cell s.flow i 0) && is_not_below s.flow 0 i) ∷ (is_place s (cell s.flow i 1) && is_pair_above s.flow i)
+    ∷ []
 
 -- The place and the variable of the i-th assigned pair.
 abbrev pub assigned_tests : Sections → ℕ → List Bool
@@ -52,7 +53,9 @@ is_node_or_start s i =
 unfoldable pub is_writer : Sections → ℕ → Bool
 is_writer s i =
     if nat_lt (cell s.rows i 2) 2 then cell s.rows i 5 == 0
-    else (if is_taking (cell s.changes (cell s.rows i 3 - 1) 1) then cell s.rows i 5 == 0 else is_code_address s (cell s.rows i 5))
+    else
+    (if is_taking (cell s.changes (cell s.rows i 3 - 1) 1) then cell s.rows i 5 == 0
+    else is_code_address s (cell s.rows i 5))
 
 -- A place and a variable as one number.
 unfoldable pub pair_key : (place variable : ℕ) → ℕ
@@ -76,9 +79,10 @@ unfoldable pub is_quiet_start : Sections → ℕ → Bool
 is_quiet_start s i =
     cell s.rows i 6 == 0 || (nat_le 2 (cell s.rows i 2) && is_quiet_place s (cell s.rows i 6) (cell s.rows i 1))
 
--- The place, the variable, the verdict, the change, the node or start place, the writer and the quiet path's begin of the i-th
--- visible row.
+-- The place, the variable, the verdict, the change, the node or start place, the writer and the quiet path's begin of
+-- the i-th visible row.
 abbrev pub row_tests : Sections → ℕ → List Bool
 row_tests s i =
-    (is_place s (cell s.rows i 0) && is_not_below s.rows 0 i) ∷ is_visible s i ∷ nat_le (cell s.rows i 2) 3 ∷ is_change s i
+    (is_place s (cell s.rows i 0) && is_not_below s.rows 0 i) ∷ is_visible s i ∷ nat_le (cell s.rows i 2) 3
+    ∷ is_change s i
     ∷ is_node_or_start s i ∷ is_writer s i ∷ is_quiet_start s i ∷ []

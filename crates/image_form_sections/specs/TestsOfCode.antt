@@ -2,7 +2,7 @@
 use Rattle.std.specs.Prelude.{ℕ, ◌+◌, ◌-◌, ◌*◌, ◌%◌, Bool, true, false, ◌&&◌, ◌||◌, ◌==◌, nat_lt, nat_le, List, [], ◌∷◌, slice_index, length}
 use Rattle.std.specs.List.{position_from}
 use Rattle.std.specs.Option.{option_map_or}
-use Rattle.image_form_sections.specs.Bounds.{code_start}
+use Rattle.image_form_sections.specs.Bounds.{first_code_address}
 use Rattle.image_form_sections.specs.Bounds.{word_address}
 use Rattle.image_form_sections.specs.Masks.{masked, mask_of}
 use Rattle.image_form_sections.specs.Sections.{Sections, cell}
@@ -16,7 +16,7 @@ is_first s i = is_code_address s (cell s.functions i 1) && nat_le (previous s.fu
 unfoldable pub is_end : Sections → ℕ → Bool
 is_end s i =
     cell s.functions i 2 % 4 == 0 && nat_lt (cell s.functions i 1) (cell s.functions i 2)
-    && nat_le (cell s.functions i 2) (code_start + 4 * length s.code)
+    && nat_le (cell s.functions i 2) (first_code_address + 4 * length s.code)
 
 -- the size of a frame: a multiple of 16 from 16 to 16,384
 unfoldable pub is_frame : ℕ → Bool
@@ -26,8 +26,8 @@ is_frame size = size % 16 == 0 && within 16 16384 size
 unfoldable pub is_mask : ℕ → Bool
 is_mask mask = mask == mask_of (masked mask)
 
--- The name's length, the first address, the end address, the frame size, the entry place and the saved registers of the i-th
--- function.
+-- The name's length, the first address, the end address, the frame size, the entry place and the saved registers of the
+-- i-th function.
 abbrev pub function_tests : Sections → ℕ → List Bool
 function_tests s i =
     within 1 63 (cell s.functions i 0) ∷ is_first s i ∷ is_end s i ∷ is_frame (cell s.functions i 3)
@@ -35,12 +35,14 @@ function_tests s i =
 
 -- The first place with that address is the i-th.
 unfoldable pub is_first_place : Sections → ℕ → ℕ → Bool
-is_first_place s i address = option_map_or (λ j. j == i) (position_from (λ p. slice_index p 3 == address) 0 s.places) false
+is_first_place s i address =
+    option_map_or (λ j. j == i) (position_from (λ p. slice_index p 3 == address) 0 s.places) false
 
 -- The address of the i-th place: a multiple of 4 within its function, no earlier place's.
 unfoldable pub is_place_address : Sections → ℕ → Bool
 is_place_address s i =
-    cell s.places i 3 % 4 == 0 && is_in_function s (cell s.places i 2) (cell s.places i 3) && is_first_place s i (cell s.places i 3)
+    cell s.places i 3 % 4 == 0 && is_in_function s (cell s.places i 2) (cell s.places i 3)
+    && is_first_place s i (cell s.places i 3)
 
 -- The position, the line, the function and the address of the i-th place.
 abbrev pub place_tests : Sections → ℕ → List Bool
@@ -56,7 +58,9 @@ is_owner s w =
 
 -- The place at the word's address, if there is one, owns it.
 unfoldable pub is_marked : Sections → ℕ → Bool
-is_marked s w = option_map_or (λ j. cell s.owners w 0 == j + 1) (position_from (λ p. slice_index p 3 == word_address w) 0 s.places) true
+is_marked s w =
+    option_map_or (λ j. cell s.owners w 0 == j + 1) (position_from (λ p. slice_index p 3 == word_address w) 0 s.places)
+    true
 
 -- what is tested of the owner of a code word
 abbrev pub owner_tests : Sections → ℕ → List Bool

@@ -21,9 +21,11 @@ byte_tests Letters n = replicate n is_lower_letter
 abbrev pub table_tests : NameKind → List (List ℕ) → List (ℕ → Bool)
 table_tests kind rows = flat_map (λ r. byte_tests kind (slice_index r 0)) rows
 
--- The tests of the bytes of the section of names: identifiers of functions and variables, then the lower-case letters of passes.
+-- The tests of the bytes of the section of names: identifiers of functions and variables, then the lower-case letters
+-- of passes.
 abbrev pub name_tests : Sections → List (ℕ → Bool)
-name_tests s = table_tests Identifier s.functions ++ (table_tests Identifier s.variables ++ table_tests Letters s.changes)
+name_tests s =
+    table_tests Identifier s.functions ++ (table_tests Identifier s.variables ++ table_tests Letters s.changes)
 
 -- The first byte that fails its test or is missing; bytes may be left over.
 abbrev pub first_unfit : List (ℕ → Bool) → List ℕ → Option ℕ

@@ -5,12 +5,15 @@ use Rattle.std.specs.Option.{option_map_or}
 use Rattle.image_form_sections.specs.Sections.{Sections, cell}
 use Rattle.image_form_sections.specs.TestsOfTables.{within}
 
--- The i-th node is the root of a recipe of at most so many levels. A leaf's operation is below 3, a truncation's from 18 on.
+-- The i-th node is the root of a recipe of at most so many levels. A leaf's operation is below 3, a truncation's from
+-- 18 on.
 abbrev pub is_shallow : List (List ℕ) → ℕ → ℕ → Bool
 is_shallow nodes zero i = false
 is_shallow nodes (suc depth) i =
     if nat_lt (cell nodes i 0) 3 then true
-    else (is_shallow nodes depth (cell nodes i 1) && (if nat_lt (cell nodes i 0) 18 then is_shallow nodes depth (cell nodes i 2) else true))
+    else
+    (is_shallow nodes depth (cell nodes i 1)
+    && (if nat_lt (cell nodes i 0) 18 then is_shallow nodes depth (cell nodes i 2) else true))
 
 -- An operand of the i-th node: an earlier node of at most three levels.
 unfoldable pub is_operand : Sections → ℕ → ℕ → Bool
@@ -37,11 +40,13 @@ is_right s i = if within 3 17 (cell s.nodes i 0) then is_operand s i (cell s.nod
 
 -- The rows have the same three numbers.
 abbrev pub is_same : List ℕ → List ℕ → Bool
-is_same p q = slice_index p 0 == slice_index q 0 && slice_index p 1 == slice_index q 1 && slice_index p 2 == slice_index q 2
+is_same p q =
+    slice_index p 0 == slice_index q 0 && slice_index p 1 == slice_index q 1 && slice_index p 2 == slice_index q 2
 
 -- No earlier node equals the i-th.
 unfoldable pub is_new_node : Sections → ℕ → Bool
-is_new_node s i = option_map_or (λ j. j == i) (position_from (λ q. is_same q (slice_index_or s.nodes i [])) 0 s.nodes) false
+is_new_node s i =
+    option_map_or (λ j. j == i) (position_from (λ q. is_same q (slice_index_or s.nodes i [])) 0 s.nodes) false
 
 -- The operation and the two operands of the i-th node.
 abbrev pub node_tests : Sections → ℕ → List Bool

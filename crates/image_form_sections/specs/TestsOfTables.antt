@@ -1,6 +1,6 @@
 -- Tests that every table needs: for each number of a row, whether it keeps its rule.
 use Rattle.std.specs.Prelude.{ℕ, zero, suc, ◌+◌, ◌*◌, ◌%◌, Bool, ◌&&◌, ◌||◌, ◌==◌, nat_lt, nat_le, List, length}
-use Rattle.image_form_sections.specs.Bounds.{code_start}
+use Rattle.image_form_sections.specs.Bounds.{first_code_address}
 use Rattle.image_form_sections.specs.Sections.{Sections, cell}
 
 -- a number lies between two others, or is one of them
@@ -32,7 +32,8 @@ is_place s n = within 1 (length s.places) n
 
 -- The address of a code word.
 unfoldable pub is_code_address : Sections → ℕ → Bool
-is_code_address s address = address % 4 == 0 && nat_le code_start address && nat_lt address (code_start + 4 * length s.code)
+is_code_address s address =
+    address % 4 == 0 && nat_le first_code_address address && nat_lt address (first_code_address + 4 * length s.code)
 
 -- The address lies in the k-th function.
 unfoldable pub is_in_function : Sections → ℕ → ℕ → Bool

@@ -1,7 +1,7 @@
 -- The tests of variables.
 use Rattle.std.specs.Prelude.{ℕ, zero, suc, ◌+◌, ◌%◌, Bool, not, ◌&&◌, ◌||◌, ◌==◌, nat_lt, nat_le, if◌then◌else◌, List, [], ◌∷◌, length}
 use Rattle.image_form_sections.specs.Bounds.{no_function}
-use Rattle.image_form_sections.specs.Bounds.{static_start, static_size}
+use Rattle.image_form_sections.specs.Bounds.{first_static_address, static_size}
 use Rattle.image_form_sections.specs.Sections.{Sections, cell}
 use Rattle.image_form_sections.specs.Versions.{map_of}
 use Rattle.image_form_sections.specs.TestsOfTables.{within, is_above}
@@ -44,7 +44,8 @@ is_home_register r = r == 9 || within 18 31 r
 -- An address of static memory, in the map of the version.
 unfoldable pub is_static_address : Sections → ℕ → Bool
 is_static_address s address =
-    nat_le (static_start (map_of s.version)) address && nat_lt address (static_start (map_of s.version) + static_size)
+    nat_le (first_static_address (map_of s.version)) address
+    && nat_lt address (first_static_address (map_of s.version) + static_size)
 
 -- The storage's value: an address, a register of homes, or an offset in the function's frame.
 unfoldable pub is_value : Sections → ℕ → Bool
@@ -57,9 +58,10 @@ is_value s i =
 unfoldable pub is_count : Sections → ℕ → Bool
 is_count s i = nat_lt (cell s.variables i 4) 2 || cell s.variables i 6 == 0
 
--- The name's length, the function, the position, the element type, the storage, its value, the count and the zero of the i-th
--- variable.
+-- The name's length, the function, the position, the element type, the storage, its value, the count and the zero of
+-- the i-th variable.
 abbrev pub variable_tests : Sections → ℕ → List Bool
 variable_tests s i =
-    is_name_length s i ∷ is_function s i ∷ is_position s i ∷ nat_le (cell s.variables i 3) 6 ∷ is_storage s i ∷ is_value s i
+    is_name_length s i ∷ is_function s i ∷ is_position s i ∷ nat_le (cell s.variables i 3) 6 ∷ is_storage s i
+    ∷ is_value s i
     ∷ is_count s i ∷ (cell s.variables i 7 == 0) ∷ []

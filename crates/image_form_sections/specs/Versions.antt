@@ -1,5 +1,5 @@
--- The versions of the format: for which map of memory an image is made, and which fields and sections its tables have. A field or
--- section that a version has not reads as 0 or as empty.
+-- The versions of the format: for which map of memory an image is made, and which fields and sections its tables have.
+-- A field or section that a version has not reads as 0 or as empty.
 use Rattle.std.specs.Prelude.{ℕ, ◌+◌, ◌*◌, ◌%◌, ◌&&◌, ◌==◌, nat_le, Bool, true, false, if◌then◌else◌}
 use Rattle.memory_map.specs.declared.map.Map.{Map}
 use Rattle.memory_map.specs.declared.map.Map.TheVariants.{One, Two}

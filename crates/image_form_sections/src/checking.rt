@@ -4,8 +4,8 @@ ghost use Rattle.std.specs.Prelude.{◌≡◌, ◌+◌, ◌<◌, ◌≤◌, ◌^
 ghost use Rattle.image_form_sections.specs.Breaches.{Gives, breach_in, first_breach};
 ghost use Rattle.image_form_sections.specs.Checking.{breach_of_program, breach_of_tables, checked_of, count_checks, header_checks, size_told};
 ghost use Rattle.image_form_sections.specs.Layouts.{sections_in};
-ghost use Rattle.image_form_sections.specs.Order.{record_size, start};
-ghost use Rattle.image_form_sections.specs.Sections.{count_of, sections_at};
+ghost use Rattle.image_form_sections.specs.Order.{record_size, section_start};
+ghost use Rattle.image_form_sections.specs.Sections.{section_records, sections_at};
 ghost use Rattle.image_form_sections.specs.Versions.{level_of};
 ghost use Rattle.image_form_sections.specs.declared.section.Section.TheVariants.{Names};
 
@@ -46,9 +46,9 @@ fn breach(
     section: Section,
     broken: Option<(usize, usize)>,
 ) -> Result<(), ImageErr>
-    requires start { start (level_of layout.now.version) (count_of (sections_in layout.now)) section < 2 ^ 63 }
+    requires start { section_start (level_of layout.now.version) (section_records (sections_in layout.now)) section < 2 ^ 63 }
     requires broken { IfSome broken (λ b. (b.0 < 2 ^ 32) × (b.1 < 8)) }
-    ensures { let level = level_of layout.now.version in let at = start level (count_of (sections_in layout.now))
+    ensures { let level = level_of layout.now.version in let at = section_start level (section_records (sections_in layout.now))
         section in
         Gives (λ _. tt) result (breach_in code at (record_size level section) broken) }
 {
@@ -63,7 +63,7 @@ fn breach(
 
 #[tactic(auto, unfolding(crate::specs::Checking::breach_of_program))]
 fn check_program(alloc: Global, layout: &Layout<'_>) -> Result<(), ImageErr>
-    requires { start (level_of layout.now.version) (count_of (sections_in layout.now)) Names < 2 ^ 63 }
+    requires { section_start (level_of layout.now.version) (section_records (sections_in layout.now)) Names < 2 ^ 63 }
     ensures { Gives (λ _. tt) result (breach_of_program (sections_in layout.now)) }
 {
     let broken = first_fault(&FunctionRule { layout }, layout.functions.len());
@@ -89,7 +89,7 @@ fn check_program(alloc: Global, layout: &Layout<'_>) -> Result<(), ImageErr>
 
 #[tactic(auto, unfolding(crate::specs::Checking::breach_of_tables))]
 fn check_tables(alloc: Global, layout: &Layout<'_>) -> Result<(), ImageErr>
-    requires { start (level_of layout.now.version) (count_of (sections_in layout.now)) Names < 2 ^ 63 }
+    requires { section_start (level_of layout.now.version) (section_records (sections_in layout.now)) Names < 2 ^ 63 }
     ensures { Gives (λ _. tt) result (breach_of_tables (sections_in layout.now)) }
 {
     let broken = first_fault(&FlowRule { layout }, layout.flow.len());

@@ -180,7 +180,7 @@ impl Rule for OwnerRule<'_, '_> {
     }
 }
 
-#[tactic(auto, unfolding(crate::specs::TestsOfCode::is_owner, crate::specs::Bounds::code_start))]
+#[tactic(auto, unfolding(crate::specs::TestsOfCode::is_owner, crate::specs::Bounds::first_code_address))]
 fn is_owner(layout: &Layout<'_>, word: usize) -> bool
     requires { word < 2 ^ 32 }
     ensures { result ≡ is_owner (sections_in layout.now) word }
@@ -194,7 +194,7 @@ fn is_owner(layout: &Layout<'_>, word: usize) -> bool
 }
 
 /// The address of a code word.
-#[tactic(auto, unfolding(crate::specs::Bounds::code_start))]
+#[tactic(auto, unfolding(crate::specs::Bounds::first_code_address))]
 fn word_address(word: usize) -> u64
     requires { word < 2 ^ 32 }
     ensures { result ≡ word_address word }

@@ -2,10 +2,10 @@
 
 ghost use Rattle.std.specs.Prelude.{◌≡◌, ◌<◌, ◌≤◌, ◌^◌, length, take};
 ghost use Rattle.image_form_sections.specs.Layouts.{rows_in, sections_in};
-ghost use Rattle.image_form_sections.specs.Order.{start};
+ghost use Rattle.image_form_sections.specs.Order.{section_start};
 ghost use Rattle.image_form_sections.specs.Versions.{level_of};
 ghost use Rattle.image_form_sections.specs.Checking.{size_told};
-ghost use Rattle.image_form_sections.specs.Sections.{bytes_from, count_of, count_told, number_at, rows_of, sections_at};
+ghost use Rattle.image_form_sections.specs.Sections.{bytes_from, section_records, count_told, number_at, rows_of, sections_at};
 ghost use Rattle.image_form_sections.specs.declared.section.Section.TheVariants.{Names};
 
 use crate::header::{HeaderBytes, MODE, VERSION};
@@ -38,7 +38,7 @@ pub struct Layout<'a> {
 }
 
 impl Counts for Layout<'_> {
-    ghost count = { λ layout. count_of (sections_in layout) };
+    ghost count = { λ layout. section_records (sections_in layout) };
 
     ghost of_level = { λ layout. level_of layout.version };
 
@@ -71,7 +71,7 @@ impl Counts for Layout<'_> {
 pub fn layout_of(bytes: &[u8]) -> Layout<'_>
     requires { size_told bytes.now ≡ length bytes.now }
     ensures sections { sections_in result ≡ sections_at bytes.now }
-    ensures small { start (level_of result.version) (count_of (sections_in result)) Names < 2 ^ 63 }
+    ensures small { section_start (level_of result.version) (section_records (sections_in result)) Names < 2 ^ 63 }
 {
     let version = number_at(bytes, VERSION);
     let initial = HeaderBytes { bytes }.count(Section::Initial);

@@ -3,7 +3,7 @@
 ghost use Rattle.std.specs.Prelude.{◌≡◌, ◌||◌, ◌==◌, ℕ, ◌+◌, ◌*◌, ◌<◌, ◌^◌, Bool, List, length, IfSome};
 ghost use Rattle.image_form_sections.specs.Breaches.{first_broken, first_false};
 ghost use Rattle.image_form_sections.specs.Layouts.{rows_in, sections_in};
-ghost use Rattle.image_form_sections.specs.Bounds.{code_start};
+ghost use Rattle.image_form_sections.specs.Bounds.{first_code_address};
 ghost use Rattle.image_form_sections.specs.Sections.{cell};
 ghost use Rattle.image_form_sections.specs.TestsOfTables.{is_above, is_code_address, is_in_function, is_not_below, is_pair_above, is_place, previous};
 
@@ -92,7 +92,7 @@ pub fn is_place(layout: &Layout<'_>, number: u32) -> bool
 }
 
 /// Whether an address is a code word's.
-#[tactic(auto, unfolding(crate::specs::TestsOfTables::is_code_address, crate::specs::Bounds::code_start))]
+#[tactic(auto, unfolding(crate::specs::TestsOfTables::is_code_address, crate::specs::Bounds::first_code_address))]
 pub fn is_code_address(layout: &Layout<'_>, address: u32) -> bool
     ensures { result ≡ is_code_address (sections_in layout.now) address }
 {
@@ -101,9 +101,9 @@ pub fn is_code_address(layout: &Layout<'_>, address: u32) -> bool
 }
 
 /// The address behind the last code word.
-#[tactic(auto, unfolding(crate::specs::Bounds::code_start))]
+#[tactic(auto, unfolding(crate::specs::Bounds::first_code_address))]
 pub fn code_end(layout: &Layout<'_>) -> u64
-    ensures { result ≡ code_start + 4 * length (sections_in layout.now).code }
+    ensures { result ≡ first_code_address + 4 * length (sections_in layout.now).code }
 {
     CODE_START + 4 * layout.code.len() as u64
 }

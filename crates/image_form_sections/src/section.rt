@@ -1,7 +1,7 @@
 //! The table of the sections: their order, the size of a record and where the header counts them.
 
 ghost use Rattle.std.specs.Prelude.{◌≡◌, ◌<◌, ◌^◌, ◌≤◌, ℕ, take};
-ghost use Rattle.image_form_sections.specs.Order.{behind, count_offset, is_told, number_of, order, record_size, start};
+ghost use Rattle.image_form_sections.specs.Order.{sections_end, count_offset, is_told, section_number, order, record_size, section_start};
 ghost use Rattle.image_form_sections.specs.Versions.{header_size};
 ghost use Rattle.image_form_sections.specs.declared.section.Section.{Section};
 ghost use Rattle.image_form_sections.specs.declared.version.Level.{Level};
@@ -122,8 +122,8 @@ pub trait Counts {
 /// The byte behind the header and so many sections.
 fn behind<C: Counts>(counts: &C, sections: usize) -> usize
     requires known { sections ≤ 14 }
-    requires small { behind (C.of_level counts.now) (C.count counts.now) (take sections order) < 2 ^ 63 }
-    ensures { result ≡ behind (C.of_level counts.now) (C.count counts.now) (take sections order) }
+    requires small { sections_end (C.of_level counts.now) (C.count counts.now) (take sections order) < 2 ^ 63 }
+    ensures { result ≡ sections_end (C.of_level counts.now) (C.count counts.now) (take sections order) }
 {
     let level = counts.level();
     let mut at = level.header_size();
@@ -135,23 +135,23 @@ fn behind<C: Counts>(counts: &C, sections: usize) -> usize
 
 /// The byte at which a section begins.
 pub fn start<C: Counts>(counts: &C, section: Section) -> usize
-    requires small { start (C.of_level counts.now) (C.count counts.now) section < 2 ^ 63 }
-    ensures { result ≡ start (C.of_level counts.now) (C.count counts.now) section }
+    requires small { section_start (C.of_level counts.now) (C.count counts.now) section < 2 ^ 63 }
+    ensures { result ≡ section_start (C.of_level counts.now) (C.count counts.now) section }
 {
     behind(counts, section as usize)
 }
 
 /// How many bytes the header and all sections have.
 pub fn size<C: Counts>(counts: &C) -> usize
-    requires small { behind (C.of_level counts.now) (C.count counts.now) order < 2 ^ 63 }
-    ensures { result ≡ behind (C.of_level counts.now) (C.count counts.now) order }
+    requires small { sections_end (C.of_level counts.now) (C.count counts.now) order < 2 ^ 63 }
+    ensures { result ≡ sections_end (C.of_level counts.now) (C.count counts.now) order }
 {
     behind(counts, ORDER.len())
 }
 
 /// How many bytes the header and all sections have, however many records there are.
 pub fn whole_size<C: Counts>(counts: &C) -> u128
-    ensures { result ≡ behind (C.of_level counts.now) (C.count counts.now) order }
+    ensures { result ≡ sections_end (C.of_level counts.now) (C.count counts.now) order }
 {
     let level = counts.level();
     let mut at = level.header_size() as u128;

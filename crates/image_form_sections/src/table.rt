@@ -1,7 +1,7 @@
 //! A section of rows of numbers, read where it lies.
 
 ghost use Rattle.std.specs.Prelude.{◌≡◌, ◌+◌, ◌*◌, ◌<◌, ◌≤◌, ◌^◌, length};
-ghost use Rattle.image_form_sections.specs.Sections.{cell, number_at, rows_at};
+ghost use Rattle.image_form_sections.specs.Sections.{cell, number_at, number_rows_at};
 
 use byteorder::{ByteOrder, LittleEndian};
 
@@ -22,7 +22,7 @@ impl<'a> Table<'a> {
     pub fn new(bytes: &'a [u8], width: usize, count: usize) -> Table<'a>
         requires few { count < 2 ^ 32 }
         requires inside { 4 * width * count ≤ length bytes.now }
-        ensures { rows_in result ≡ rows_at width count bytes.now }
+        ensures { rows_in result ≡ number_rows_at width count bytes.now }
     {
         Table {
             bytes,

@@ -122,7 +122,7 @@ fn is_home_register(register: u32) -> bool
     register == 9 || (18 <= register && register <= 31)
 }
 
-#[tactic(auto, unfolding(crate::specs::TestsOfVariables::is_static_address, crate::specs::Bounds::static_start, crate::specs::Bounds::static_size))]
+#[tactic(auto, unfolding(crate::specs::TestsOfVariables::is_static_address, crate::specs::Bounds::first_static_address, crate::specs::Bounds::static_size))]
 fn is_static_address(layout: &Layout<'_>, address: u32) -> bool
     ensures { result ≡ is_static_address (sections_in layout.now) address }
 {

@@ -15,9 +15,9 @@ use Rattle.c_tree.specs.TypedStatements as statement
 use Rattle.c_tree.specs.Programs.{ProgramTree, TypedFunctionTree}
 use Rattle.debug_records.specs.declared.source.Spot.{Spot}
 use Rattle.c_type_laws.specs.Laws.{IsWellFormed}
-use Rattle.c_places.specs.Places.{Place, brought, brought_by_start, close_of, number_at, numbers_from, parameters_of, places_of, places_of_all, places_of_declarators, places_of_function, places_of_functions, places_of_head, places_of_program, places_of_start, places_of_step, stop}
+use Rattle.c_places.specs.Places.{Place, brought, brought_by_start, close_of, place_number_at, numbers_from, parameters_of, places_of, places_of_all, places_of_declarators, places_of_function, places_of_functions, places_of_head, places_of_program, places_of_start, places_of_step, stop}
 use Rattle.c_flow.specs.declared.assigned.Assigned.{Assigned}
-use Rattle.c_flow.specs.Assigns.{among, assigned, assigned_by, assigned_by_all, assigned_by_declarators, assigned_by_entry, assigned_by_function, assigned_by_functions, assigned_by_initial, assigned_by_option, assigned_by_program, assigned_by_start, assigned_by_statements, assigned_by_step, assigned_by_values, assigned_within, assigns_object, assignments_of_program, named, numbered_assigned, numbered_for, variable_number}
+use Rattle.c_flow.specs.Assigns.{among, assigned_objects, assigned_by, assigned_by_all, assigned_by_declarators, assigned_by_entry, assigned_by_function, assigned_by_functions, assigned_by_initial, assigned_by_option, assigned_by_program, assigned_by_start, assigned_by_statements, assigned_by_step, assigned_by_values, assigned_within, assigns_object, assignments_of_program, named_object, numbered_assigned, numbered_for, variable_number}
 use Rattle.graph_build_laws.proofs.Targets.{AllFit, fit_back, fit_front}
 use Rattle.graph_homes.specs.Homed.{HomedForm}
 use Rattle.rv_emit_tables.specs.Emitted.{EmittedForm}
@@ -45,14 +45,14 @@ module _ (number : ℕ) (Fits : ℕ → Type 0) where
   two : (xs ys : List Assigned) → AreAt xs → AreAt ys → AreAt (xs ++ ys)
   two xs ys one other = both_all At xs ys one other
 
-  target_at : (at : ℕ) → Fits at → (l : LvalueTree) → AreAt (named at l)
+  target_at : (at : ℕ) → Fits at → (l : LvalueTree) → AreAt (named_object at l)
   target_at at fits (Named o of) = (fits, tt)
   target_at at fits (Target of p) = tt
   target_at at fits (Element of p i) = tt
   target_at at fits (ElementFrom of i p) = tt
 
   mutual
-    value_at : (at : ℕ) → Fits at → (e : RvalueTree) → AreAt (assigned at e)
+    value_at : (at : ℕ) → Fits at → (e : RvalueTree) → AreAt (assigned_objects at e)
     value_at at fits (Constant value type) = tt
     value_at at fits Null = tt
     value_at at fits (Load scalar l) = within_at at fits l
@@ -62,36 +62,36 @@ module _ (number : ℕ) (Fits : ℕ → Type 0) where
     value_at at fits (Discard a) = value_at at fits a
     value_at at fits (Signed sign type a) = value_at at fits a
     value_at at fits (Not a) = value_at at fits a
-    value_at at fits (Arithmetic o type a b) = two (assigned at a) (assigned at b) (value_at at fits a) (value_at at fits b)
-    value_at at fits (Compare o type a b) = two (assigned at a) (assigned at b) (value_at at fits a) (value_at at fits b)
-    value_at at fits (ComparePointers o a b) = two (assigned at a) (assigned at b) (value_at at fits a) (value_at at fits b)
-    value_at at fits (Move direction element p n) = two (assigned at p) (assigned at n) (value_at at fits p) (value_at at fits n)
-    value_at at fits (MoveFrom n element p) = two (assigned at n) (assigned at p) (value_at at fits n) (value_at at fits p)
-    value_at at fits (Difference element a b) = two (assigned at a) (assigned at b) (value_at at fits a) (value_at at fits b)
-    value_at at fits (And a b) = two (assigned at a) (assigned at b) (value_at at fits a) (value_at at fits b)
-    value_at at fits (Or a b) = two (assigned at a) (assigned at b) (value_at at fits a) (value_at at fits b)
-    value_at at fits (Conditional c a b) = two (assigned at c ++ assigned at a) (assigned at b) (two (assigned at c) (assigned at a) (value_at at fits c) (value_at at fits a)) (value_at at fits b)
-    value_at at fits (Comma a b) = two (assigned at a) (assigned at b) (value_at at fits a) (value_at at fits b)
-    value_at at fits (Assign scalar l a) = two (named at l ++ assigned_within at l) (assigned at a) (two (named at l) (assigned_within at l) (target_at at fits l) (within_at at fits l)) (value_at at fits a)
-    value_at at fits (Update o target type l a) = two (named at l ++ assigned_within at l) (assigned at a) (two (named at l) (assigned_within at l) (target_at at fits l) (within_at at fits l)) (value_at at fits a)
-    value_at at fits (UpdatePointer direction element l n) = two (named at l ++ assigned_within at l) (assigned at n) (two (named at l) (assigned_within at l) (target_at at fits l) (within_at at fits l)) (value_at at fits n)
-    value_at at fits (Step direction given target type l) = two (named at l) (assigned_within at l) (target_at at fits l) (within_at at fits l)
-    value_at at fits (StepPointer direction given element l) = two (named at l) (assigned_within at l) (target_at at fits l) (within_at at fits l)
+    value_at at fits (Arithmetic o type a b) = two (assigned_objects at a) (assigned_objects at b) (value_at at fits a) (value_at at fits b)
+    value_at at fits (Compare o type a b) = two (assigned_objects at a) (assigned_objects at b) (value_at at fits a) (value_at at fits b)
+    value_at at fits (ComparePointers o a b) = two (assigned_objects at a) (assigned_objects at b) (value_at at fits a) (value_at at fits b)
+    value_at at fits (Move direction element p n) = two (assigned_objects at p) (assigned_objects at n) (value_at at fits p) (value_at at fits n)
+    value_at at fits (MoveFrom n element p) = two (assigned_objects at n) (assigned_objects at p) (value_at at fits n) (value_at at fits p)
+    value_at at fits (Difference element a b) = two (assigned_objects at a) (assigned_objects at b) (value_at at fits a) (value_at at fits b)
+    value_at at fits (And a b) = two (assigned_objects at a) (assigned_objects at b) (value_at at fits a) (value_at at fits b)
+    value_at at fits (Or a b) = two (assigned_objects at a) (assigned_objects at b) (value_at at fits a) (value_at at fits b)
+    value_at at fits (Conditional c a b) = two (assigned_objects at c ++ assigned_objects at a) (assigned_objects at b) (two (assigned_objects at c) (assigned_objects at a) (value_at at fits c) (value_at at fits a)) (value_at at fits b)
+    value_at at fits (Comma a b) = two (assigned_objects at a) (assigned_objects at b) (value_at at fits a) (value_at at fits b)
+    value_at at fits (Assign scalar l a) = two (named_object at l ++ assigned_within at l) (assigned_objects at a) (two (named_object at l) (assigned_within at l) (target_at at fits l) (within_at at fits l)) (value_at at fits a)
+    value_at at fits (Update o target type l a) = two (named_object at l ++ assigned_within at l) (assigned_objects at a) (two (named_object at l) (assigned_within at l) (target_at at fits l) (within_at at fits l)) (value_at at fits a)
+    value_at at fits (UpdatePointer direction element l n) = two (named_object at l ++ assigned_within at l) (assigned_objects at n) (two (named_object at l) (assigned_within at l) (target_at at fits l) (within_at at fits l)) (value_at at fits n)
+    value_at at fits (Step direction given target type l) = two (named_object at l) (assigned_within at l) (target_at at fits l) (within_at at fits l)
+    value_at at fits (StepPointer direction given element l) = two (named_object at l) (assigned_within at l) (target_at at fits l) (within_at at fits l)
     value_at at fits (Call callee all) = all_values_at at fits all
 
     within_at : (at : ℕ) → Fits at → (l : LvalueTree) → AreAt (assigned_within at l)
     within_at at fits (Named object of) = tt
     within_at at fits (Target of p) = value_at at fits p
-    within_at at fits (Element of p i) = two (assigned at p) (assigned at i) (value_at at fits p) (value_at at fits i)
-    within_at at fits (ElementFrom of i p) = two (assigned at i) (assigned at p) (value_at at fits i) (value_at at fits p)
+    within_at at fits (Element of p i) = two (assigned_objects at p) (assigned_objects at i) (value_at at fits p) (value_at at fits i)
+    within_at at fits (ElementFrom of i p) = two (assigned_objects at i) (assigned_objects at p) (value_at at fits i) (value_at at fits p)
 
     all_values_at : (at : ℕ) → Fits at → (all : ArgumentTrees) → AreAt (assigned_by_all at all)
     all_values_at at fits expression.none = tt
-    all_values_at at fits (expression.first a rest) = two (assigned at a) (assigned_by_all at rest) (value_at at fits a) (all_values_at at fits rest)
+    all_values_at at fits (expression.first a rest) = two (assigned_objects at a) (assigned_by_all at rest) (value_at at fits a) (all_values_at at fits rest)
 
   elements_at : (at : ℕ) → Fits at → (all : List RvalueTree) → AreAt (assigned_by_values at all)
   elements_at at fits [] = tt
-  elements_at at fits (a ∷ rest) = two (assigned at a) (assigned_by_values at rest) (value_at at fits a) (elements_at at fits rest)
+  elements_at at fits (a ∷ rest) = two (assigned_objects at a) (assigned_by_values at rest) (value_at at fits a) (elements_at at fits rest)
 
   initial_at : (at : ℕ) → Fits at → (i : InitialTree) → AreAt (assigned_by_initial at i)
   initial_at at fits Zero = tt
@@ -130,14 +130,14 @@ module _ (number : ℕ) (Fits : ℕ → Type 0) where
     statement_at scope (Declaration all) fits = declared_at scope all fits
     statement_at scope (Empty spot) fits = tt
     statement_at scope (Run spot e) fits = value_at spot.at fits.0 e
-    statement_at scope (If spot c chosen) fits = two (assigned spot.at c) (assigned_by chosen) (value_at spot.at fits.0 c) (statement_at scope chosen fits.1)
+    statement_at scope (If spot c chosen) fits = two (assigned_objects spot.at c) (assigned_by chosen) (value_at spot.at fits.0 c) (statement_at scope chosen fits.1)
     statement_at scope (IfElse spot c chosen other) fits =
-        two (assigned spot.at c ++ assigned_by chosen) (assigned_by other)
-        (two (assigned spot.at c) (assigned_by chosen) (value_at spot.at fits.0 c) (statement_at scope chosen (fit_front number Fits (places_of number scope chosen) (places_of number scope other) fits.1)))
+        two (assigned_objects spot.at c ++ assigned_by chosen) (assigned_by other)
+        (two (assigned_objects spot.at c) (assigned_by chosen) (value_at spot.at fits.0 c) (statement_at scope chosen (fit_front number Fits (places_of number scope chosen) (places_of number scope other) fits.1)))
         (statement_at scope other (fit_back number Fits (places_of number scope chosen) (places_of number scope other) fits.1))
-    statement_at scope (While spot c body) fits = two (assigned spot.at c) (assigned_by body) (value_at spot.at fits.0 c) (statement_at scope body fits.1)
+    statement_at scope (While spot c body) fits = two (assigned_objects spot.at c) (assigned_by body) (value_at spot.at fits.0 c) (statement_at scope body fits.1)
     statement_at scope (DoWhile body spot c) fits =
-        two (assigned spot.at c) (assigned_by body) (value_at spot.at (fit_back number Fits (places_of number scope body) (stop number scope spot ∷ []) fits).0 c)
+        two (assigned_objects spot.at c) (assigned_by body) (value_at spot.at (fit_back number Fits (places_of number scope body) (stop number scope spot ∷ []) fits).0 c)
         (statement_at scope body (fit_front number Fits (places_of number scope body) (stop number scope spot ∷ []) fits))
     statement_at scope (For start spot c step body) fits =
         let inside = scope ++ brought_by_start start in
@@ -148,7 +148,7 @@ module _ (number : ℕ) (Fits : ℕ → Type 0) where
         two (assigned_by_start start ++ assigned_by_option spot.at c ++ assigned_by_step step) (assigned_by body)
         (two (assigned_by_start start ++ assigned_by_option spot.at c) (assigned_by_step step) (two (assigned_by_start start) (assigned_by_option spot.at c) parts.0 parts.1) (step_at inside step (fit_back number Fits head round before)))
         (statement_at inside body (fit_back number Fits (head ++ round) (places_of number inside body) fits))
-    statement_at scope (Switch spot e all) fits = two (assigned spot.at e) (assigned_by_statements all) (value_at spot.at fits.0 e) (statements_at scope all fits.1)
+    statement_at scope (Switch spot e all) fits = two (assigned_objects spot.at e) (assigned_by_statements all) (value_at spot.at fits.0 e) (statements_at scope all fits.1)
     statement_at scope (Break spot) fits = tt
     statement_at scope (Continue spot) fits = tt
     statement_at scope (Return spot e) fits = option_at spot.at fits.0 e
@@ -196,14 +196,14 @@ record IsNumbered (p : ProgramTree) (places : List Place) (all : List Assigned) 
   pub index : ℕ
   pub from : Assigned
   pub is : slice_get all index ≡ Some from
-  pub place : number_at places from.at ≡ x.place.0
+  pub place : place_number_at places from.at ≡ x.place.0
   pub variable : variable_number p from.object ≡ Some x.var.0
 
 one_numbered : (p : ProgramTree) (places : List Place) (a : Assigned) (all : List Assigned) (x : Assignment) → ((k : ℕ) → slice_get (numbered_assigned p places all) k ≡ Some x → IsNumbered p places all x) → (o : Option ℕ) → variable_number p a.object ≡ o
-    → (i : ℕ) → slice_get (numbered_for (number_at places a.at) o ++ numbered_assigned p places all) i ≡ Some x → IsNumbered p places (a ∷ all) x
+    → (i : ℕ) → slice_get (numbered_for (place_number_at places a.at) o ++ numbered_assigned p places all) i ≡ Some x → IsNumbered p places (a ∷ all) x
 one_numbered p places a all x rest None none i is = let r = rest i is in record { index = suc r.index; from = r.from; is = r.is; place = r.place; variable = r.variable }
 one_numbered p places a all x rest (Some y) some zero is =
-    let made : Assignment = record { place = record { 0 = number_at places a.at }; var = record { 0 = y } } in
+    let made : Assignment = record { place = record { 0 = place_number_at places a.at }; var = record { 0 = y } } in
     let same : made ≡ x = same_Some made x is in
     record { index = 0; from = a; is = refl; place = ap (λ (z : Assignment). z.place.0) same; variable = some ∙ ap (λ (z : Assignment). Some z.var.0) same }
 one_numbered p places a all x rest (Some y) some (suc i) is = let r = rest i is in record { index = suc r.index; from = r.from; is = r.is; place = r.place; variable = r.variable }

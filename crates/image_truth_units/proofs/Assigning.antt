@@ -6,7 +6,7 @@ use Rattle.places.specs.declared.flow.Assignment.{Assignment}
 use Rattle.places.specs.Flow.{assigns}
 use Rattle.c_tree.specs.declared.object_type.Object.TheVariants as object
 use Rattle.c_tree.specs.Programs.{TypedFunctionTree, ProgramTree}
-use Rattle.c_places.specs.Places.{Place, numbers_from, parameters_of, places_of_program, number_at}
+use Rattle.c_places.specs.Places.{Place, numbers_from, parameters_of, places_of_program, place_number_at}
 use Rattle.c_flow.specs.declared.assigned.Assigned.{Assigned}
 use Rattle.c_flow.specs.Assigns.{assigns_object, assigned_by_entry, assigned_by_statements, assigned_by_function, assigned_by_functions, assigned_by_program, among, variable_number, numbered_for, numbered_assigned, assignments_of_program}
 use Rattle.graph_core.specs.Graphs.{Scalar, Graph, UnitForm}
@@ -34,12 +34,12 @@ in_program [] k f at a h = absurd (none_is at)
 in_program (g ∷ all) zero f at a h = among_front a (assigned_by_function g) (assigned_by_functions all) (subst (λ (z : TypedFunctionTree). Among a (assigned_by_function z)) (sym (some_same at)) h)
 in_program (g ∷ all) (suc k) f at a h = among_back a (assigned_by_function g) (assigned_by_functions all) (in_program all k f at a h)
 
-numbered_is : (p : ProgramTree) (places : List Place) (all : List Assigned) (a : Assigned) (x : ℕ) → Among a all → variable_number p a.object ≡ Some x → Among (record { place = record { 0 = number_at places a.at }; var = record { 0 = x } }) (numbered_assigned p places all)
+numbered_is : (p : ProgramTree) (places : List Place) (all : List Assigned) (a : Assigned) (x : ℕ) → Among a all → variable_number p a.object ≡ Some x → Among (record { place = record { 0 = place_number_at places a.at }; var = record { 0 = x } }) (numbered_assigned p places all)
 numbered_is p places [] a x h e = elim h [ ]
 numbered_is p places (b ∷ all) a x front e =
-    subst (λ o. Among (record { place = record { 0 = number_at places a.at }; var = record { 0 = x } }) (numbered_for (number_at places a.at) o ++ numbered_assigned p places all)) (sym e) front
+    subst (λ o. Among (record { place = record { 0 = place_number_at places a.at }; var = record { 0 = x } }) (numbered_for (place_number_at places a.at) o ++ numbered_assigned p places all)) (sym e) front
 numbered_is p places (b ∷ all) a x (behind h) e =
-    among_back (record { place = record { 0 = number_at places a.at }; var = record { 0 = x } }) (numbered_for (number_at places b.at) (variable_number p b.object)) (numbered_assigned p places all) (numbered_is p places all a x h e)
+    among_back (record { place = record { 0 = place_number_at places a.at }; var = record { 0 = x } }) (numbered_for (place_number_at places b.at) (variable_number p b.object)) (numbered_assigned p places all) (numbered_is p places all a x h e)
 
 -- a variable among the scalars is one of these
 among_below : (n : Names) (base count j x : ℕ) → slice_get (scalars_among n (numbers_from base count)) j ≡ Some x → x < base + count
@@ -111,7 +111,7 @@ module _ (p : ProgramTree) (u : UnitForm) (has : HasAssignments p u) (k : ℕ) (
       let same : v ≡ s.own = one_name p f (is_again p f) v s.own y named s.named in
       let lt : v < length p.automatics = subst (λ w. w < length p.automatics) (sym same) s.below in
       let number : variable_number p a.object ≡ Some (variable_of p v) = ap (variable_number p) is_object ∙ automatic_number v lt in
-      let it : Assignment = record { place = record { 0 = number_at (places_of_program p) a.at }; var = record { 0 = variable_of p v } } in
+      let it : Assignment = record { place = record { 0 = place_number_at (places_of_program p) a.at }; var = record { 0 = variable_of p v } } in
       let there : Among it u.assignments = has it (numbered_is p (places_of_program p) (assigned_by_program p) a (variable_of p v) (in_program p.functions k f is a among) number) in
       subst (λ w. assigns u.assignments (place_of code a.at) w ≡ true) (ap (variable_of p) same ∙ s.number) (assigned_true u.assignments it there)
 

@@ -3,7 +3,7 @@ use Rattle.std.proofs.Common.{◌≡◌, ℕ, zero, suc, ◌+◌, ◌-◌, inl, 
 use Rattle.std.proofs.lemmas.Bool.{cases_lt}
 use Rattle.std.proofs.lemmas.Option.{none-some, same_Some}
 use Rattle.c_tree.specs.Programs.{ProgramTree, TypedFunctionTree}
-use Rattle.c_places.specs.Places.{Place, number_at, places_of_function, places_of_functions, places_of_program}
+use Rattle.c_places.specs.Places.{Place, place_number_at, places_of_function, places_of_functions, places_of_program}
 use Rattle.c_type_laws.specs.Laws.{IsWellFormed}
 use Rattle.graph_core.specs.Graphs.{Graph, UnitForm}
 use Rattle.graph_core.specs.Paths.{Among, front, behind}
@@ -64,14 +64,14 @@ among_all number (f ∷ all) (suc k) j tree q is at =
     behind_there (places_of_function number f) (places_of_functions (number + 1) all) r.0 q r.1
 
 module _ (p : ProgramTree) (formed : IsWellFormed p) (u : UnitForm) (built : IsUnitOf p u) where
-  numbers : (k : ℕ) (q : Place) → slice_get (places_of_program p) k ≡ Some q → number_at (places_of_program p) q.spot.at ≡ k + 1
+  numbers : (k : ℕ) (q : Place) → slice_get (places_of_program p) k ≡ Some q → place_number_at (places_of_program p) q.spot.at ≡ k + 1
   numbers k q is = numbered_at (places_of_program p) k q (facts_of p formed).positions is
 
   -- the markers of a graph
   record HasMarkers (f : ℕ) (g : Graph) : Type 0 where
     pub tree : TypedFunctionTree
     pub is : slice_get p.functions f ≡ Some tree
-    pub markers : markers_of_blocks g.blocks ≡ map (λ (q : Place). number_at (places_of_program p) q.spot.at) (places_of_function f tree)
+    pub markers : markers_of_blocks g.blocks ≡ map (λ (q : Place). place_number_at (places_of_program p) q.spot.at) (places_of_function f tree)
 
   has_markers : (f : ℕ) (g : Graph) → slice_get u.graphs f ≡ Some g → HasMarkers f g
   has_markers f g is =
@@ -88,12 +88,12 @@ module _ (p : ProgramTree) (formed : IsWellFormed p) (u : UnitForm) (built : IsU
         let tree : own.tree ≡ has.tree = same_Some own.tree has.tree (sym own.is ∙ ap (slice_get p.functions) also ∙ has.is) in
         let there_is : slice_get (places_of_function q.function has.tree) own.place ≡ Some q = ap (λ (x : TypedFunctionTree). slice_get (places_of_function q.function x) own.place) (sym tree) ∙ ap (λ n. slice_get (places_of_function n own.tree) own.place) (sym here) ∙ own.at in
         subst (λ n. Among n (markers_of_blocks g.blocks)) (numbers i q is)
-        (subst (Among (number_at (places_of_program p) q.spot.at)) (sym has.markers)
-        (at_among (map (λ (x : Place). number_at (places_of_program p) x.spot.at) (places_of_function q.function has.tree)) (number_at (places_of_program p) q.spot.at) own.place (map_at (λ (x : Place). number_at (places_of_program p) x.spot.at) (places_of_function q.function has.tree) own.place q there_is)));
+        (subst (Among (place_number_at (places_of_program p) q.spot.at)) (sym has.markers)
+        (at_among (map (λ (x : Place). place_number_at (places_of_program p) x.spot.at) (places_of_function q.function has.tree)) (place_number_at (places_of_program p) q.spot.at) own.place (map_at (λ (x : Place). place_number_at (places_of_program p) x.spot.at) (places_of_function q.function has.tree) own.place q there_is)));
     own = λ f place g is among.
         let has = has_markers f g is in
-        let k = among_at (map (λ (x : Place). number_at (places_of_program p) x.spot.at) (places_of_function f has.tree)) place (subst (Among place) has.markers among) in
-        let q = from_map (λ (x : Place). number_at (places_of_program p) x.spot.at) (places_of_function f has.tree) k.0 place k.1 in
+        let k = among_at (map (λ (x : Place). place_number_at (places_of_program p) x.spot.at) (places_of_function f has.tree)) place (subst (Among place) has.markers among) in
+        let q = from_map (λ (x : Place). place_number_at (places_of_program p) x.spot.at) (places_of_function f has.tree) k.0 place k.1 in
         let here : 0 + f ≡ f = omega arith in
         let i = among_all 0 p.functions f k.0 has.tree q.0 has.is (ap (λ n. slice_get (places_of_function n has.tree) k.0) here ∙ q.1) in
         record { index = i.0; at = q.0; is = i.1; number_is = sym q.2 ∙ numbers i.0 q.0 i.1; function_is = own_function f k.0 has.tree q.0 q.1 };

@@ -14,11 +14,11 @@ use Rattle.c_tree.specs.TypedStatements.{InitialTree, Zero, Scalar, Elements, Li
 use Rattle.c_tree.specs.TypedStatements as statement
 use Rattle.c_tree.specs.Programs.{ProgramTree, TypedFunctionTree}
 use Rattle.c_places.specs.Flow.{has_default}
-use Rattle.c_places.specs.Places.{Place, number_at, numbers_from, places_of_program}
+use Rattle.c_places.specs.Places.{Place, place_number_at, numbers_from, places_of_program}
 use Rattle.c_flow.specs.declared.assigned.Assigned.{Assigned}
 use Rattle.c_flow.specs.declared.edge.Ways.{Ways}
-use Rattle.c_flow.specs.Assigns.{assigned, assigned_by, assigned_by_all, assigned_by_declarators, assigned_by_entry, assigned_by_function, assigned_by_functions, assigned_by_initial, assigned_by_option, assigned_by_program, assigned_by_start, assigned_by_statements, assigned_by_step, assigned_by_values, assigned_within, assigns_object, assignments_of_program, named, numbered_assigned, numbered_for, variable_number}
-use Rattle.c_flow.specs.Flow.{before, edge, flow_of, flow_of_all, flow_of_declarators, flow_of_function, flow_of_functions, flow_of_program, flow_of_start, flow_of_step, flow_out, flow_past, flow_to_labels, numbered, round_of, start, start_of_all, start_of_declarators, steps_of_program, ways_of_body, within_loop, within_switch}
+use Rattle.c_flow.specs.Assigns.{assigned_objects, assigned_by, assigned_by_all, assigned_by_declarators, assigned_by_entry, assigned_by_function, assigned_by_functions, assigned_by_initial, assigned_by_option, assigned_by_program, assigned_by_start, assigned_by_statements, assigned_by_step, assigned_by_values, assigned_within, assigns_object, assignments_of_program, named_object, numbered_assigned, numbered_for, variable_number}
+use Rattle.c_flow.specs.Flow.{ways_before, edge, flow_of, flow_of_all, flow_of_declarators, flow_of_function, flow_of_functions, flow_of_program, flow_of_start, flow_of_step, flow_out, flow_past, flow_to_labels, flow_step_of, round_of, start_place, start_of_all, start_of_declarators, steps_of_program, ways_of_body, within_loop, within_switch}
 use Rattle.c_type_laws.specs.Nodes.{nodes, place_nodes, argument_nodes, element_nodes, initial_nodes, declared_nodes, start_nodes, option_nodes, step_nodes, statement_nodes, statements_nodes}
 use Rattle.c_type_laws.specs.Laws.{IsWellFormed, weight_of}
 use Rattle.graph_build_laws.proofs.WellFormed.{laws_of}
@@ -105,42 +105,42 @@ mutual
   statement_steps w (Empty spot) = let own = one_edge spot.at w.next in omega (arith, own)
   statement_steps w (Run spot e) = let own = one_edge spot.at w.next in omega (arith, own)
   statement_steps w (If spot c chosen) =
-      let one = edge spot.at (start chosen w.next) in
+      let one = edge spot.at (start_place chosen w.next) in
       let two = edge spot.at w.next in
-      let a = one_edge spot.at (start chosen w.next) in
+      let a = one_edge spot.at (start_place chosen w.next) in
       let b = one_edge spot.at w.next in
       let rest = statement_steps w chosen in
       omega (arith, length-append (one ++ two) (flow_of w chosen), length-append one two, a, b, rest)
   statement_steps w (IfElse spot c chosen other) =
-      let one = edge spot.at (start chosen w.next) in
-      let two = edge spot.at (start other w.next) in
-      let a = one_edge spot.at (start chosen w.next) in
-      let b = one_edge spot.at (start other w.next) in
+      let one = edge spot.at (start_place chosen w.next) in
+      let two = edge spot.at (start_place other w.next) in
+      let a = one_edge spot.at (start_place chosen w.next) in
+      let b = one_edge spot.at (start_place other w.next) in
       let first = statement_steps w chosen in
       let second = statement_steps w other in
       omega (arith, length-append (one ++ two ++ flow_of w chosen) (flow_of w other), length-append (one ++ two) (flow_of w chosen), length-append one two, a, b, first, second)
   statement_steps w (While spot c body) =
-      let one = edge spot.at (start body (Some spot.at)) in
+      let one = edge spot.at (start_place body (Some spot.at)) in
       let two = edge spot.at w.next in
-      let a = one_edge spot.at (start body (Some spot.at)) in
+      let a = one_edge spot.at (start_place body (Some spot.at)) in
       let b = one_edge spot.at w.next in
       let rest = statement_steps (within_loop spot.at w) body in
       omega (arith, length-append (one ++ two) (flow_of (within_loop spot.at w) body), length-append one two, a, b, rest)
   statement_steps w (DoWhile body spot c) =
-      let one = edge spot.at (start body (Some spot.at)) in
+      let one = edge spot.at (start_place body (Some spot.at)) in
       let two = edge spot.at w.next in
-      let a = one_edge spot.at (start body (Some spot.at)) in
+      let a = one_edge spot.at (start_place body (Some spot.at)) in
       let b = one_edge spot.at w.next in
       let rest = statement_steps (within_loop spot.at w) body in
       omega (arith, length-append (one ++ two) (flow_of (within_loop spot.at w) body), length-append one two, a, b, rest)
   statement_steps w (For begin spot c step body) =
       let own = flow_of_start begin spot.at in
-      let into = edge spot.at (start body (Some (round_of step spot.at))) in
+      let into = edge spot.at (start_place body (Some (round_of step spot.at))) in
       let out = flow_out c spot.at w.next in
       let round = flow_of_step step spot.at in
       let inner = flow_of (within_loop (round_of step spot.at) w) body in
       let a = start_steps begin spot.at in
-      let b = one_edge spot.at (start body (Some (round_of step spot.at))) in
+      let b = one_edge spot.at (start_place body (Some (round_of step spot.at))) in
       let d = out_steps c spot.at w.next in
       let e = step_steps step spot.at in
       let rest = statement_steps (within_loop (round_of step spot.at) w) body in
@@ -159,9 +159,9 @@ mutual
   labelled_steps : (w : Ways) (from : ℕ) (next : Option ℕ) (all : TypedStatementTrees) → length (flow_to_labels from all next) + length (flow_of_all w all) ≤ 4 * statements_nodes all
   labelled_steps w from next statement.none = omega arith
   labelled_steps w from next (statement.first s rest) =
-      let own = statement_steps (before rest w) s in
+      let own = statement_steps (ways_before rest w) s in
       let more = labelled_steps w from next rest in
-      omega (arith, length-append (flow_of (before rest w) s) (flow_of_all w rest), own, more)
+      omega (arith, length-append (flow_of (ways_before rest w) s) (flow_of_all w rest), own, more)
   labelled_steps w from next (case value rest) =
       let own = one_edge from (start_of_all rest next) in
       let more = labelled_steps w from next rest in
@@ -195,7 +195,7 @@ pub steps_few : (p : ProgramTree) → IsWellFormed p → (steps : List FlowStep)
 steps_few p formed steps same ordered =
     let laws = laws_of p formed in
     let few = in_order_few IsStepBefore never_before_step steps (steps_of_program p) ordered (λ s has. (same s).0 has) in
-    let many = length-map (flow_of_program p) (numbered (places_of_program p)) in
+    let many = length-map (flow_of_program p) (flow_step_of (places_of_program p)) in
     let light = functions_steps p.functions (λ k f is. (laws.functions k f is).nodes) in
     let weights = laws.weights in
     let weight = laws.weight in
@@ -204,7 +204,7 @@ steps_few p formed steps same ordered =
 -- ---- Assignments
 
 module _ (at : ℕ) where
-  named_few : (l : LvalueTree) → length (named at l) ≤ 1
+  named_few : (l : LvalueTree) → length (named_object at l) ≤ 1
   named_few (Named object of) = omega arith
   named_few (Target of p) = omega arith
   named_few (Element of p i) = omega arith
@@ -215,7 +215,7 @@ module _ (at : ℕ) where
   two_few xs ys m n a b = omega (arith, length-append xs ys, a, b)
 
   mutual
-    value_few : (e : RvalueTree) → length (assigned at e) ≤ nodes e
+    value_few : (e : RvalueTree) → length (assigned_objects at e) ≤ nodes e
     value_few (Constant value type) = omega arith
     value_few Null = omega arith
     value_few (Load scalar l) = within_few l
@@ -225,48 +225,48 @@ module _ (at : ℕ) where
     value_few (Discard a) = let x = value_few a in omega (arith, x)
     value_few (Signed sign type a) = let x = value_few a in omega (arith, x)
     value_few (Not a) = let x = value_few a in omega (arith, x)
-    value_few (Arithmetic o type a b) = let x = two_few (assigned at a) (assigned at b) (nodes a) (nodes b) (value_few a) (value_few b) in omega (arith, x)
-    value_few (Compare o type a b) = let x = two_few (assigned at a) (assigned at b) (nodes a) (nodes b) (value_few a) (value_few b) in omega (arith, x)
-    value_few (ComparePointers o a b) = let x = two_few (assigned at a) (assigned at b) (nodes a) (nodes b) (value_few a) (value_few b) in omega (arith, x)
-    value_few (Move direction element p n) = let x = two_few (assigned at p) (assigned at n) (nodes p) (nodes n) (value_few p) (value_few n) in omega (arith, x)
-    value_few (MoveFrom n element p) = let x = two_few (assigned at n) (assigned at p) (nodes n) (nodes p) (value_few n) (value_few p) in omega (arith, x)
-    value_few (Difference element a b) = let x = two_few (assigned at a) (assigned at b) (nodes a) (nodes b) (value_few a) (value_few b) in omega (arith, x)
-    value_few (And a b) = let x = two_few (assigned at a) (assigned at b) (nodes a) (nodes b) (value_few a) (value_few b) in omega (arith, x)
-    value_few (Or a b) = let x = two_few (assigned at a) (assigned at b) (nodes a) (nodes b) (value_few a) (value_few b) in omega (arith, x)
+    value_few (Arithmetic o type a b) = let x = two_few (assigned_objects at a) (assigned_objects at b) (nodes a) (nodes b) (value_few a) (value_few b) in omega (arith, x)
+    value_few (Compare o type a b) = let x = two_few (assigned_objects at a) (assigned_objects at b) (nodes a) (nodes b) (value_few a) (value_few b) in omega (arith, x)
+    value_few (ComparePointers o a b) = let x = two_few (assigned_objects at a) (assigned_objects at b) (nodes a) (nodes b) (value_few a) (value_few b) in omega (arith, x)
+    value_few (Move direction element p n) = let x = two_few (assigned_objects at p) (assigned_objects at n) (nodes p) (nodes n) (value_few p) (value_few n) in omega (arith, x)
+    value_few (MoveFrom n element p) = let x = two_few (assigned_objects at n) (assigned_objects at p) (nodes n) (nodes p) (value_few n) (value_few p) in omega (arith, x)
+    value_few (Difference element a b) = let x = two_few (assigned_objects at a) (assigned_objects at b) (nodes a) (nodes b) (value_few a) (value_few b) in omega (arith, x)
+    value_few (And a b) = let x = two_few (assigned_objects at a) (assigned_objects at b) (nodes a) (nodes b) (value_few a) (value_few b) in omega (arith, x)
+    value_few (Or a b) = let x = two_few (assigned_objects at a) (assigned_objects at b) (nodes a) (nodes b) (value_few a) (value_few b) in omega (arith, x)
     value_few (Conditional c a b) =
-        let x = two_few (assigned at c) (assigned at a) (nodes c) (nodes a) (value_few c) (value_few a) in
-        let y = two_few (assigned at c ++ assigned at a) (assigned at b) (nodes c + nodes a) (nodes b) x (value_few b) in
+        let x = two_few (assigned_objects at c) (assigned_objects at a) (nodes c) (nodes a) (value_few c) (value_few a) in
+        let y = two_few (assigned_objects at c ++ assigned_objects at a) (assigned_objects at b) (nodes c + nodes a) (nodes b) x (value_few b) in
         omega (arith, y)
-    value_few (Comma a b) = let x = two_few (assigned at a) (assigned at b) (nodes a) (nodes b) (value_few a) (value_few b) in omega (arith, x)
+    value_few (Comma a b) = let x = two_few (assigned_objects at a) (assigned_objects at b) (nodes a) (nodes b) (value_few a) (value_few b) in omega (arith, x)
     value_few (Assign scalar l a) =
-        let x = two_few (named at l) (assigned_within at l) 1 (place_nodes l) (named_few l) (within_few l) in
-        let y = two_few (named at l ++ assigned_within at l) (assigned at a) (1 + place_nodes l) (nodes a) x (value_few a) in
+        let x = two_few (named_object at l) (assigned_within at l) 1 (place_nodes l) (named_few l) (within_few l) in
+        let y = two_few (named_object at l ++ assigned_within at l) (assigned_objects at a) (1 + place_nodes l) (nodes a) x (value_few a) in
         omega (arith, y)
     value_few (Update o target type l a) =
-        let x = two_few (named at l) (assigned_within at l) 1 (place_nodes l) (named_few l) (within_few l) in
-        let y = two_few (named at l ++ assigned_within at l) (assigned at a) (1 + place_nodes l) (nodes a) x (value_few a) in
+        let x = two_few (named_object at l) (assigned_within at l) 1 (place_nodes l) (named_few l) (within_few l) in
+        let y = two_few (named_object at l ++ assigned_within at l) (assigned_objects at a) (1 + place_nodes l) (nodes a) x (value_few a) in
         omega (arith, y)
     value_few (UpdatePointer direction element l n) =
-        let x = two_few (named at l) (assigned_within at l) 1 (place_nodes l) (named_few l) (within_few l) in
-        let y = two_few (named at l ++ assigned_within at l) (assigned at n) (1 + place_nodes l) (nodes n) x (value_few n) in
+        let x = two_few (named_object at l) (assigned_within at l) 1 (place_nodes l) (named_few l) (within_few l) in
+        let y = two_few (named_object at l ++ assigned_within at l) (assigned_objects at n) (1 + place_nodes l) (nodes n) x (value_few n) in
         omega (arith, y)
-    value_few (Step direction given target type l) = let x = two_few (named at l) (assigned_within at l) 1 (place_nodes l) (named_few l) (within_few l) in omega (arith, x)
-    value_few (StepPointer direction given element l) = let x = two_few (named at l) (assigned_within at l) 1 (place_nodes l) (named_few l) (within_few l) in omega (arith, x)
+    value_few (Step direction given target type l) = let x = two_few (named_object at l) (assigned_within at l) 1 (place_nodes l) (named_few l) (within_few l) in omega (arith, x)
+    value_few (StepPointer direction given element l) = let x = two_few (named_object at l) (assigned_within at l) 1 (place_nodes l) (named_few l) (within_few l) in omega (arith, x)
     value_few (Call callee all) = let x = arguments_few all in omega (arith, x)
 
     within_few : (l : LvalueTree) → length (assigned_within at l) ≤ place_nodes l
     within_few (Named object of) = omega arith
     within_few (Target of p) = let x = value_few p in omega (arith, x)
-    within_few (Element of p i) = let x = two_few (assigned at p) (assigned at i) (nodes p) (nodes i) (value_few p) (value_few i) in omega (arith, x)
-    within_few (ElementFrom of i p) = let x = two_few (assigned at i) (assigned at p) (nodes i) (nodes p) (value_few i) (value_few p) in omega (arith, x)
+    within_few (Element of p i) = let x = two_few (assigned_objects at p) (assigned_objects at i) (nodes p) (nodes i) (value_few p) (value_few i) in omega (arith, x)
+    within_few (ElementFrom of i p) = let x = two_few (assigned_objects at i) (assigned_objects at p) (nodes i) (nodes p) (value_few i) (value_few p) in omega (arith, x)
 
     arguments_few : (all : ArgumentTrees) → length (assigned_by_all at all) ≤ argument_nodes all
     arguments_few expression.none = omega arith
-    arguments_few (expression.first a rest) = two_few (assigned at a) (assigned_by_all at rest) (nodes a) (argument_nodes rest) (value_few a) (arguments_few rest)
+    arguments_few (expression.first a rest) = two_few (assigned_objects at a) (assigned_by_all at rest) (nodes a) (argument_nodes rest) (value_few a) (arguments_few rest)
 
   elements_few : (all : List RvalueTree) → length (assigned_by_values at all) ≤ element_nodes all
   elements_few [] = omega arith
-  elements_few (a ∷ rest) = two_few (assigned at a) (assigned_by_values at rest) (nodes a) (element_nodes rest) (value_few a) (elements_few rest)
+  elements_few (a ∷ rest) = two_few (assigned_objects at a) (assigned_by_values at rest) (nodes a) (element_nodes rest) (value_few a) (elements_few rest)
 
   initial_few : (i : InitialTree) → length (assigned_by_initial at i) ≤ initial_nodes i
   initial_few Zero = omega arith
@@ -303,20 +303,20 @@ mutual
   statement_few (If spot c chosen) =
       let x = value_few spot.at c in
       let y = statement_few chosen in
-      omega (arith, length-append (assigned spot.at c) (assigned_by chosen), x, y)
+      omega (arith, length-append (assigned_objects spot.at c) (assigned_by chosen), x, y)
   statement_few (IfElse spot c chosen other) =
       let x = value_few spot.at c in
       let y = statement_few chosen in
       let z = statement_few other in
-      omega (arith, length-append (assigned spot.at c ++ assigned_by chosen) (assigned_by other), length-append (assigned spot.at c) (assigned_by chosen), x, y, z)
+      omega (arith, length-append (assigned_objects spot.at c ++ assigned_by chosen) (assigned_by other), length-append (assigned_objects spot.at c) (assigned_by chosen), x, y, z)
   statement_few (While spot c body) =
       let x = value_few spot.at c in
       let y = statement_few body in
-      omega (arith, length-append (assigned spot.at c) (assigned_by body), x, y)
+      omega (arith, length-append (assigned_objects spot.at c) (assigned_by body), x, y)
   statement_few (DoWhile body spot c) =
       let x = value_few spot.at c in
       let y = statement_few body in
-      omega (arith, length-append (assigned spot.at c) (assigned_by body), x, y)
+      omega (arith, length-append (assigned_objects spot.at c) (assigned_by body), x, y)
   statement_few (For begin spot c step body) =
       let one = assigned_by_start begin in
       let two = assigned_by_option spot.at c in
@@ -329,7 +329,7 @@ mutual
   statement_few (Switch spot e all) =
       let x = value_few spot.at e in
       let y = statements_few all in
-      omega (arith, length-append (assigned spot.at e) (assigned_by_statements all), x, y)
+      omega (arith, length-append (assigned_objects spot.at e) (assigned_by_statements all), x, y)
   statement_few (Break spot) = omega arith
   statement_few (Continue spot) = omega arith
   statement_few (Return spot e) = let x = option_few spot.at e in omega (arith, x)
@@ -371,9 +371,9 @@ one_number place (Some x) = omega arith
 numbered_few : (p : ProgramTree) (places : List Place) (all : List Assigned) → length (numbered_assigned p places all) ≤ length all
 numbered_few p places [] = omega arith
 numbered_few p places (a ∷ all) =
-    let own = one_number (number_at places a.at) (variable_number p a.object) in
+    let own = one_number (place_number_at places a.at) (variable_number p a.object) in
     let rest = numbered_few p places all in
-    omega (arith, length-append (numbered_for (number_at places a.at) (variable_number p a.object)) (numbered_assigned p places all), own, rest)
+    omega (arith, length-append (numbered_for (place_number_at places a.at) (variable_number p a.object)) (numbered_assigned p places all), own, rest)
 
 never_before_assignment : (a : Assignment) → IsAssignmentBefore a a → ⊥
 never_before_assignment a (inl less) = omega (arith, less)

@@ -15,7 +15,7 @@ use Rattle.c_type_rules.specs.ValueTypes.{type_of, given_by, is_void, is_pointer
 use Rattle.word_base.specs.declared.operation.Operation.TheVariants as operation
 use Rattle.graph_core.specs.Graphs as unit
 use Rattle.graph_core.specs.Graphs.{Operand, Instruction, Operate, Truncate, Same, Block, Jump}
-use Rattle.graph_build_names.specs.Conversions.{word_of, keeps_bits, is_narrow, is_kept_constant}
+use Rattle.graph_build_names.specs.Conversions.{unsigned_bits, keeps_bits, is_narrow, is_kept_constant}
 use Rattle.graph_build_names.specs.Operands.{held}
 use Rattle.graph_build_names.specs.Scales.{is_scaled}
 use Rattle.graph_build_layout.specs.declared.laid.Use.{Use}
@@ -25,7 +25,7 @@ use Rattle.graph_build_names.specs.Writes.{writes, writes_within, writes_any, na
 use Rattle.graph_build_layout.specs.Laid.{Laid, PlaceLaid, pair, behind_move, behind_own, as_value, worked, use_for, operation_laid, standing, converted_laid, both_laid, void_arms_laid, arms_laid, begun_at, assigned_laid, begun_behind, updated_laid, step_laid, loaded_laid}
 use Rattle.graph_build_layout.specs.Layout.{laid, place_laid, address_laid, passed_laid, named_location}
 use Rattle.graph_build_steps.specs.Rules.{element_of, truncation_to, callee_for, steps_by}
-use Rattle.graph_build_steps.specs.Drafts.{Made, Goal, To, Unused, Either, use_of, before, ending, leaf, label_of, closed, forked, valued, used, operated, move_if, hold_location, held_location, noted, called_by, tested}
+use Rattle.graph_build_steps.specs.Drafts.{Made, Goal, To, Unused, Either, use_of, instruction_before, ending, leaf, label_of, with_inner_block, forked, valued, used, operated, move_if, hold_location, held_location, noted, called_by, tested}
 use Rattle.graph_build_steps.specs.Drafts as drafts
 use Rattle.graph_build_steps.specs.declared.site.Two as declared-two
 use Rattle.graph_build_steps.specs.declared.site.Two.TheVariants as two
@@ -215,7 +215,7 @@ module _ (x : Marking) where
       let f = forked_has x g t le (both_for g t (laid (n x) a Tested) (laid (n x) b Tested) k) in
       let own = own_from g t le in
       let has = hb later (Either way.one way.other way.inner) (least_pick x at (laid (n x) a Tested at).top own (from_top a Tested at own)) (right_of (λ y. writes (n x) y a) (λ y. writes (n x) y b) x.may may) f in
-      ha at (Either (label_of x.top m) way.other (closed x.place m)) own (left_of (λ y. writes (n x) y a) (λ y. writes (n x) y b) x.may may) (x.rules.close m has, x.rules.keep m way.other way.inner (grows b later way.one way.other way.inner) has f.1)
+      ha at (Either (label_of x.top m) way.other (with_inner_block x.place m)) own (left_of (λ y. writes (n x) y a) (λ y. writes (n x) y b) x.may may) (x.rules.close m has, x.rules.keep m way.other way.inner (grows b later way.one way.other way.inner) has f.1)
 
   or_has : (a b : RvalueTree) → Codes a → Codes b → (t : ℕ) (g : Goal) → From x t → May (λ y. writes (n x) y a || writes (n x) y b) → For x (laid (n x) (Or a b) (use_of g) t).value g → H x None (C (Or a b) t g)
   or_has a b ha hb t g le may k =
@@ -225,7 +225,7 @@ module _ (x : Marking) where
       let f = forked_has x g t le (both_for g t (laid (n x) a Tested) (laid (n x) b Tested) k) in
       let own = own_from g t le in
       let has = hb later (Either way.one way.other way.inner) (least_pick x at (laid (n x) a Tested at).top own (from_top a Tested at own)) (right_of (λ y. writes (n x) y a) (λ y. writes (n x) y b) x.may may) f in
-      ha at (Either way.one (label_of x.top m) (closed x.place m)) own (left_of (λ y. writes (n x) y a) (λ y. writes (n x) y b) x.may may) (x.rules.keep m way.one way.inner (grows b later way.one way.other way.inner) has f.0, x.rules.close m has)
+      ha at (Either way.one (label_of x.top m) (with_inner_block x.place m)) own (left_of (λ y. writes (n x) y a) (λ y. writes (n x) y b) x.may may) (x.rules.keep m way.one way.inner (grows b later way.one way.other way.inner) has f.0, x.rules.close m has)
 
   -- `?:`
   arm_has : (void : Bool) (e : RvalueTree) → Codes e → (t at : ℕ) (m : Made) → From x t → From x at → May (λ y. writes (n x) y e) → ((void ≡ false → Own x t) → H x None m) → H x None (C e at (arm_goal void t m))
@@ -249,28 +249,28 @@ module _ (x : Marking) where
       H x None (let at = behind_move (not void) t in
       let at_a = pick (n x) at (laid (n x) c Tested at).top in let at_b = pick (n x) at (laid (n x) a (arm_use void t) at_a).top in
       let m = leaf g (arm_value void t) in
-      let y = C b at_b (arm_goal void t (ending (Jump (label_of x.top m)) (closed x.place m))) in
-      let z = C a at_a (arm_goal void t (ending (Jump (label_of x.top m)) (closed x.place y))) in
-      C c at (Either (label_of x.top z) (label_of x.top y) (closed x.place z)))
+      let y = C b at_b (arm_goal void t (ending (Jump (label_of x.top m)) (with_inner_block x.place m))) in
+      let z = C a at_a (arm_goal void t (ending (Jump (label_of x.top m)) (with_inner_block x.place y))) in
+      C c at (Either (label_of x.top z) (label_of x.top y) (with_inner_block x.place z)))
   choice_has c a b hc ha hb t g le may void k =
       let w = λ (y : ℕ). writes (n x) y c in let wa = λ (y : ℕ). writes (n x) y a in let wb = λ (y : ℕ). writes (n x) y b in
       let at = behind_move (not void) t in
       let at_a = pick (n x) at (laid (n x) c Tested at).top in let at_b = pick (n x) at (laid (n x) a (arm_use void t) at_a).top in
       let m = leaf g (arm_value void t) in
-      let join = ending (Jump (label_of x.top m)) (closed x.place m) in
+      let join = ending (Jump (label_of x.top m)) (with_inner_block x.place m) in
       let y = C b at_b (arm_goal void t join) in
-      let join_a = ending (Jump (label_of x.top m)) (closed x.place y) in
+      let join_a = ending (Jump (label_of x.top m)) (with_inner_block x.place y) in
       let z = C a at_a (arm_goal void t join_a) in
       let from = from_moved (not void) t le in
       let from_a = least_pick x at (laid (n x) c Tested at).top from (from_top c Tested at from) in
       let from_b = least_pick x at (laid (n x) a (arm_use void t) at_a).top from (from_top a (arm_use void t) at_a from_a) in
       let has_m : (void ≡ false → Own x t) → H x None m = joined_has void t g (laid (n x) c Tested) (laid (n x) a Nothing) (laid (n x) b Nothing) (laid (n x) a (In t)) (laid (n x) b (In t)) k in
-      let has_y : H x None y = arm_has void b hb t at_b join le from_b (three_right w wa wb x.may may) (λ o. x.rules.jump (label_of x.top m) (closed x.place m) (x.rules.close m (has_m o))) in
-      let grow_y : Grows (closed x.place m) y.inner = arm_grows void b t at_b join in
+      let has_y : H x None y = arm_has void b hb t at_b join le from_b (three_right w wa wb x.may may) (λ o. x.rules.jump (label_of x.top m) (with_inner_block x.place m) (x.rules.close m (has_m o))) in
+      let grow_y : Grows (with_inner_block x.place m) y.inner = arm_grows void b t at_b join in
       let has_z : H x None z = arm_has void a ha t at_a join_a le from_a (three_mid w wa wb x.may may)
-      (λ o. x.rules.jump (label_of x.top m) (closed x.place y) (x.rules.keep y (label_of x.top m) (closed x.place m) grow_y has_y (x.rules.close m (has_m o)))) in
-      let grow_z : Grows (closed x.place y) z.inner = arm_grows void a t at_a join_a in
-      hc at (Either (label_of x.top z) (label_of x.top y) (closed x.place z)) from (three_left w wa wb x.may may) (x.rules.close z has_z, x.rules.keep z (label_of x.top y) (closed x.place y) grow_z has_z (x.rules.close y has_y))
+      (λ o. x.rules.jump (label_of x.top m) (with_inner_block x.place y) (x.rules.keep y (label_of x.top m) (with_inner_block x.place m) grow_y has_y (x.rules.close m (has_m o)))) in
+      let grow_z : Grows (with_inner_block x.place y) z.inner = arm_grows void a t at_a join_a in
+      hc at (Either (label_of x.top z) (label_of x.top y) (with_inner_block x.place z)) from (three_left w wa wb x.may may) (x.rules.close z has_z, x.rules.keep z (label_of x.top y) (with_inner_block x.place y) grow_z has_z (x.rules.close y has_y))
 
   comma_has : (a b : RvalueTree) → Codes a → Codes b → (t : ℕ) (g : Goal) → From x t → May (λ y. writes (n x) y a || writes (n x) y b) → For x (laid (n x) (Comma a b) (use_of g) t).value g → H x None (C (Comma a b) t g)
   comma_has a b ha hb t g le may k =
@@ -284,19 +284,19 @@ module _ (x : Marking) where
   assigned_has (To (Some y) m) q moved s e h t le may loc k =
       let a = (laid (n x) e (In y) t).value in
       let l = held_location moved q.next q.location in
-      h t (To (Some y) (before (unit.Store (element_of s) l a) m)) le may (λ o r. x.rules.store (Some y) (element_of s) l a m (loc, r) (k o r))
+      h t (To (Some y) (instruction_before (unit.Store (element_of s) l a) m)) le may (λ o r. x.rules.store (Some y) (element_of s) l a m (loc, r) (k o r))
   assigned_has (To None m) q moved s e h t le may loc k =
       let a = (laid (n x) e Anywhere t).value in
       let l = held_location moved q.next q.location in
-      h t (To None (before (unit.Store (element_of s) l a) m)) le may (λ r. x.rules.store None (element_of s) l a m (loc, r) (k r))
+      h t (To None (instruction_before (unit.Store (element_of s) l a) m)) le may (λ r. x.rules.store None (element_of s) l a m (loc, r) (k r))
   assigned_has (Unused m) q moved s e h t le may loc k =
       let a = (laid (n x) e Anywhere t).value in
       let l = held_location moved q.next q.location in
-      h t (To None (before (unit.Store (element_of s) l a) m)) le may (λ r. x.rules.store None (element_of s) l a m (loc, r) (k r))
+      h t (To None (instruction_before (unit.Store (element_of s) l a) m)) le may (λ r. x.rules.store None (element_of s) l a m (loc, r) (k r))
   assigned_has (Either one other inner) q moved s e h t le may loc k =
       let a = (laid (n x) e Anywhere t).value in
       let l = held_location moved q.next q.location in
-      h t (To None (before (unit.Store (element_of s) l a) (tested a one other inner))) le may (λ r. x.rules.store None (element_of s) l a (tested a one other inner) (loc, r) (tested_has x a one other inner r k))
+      h t (To None (instruction_before (unit.Store (element_of s) l a) (tested a one other inner))) le may (λ r. x.rules.store None (element_of s) l a (tested a one other inner) (loc, r) (tested_has x a one other inner r k))
 
   assign_has : (s : Scalar) (l : LvalueTree) (e : RvalueTree) → CodesPlace l → Codes e → (t : ℕ) (g : Goal) → From x t → May (λ y. names_it (n x) y l || writes_within (n x) y l || writes (n x) y e) → (o : Option ℕ) → scalar_named (n x) l ≡ o →
       For x (assigned_laid (n x) (use_of g) o t (place_laid (n x) l t) (laid (n x) e (use_for o (use_of g)) (begun_at o t (λ y. writes (n x) y e) (place_laid (n x) l t)))).value g →
@@ -439,7 +439,7 @@ module _ (x : Marking) where
 
   mutual
     pub code_has : (e : RvalueTree) → Codes e
-    code_has (Constant z ty) t g le may k = leaf_has x g t (record { value = unit.Constant (word_of z); next = t; top = t }) refl k
+    code_has (Constant z ty) t g le may k = leaf_has x g t (record { value = unit.Constant (unsigned_bits z); next = t; top = t }) refl k
     code_has Null t g le may k = leaf_has x g t (record { value = unit.Constant 0; next = t; top = t }) refl k
     code_has (Load s l) t g le may k = load_has s l (place_has l) t g le may (scalar_named (n x) l) refl k
     code_has (Decay l) t g le may k = (place_has l).address t g le may k

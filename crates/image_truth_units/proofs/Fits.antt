@@ -10,7 +10,7 @@ use Rattle.c_tree.specs.Programs.{AutomaticTree, LiteralTree, ProgramTree, Stati
 use Rattle.c_places.specs.Places.{Place, entry_of, places_of_program, visible}
 use Rattle.c_flow.specs.Assigns.{variable_number}
 use Rattle.c_tree.specs.declared.object_type.Object.TheVariants as object
-use Rattle.c_flow.specs.Rows.{numbers_of, row_of, rows_of_program, variable_if}
+use Rattle.c_flow.specs.Rows.{numbers_of, flow_row, rows_of_program, variable_if}
 use Rattle.c_type_bounds.specs.Visible.{visible_at}
 use Rattle.c_type_laws.specs.Laws.{is_main}
 use Rattle.c_type_laws.specs.Orders.{ascends, ascends_behind}
@@ -30,12 +30,12 @@ use Rattle.image_form.specs.Versions.{greatest_level, is_read, reads_large, vers
 use Rattle.image_form_sections.specs.declared.version.Version.{Version}
 use Rattle.memory_map.specs.declared.map.Map.{Map}
 use Rattle.rv_emit_storage.specs.UnitMaps.{map_of_unit}
-use Rattle.image_form.specs.Order.{behind, order}
+use Rattle.image_form.specs.Order.{sections_end, order}
 use Rattle.image_form.specs.Spelling.{record_count, size}
 use Rattle.image_form_sections.specs.declared.version.Level.TheVariants.{Quiet}
 use Rattle.image_form_drafts.specs.Fitting.{AreFit}
 use Rattle.image_build_tables.specs.Variables.{automatic_shape, length_of_name, literal_shape, name_length, shape, static_shape}
-use Rattle.image_build_tables.specs.Tables.{Sight, version_of_map, sight}
+use Rattle.image_build_tables.specs.Tables.{VisiblePair, version_of_map, pair_of_row}
 use Rattle.image_truth_units.specs.Changes.{most_told}
 use Rattle.image_truth_units.specs.Tables.{visible_from}
 use Rattle.image_truth_units.proofs.Accepted.{both, facts_of, is_less}
@@ -100,15 +100,15 @@ numbered_few p (x ∷ xs) =
     at_most_one None = omega arith
     at_most_one (Some y) = omega arith
 
-seen_few : (p : ProgramTree) (n : ℕ) (places : List Place) → length (visible_from n (map (row_of p) places)) ≤ visible_at p.automatics places
+seen_few : (p : ProgramTree) (n : ℕ) (places : List Place) → length (visible_from n (map (flow_row p) places)) ≤ visible_at p.automatics places
 seen_few p n [] = omega arith
 seen_few p n (q ∷ places) =
     let rest = seen_few p (n + 1) places in
     let own = numbered_few p (visible p.automatics q.scope) in
-    let at : ℕ → Sight = λ x. record { place = n; variable = x } in
-    let seen : List Sight = map at (row_of p q).visible in
-    let many : length seen ≡ length (row_of p q).visible = length-map (row_of p q).visible at in
-    let sum = length-append seen (visible_from (n + 1) (map (row_of p) places)) in
+    let at : ℕ → VisiblePair = λ x. record { place = n; variable = x } in
+    let seen : List VisiblePair = map at (flow_row p q).visible in
+    let many : length seen ≡ length (flow_row p q).visible = length-map (flow_row p q).visible at in
+    let sum = length-append seen (visible_from (n + 1) (map (flow_row p) places)) in
     let all = sum_by-cons (λ (place : Place). length (visible p.automatics place.scope)) q places in
     omega (arith, rest, own, many, sum, all)
 
@@ -165,16 +165,16 @@ module _ (p : ProgramTree) (h : HomedForm) (e : EmittedForm) (rows : List PlaceR
       omega (arith, many, same, a, b, c, d, f)
 
   -- The rows are not too many.
-  pub rows_most : map sight m.rows ≡ visible_from 1 (rows_of_program p) → length m.rows ≤ 1000000
+  pub rows_most : map pair_of_row m.rows ≡ visible_from 1 (rows_of_program p) → length m.rows ≤ 1000000
   rows_most seen =
-      let r1 = length-map m.rows sight in
+      let r1 = length-map m.rows pair_of_row in
       let r2 = ap length seen in
       let r3 = seen_few p 1 (places_of_program p) in
       let r4 = (facts_of p given.formed).visible in
       omega (arith, r1, r2, r3, r4)
 
   -- THE LENGTHS OF SECTIONS KEEP THEIR RULES.
-  pub size_rules : HasSpots p → AreFew m → length m.changes ≤ most_told → length m.names ≤ 63 * length m.functions + 63 * length m.variables + 16 * length m.changes → map sight m.rows ≡ visible_from 1 (rows_of_program p) → SizeRules m
+  pub size_rules : HasSpots p → AreFew m → length m.changes ≤ most_told → length m.names ≤ 63 * length m.functions + 63 * length m.variables + 16 * length m.changes → map pair_of_row m.rows ≡ visible_from 1 (rows_of_program p) → SizeRules m
   unfolding size
   size_rules spots are_few changes_few names_few seen =
       let facts = facts_of p given.formed in
@@ -209,7 +209,7 @@ module _ (p : ProgramTree) (h : HomedForm) (e : EmittedForm) (rows : List PlaceR
       let changes_most : length m.changes ≤ 33000000 = changes_few in
       let no_calls = ap length given.tables.calls in
       let no_members = ap length given.tables.members in
-      let size_is : size m ≡ behind Quiet (record_count m) order = ap (λ (v : Version). behind v.level (record_count m) order) given.tables.version in
+      let size_is : size m ≡ sections_end Quiet (record_count m) order = ap (λ (v : Version). sections_end v.level (record_count m) order) given.tables.version in
       let flow_few = are_few.flow in
       let assigned_few = are_few.assigned in
       let nodes_few = are_few.nodes in

@@ -9,9 +9,9 @@ use Rattle.places.specs.Flow.{AreInOrder, IsStepBefore}
 use Rattle.c_tree.specs.Programs.{ProgramTree, TypedFunctionTree}
 use Rattle.c_type_laws.specs.Laws.{IsWellFormed}
 use Rattle.c_places.specs.Flow.{reaches_end}
-use Rattle.c_places.specs.Places.{Place, brought_by_body, close_of, number_at, parameters_of, places_of_all, places_of_function, places_of_functions, places_of_program, stop}
+use Rattle.c_places.specs.Places.{Place, brought_by_body, close_of, place_number_at, parameters_of, places_of_all, places_of_function, places_of_functions, places_of_program, stop}
 use Rattle.c_flow.specs.declared.edge.Edge.{Edge}
-use Rattle.c_flow.specs.Flow.{edge, flow_of_all, flow_of_function, flow_of_functions, flow_of_program, numbered, start_of_all, steps_of_program, ways_of_body}
+use Rattle.c_flow.specs.Flow.{edge, flow_of_all, flow_of_function, flow_of_functions, flow_of_program, flow_step_of, start_of_all, steps_of_program, ways_of_body}
 use Rattle.graph_build_laws.proofs.Targets.{AllFit, EdgesFit, WayFits, edge_fits, edges_both, fit_back, fit_front, flows_fit, starts_fit}
 use Rattle.graph_homes.specs.Homed.{HomedForm}
 use Rattle.rv_emit_tables.specs.Emitted.{EmittedForm}
@@ -102,24 +102,24 @@ functions_fit all number (f ∷ fs) each i e is =
     (λ k at. functions_fit all (number + 1) fs (second_in all (places_of_function number f) (places_of_functions (number + 1) fs) each) k e at) is
 
 -- a position of a place has a number of a place
-pub numbered_low : (p : ProgramTree) (at : ℕ) → (facts : (k : ℕ) (q : Place) → slice_get (places_of_program p) k ≡ Some q → number_at (places_of_program p) q.spot.at ≡ k + 1) → IsPosition (places_of_program p) at → (1 ≤ number_at (places_of_program p) at) × (number_at (places_of_program p) at ≤ length (places_of_program p))
+pub numbered_low : (p : ProgramTree) (at : ℕ) → (facts : (k : ℕ) (q : Place) → slice_get (places_of_program p) k ≡ Some q → place_number_at (places_of_program p) q.spot.at ≡ k + 1) → IsPosition (places_of_program p) at → (1 ≤ place_number_at (places_of_program p) at) × (place_number_at (places_of_program p) at ≤ length (places_of_program p))
 numbered_low p at facts position =
     let number = facts position.0 position.1 position.2 in
-    let same = ap (number_at (places_of_program p)) position.3 in
+    let same = ap (place_number_at (places_of_program p)) position.3 in
     let low = slice_get_within (places_of_program p) position.0 position.1 position.2 in
     (omega (arith, number, same), omega (arith, number, same, low))
 
 -- execution goes from places of the program to such places
 pub step_placed : (p : ProgramTree) → IsWellFormed p → (s : FlowStep) → Contains (steps_of_program p) s → ((1 ≤ s.from.0) × (s.from.0 ≤ length (places_of_program p))) × ((1 ≤ s.to.0) × (s.to.0 ≤ length (places_of_program p)))
 step_placed p formed s there =
-    let numbers : (k : ℕ) (q : Place) → slice_get (places_of_program p) k ≡ Some q → number_at (places_of_program p) q.spot.at ≡ k + 1 = λ k q is. numbered_at (places_of_program p) k q (facts_of p formed).positions is in
+    let numbers : (k : ℕ) (q : Place) → slice_get (places_of_program p) k ≡ Some q → place_number_at (places_of_program p) q.spot.at ≡ k + 1 = λ k q is. numbered_at (places_of_program p) k q (facts_of p formed).positions is in
     let at = contained (steps_of_program p) s there in
-    let of = from_map (numbered (places_of_program p)) (flow_of_program p) at.0 s at.1 in
+    let of = from_map (flow_step_of (places_of_program p)) (flow_of_program p) at.0 s at.1 in
     let fits = functions_fit (places_of_program p) 0 p.functions (λ q k is. (k, q, is, refl)) at.0 of.0 of.1 in
     let from = numbered_low p of.0.from numbers fits.0 in
     let to = numbered_low p of.0.to numbers fits.1 in
-    let from_is : number_at (places_of_program p) of.0.from ≡ s.from.0 = ap (λ (x : FlowStep). x.from.0) of.2 in
-    let to_is : number_at (places_of_program p) of.0.to ≡ s.to.0 = ap (λ (x : FlowStep). x.to.0) of.2 in
+    let from_is : place_number_at (places_of_program p) of.0.from ≡ s.from.0 = ap (λ (x : FlowStep). x.from.0) of.2 in
+    let to_is : place_number_at (places_of_program p) of.0.to ≡ s.to.0 = ap (λ (x : FlowStep). x.to.0) of.2 in
     let a = from.0 in let b = from.1 in let c = to.0 in let d = to.1 in
     ((omega (arith, a, from_is), omega (arith, b, from_is)), (omega (arith, c, to_is), omega (arith, d, to_is)))
 

@@ -7,9 +7,9 @@ use Rattle.std.proofs.lemmas.Option.{none-some, same_Some}
 use Rattle.memory_map.specs.Maps.{code_start, stack_end, stack_start}
 use Rattle.memory_map.proofs.Facts.{code_few, map_facts}
 use Rattle.image_form.specs.Form.{Form}
-use Rattle.rv_machine.specs.State.{State, word}
+use Rattle.rv_machine.specs.State.{MachineState, word}
 use Rattle.stop_engine_view.specs.Callers.{calling_place, return_address, place_before}
-use Rattle.stop_engine_view.specs.Reading.{is_stack_address, owner_of}
+use Rattle.stop_engine_view.specs.Reading.{is_stack_address, place_of_word}
 use Rattle.graph_core.specs.Runs.{Activation}
 use Rattle.graph_homes.specs.Homed.{HomedForm}
 use Rattle.rv_emit_tables.specs.Emitted.{EmittedForm}
@@ -81,7 +81,7 @@ module _ (h : HomedForm) (a : Arrangement) (e : EmittedForm) (addresses : ℕ �
 
 -- ---- Callers
 
-module _ (h : HomedForm) (a : Arrangement) (e : EmittedForm) (addresses : ℕ → ℕ) (m : Form) (s : State) (regions : s.map ≡ e.map) (owners : m.owners ≡ e.owners) (outermost : slice_index e.owners 2 ≡ 0) where
+module _ (h : HomedForm) (a : Arrangement) (e : EmittedForm) (addresses : ℕ → ℕ) (m : Form) (s : MachineState) (regions : s.map ≡ e.map) (owners : m.owners ≡ e.owners) (outermost : slice_index e.owners 2 ≡ 0) where
   -- the place of the word before one that stands in the code
   owner_before : (index : ℕ) → address_of (index + 1) < 4294967296 → place_before m (address_of (index + 1)) ≡ slice_index m.owners index
   owner_before index low =
@@ -89,7 +89,7 @@ module _ (h : HomedForm) (a : Arrangement) (e : EmittedForm) (addresses : ℕ �
       let even : address_of index % 4 ≡ 0 = omega arith in
       let test : (address_of index % 4 == 0 && nat_le code_start (address_of index)) ≡ true = and_from (address_of index % 4 == 0) (nat_le code_start (address_of index)) (eq-eqb (address_of index % 4) 0 even) (le-leb code_start (address_of index) (omega arith)) in
       let number : (address_of index - code_start) / 4 ≡ index = omega arith in
-      ap (owner_of m) at ∙ ap (λ b. if b then slice_index m.owners ((address_of index - code_start) / 4) else 0) test ∙ ap (slice_index m.owners) number
+      ap (place_of_word m) at ∙ ap (λ b. if b then slice_index m.owners ((address_of index - code_start) / 4) else 0) test ∙ ap (slice_index m.owners) number
 
   -- the place to which an activation returns
   calls_from : (sp : ℕ) (b : Activation) (index : ℕ) → IsFrame e.map (code_of h a b.function) addresses sp b → word_at (memory_of s.map s.bytes s.stack) sp ≡ address_of (index + 1) → address_of (index + 1) < 4294967296 → calling_place m s sp ≡ slice_index m.owners index

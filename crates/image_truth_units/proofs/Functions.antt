@@ -6,7 +6,7 @@ use Rattle.std.proofs.lemmas.Option.{same_Some, slice_get_within}
 use Rattle.places.specs.declared.table.PlaceRow.{PlaceRow}
 use Rattle.c_tree.specs.Programs.{ProgramTree, TypedFunctionTree}
 use Rattle.c_places.specs.Places.{entry_of, places_of_program}
-use Rattle.c_flow.specs.Rows.{row_of, row_view}
+use Rattle.c_flow.specs.Rows.{flow_row, row_view}
 use Rattle.c_type_laws.proofs.Named.{function_named, name_short, name_some}
 use Rattle.graph_core.specs.Graphs.{Graph}
 use Rattle.graph_homes.specs.Homed.{HomedForm}
@@ -18,7 +18,7 @@ use Rattle.image_form.specs.RulesOfFunctions.{FunctionRules, IsFunction, code_st
 use Rattle.image_form.specs.Masks.{mask_of, masked}
 use Rattle.image_form.specs.declared.tables.Function.{Function}
 use Rattle.image_build_tables.specs.Spans.{Span, code_span, saved, span}
-use Rattle.image_build_tables.specs.Variables.{counted, entry, length_of_name, name_length}
+use Rattle.image_build_tables.specs.Variables.{bounded_count, entry, length_of_name, name_length}
 use Rattle.image_build_tables.specs.Tables.{spot, spot_of_row}
 use Rattle.image_truth_units.specs.Tables.{entry_number, entry_place}
 use Rattle.image_truth_units.proofs.Accepted.{facts_of}
@@ -47,7 +47,7 @@ module _ (p : ProgramTree) (h : HomedForm) (e : EmittedForm) (rows : List PlaceR
       let a = length-map m.places spot in
       let b = length-map rows spot_of_row in
       let c = length-map rows row_view in
-      let d = length-map (places_of_program p) (row_of p) in
+      let d = length-map (places_of_program p) (flow_row p) in
       let one = ap length given.tables.places in
       let two = ap length given.tables.rows_are in
       omega (arith, a, b, c, d, one, two)
@@ -56,7 +56,7 @@ module _ (p : ProgramTree) (h : HomedForm) (e : EmittedForm) (rows : List PlaceR
   pub record IsMade (k : ℕ) (g : Function) : Type 0 where
     pub tree : TypedFunctionTree
     pub tree_is : slice_get p.functions k ≡ Some tree
-    pub name_is : g.name_length ≡ counted (length tree.name)
+    pub name_is : g.name_length ≡ bounded_count (length tree.name)
     pub graph : Graph
     pub graph_is : slice_get h.unit.graphs k ≡ Some graph
     pub entry_is : g.entry ≡ graph.entry

@@ -6,7 +6,7 @@ use Rattle.c_tree.specs.TypedStatements.{DeclaredTree, Declaration, TypedStateme
 use Rattle.c_flow.specs.Flow.{start_of_all}
 use Rattle.graph_core.specs.Graphs as unit
 use Rattle.graph_core.specs.Graphs.{Operand}
-use Rattle.graph_build_steps.specs.Drafts.{Goal, ending, closed}
+use Rattle.graph_build_steps.specs.Drafts.{Goal, ending, with_inner_block}
 use Rattle.graph_build_code.specs.Code.{code}
 use Rattle.graph_build_statements.specs.Coding.{Coding, place_of, going, with_end}
 use Rattle.graph_build_statements.specs.Declaring.{declare}
@@ -41,4 +41,4 @@ module _ (c : Coding) where
       let to = start_of_all rest next in
       let ends = with_end c at to inner in
       let m = tests c at a rest next other ends in
-      grows_on inner ends (closed (place_of c at) m) (end_grows at to inner) (grows_on ends m.inner (closed (place_of c at) m) (tests_grow at a rest next other ends) (closed_grows (place_of c at) m))
+      grows_on inner ends (with_inner_block (place_of c at) m) (end_grows at to inner) (grows_on ends m.inner (with_inner_block (place_of c at) m) (tests_grow at a rest next other ends) (closed_grows (place_of c at) m))

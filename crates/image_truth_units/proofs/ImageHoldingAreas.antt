@@ -10,7 +10,7 @@ use Rattle.c_tree.specs.Programs.{ProgramTree}
 use Rattle.image_form.specs.Form.{Form}
 use Rattle.image_form.specs.declared.variables.Storage.TheVariants as kept
 use Rattle.image_form.specs.declared.variables.Variable.{Variable}
-use Rattle.stop_engine_view.specs.Pointers.{function_of, is_of, object_size}
+use Rattle.stop_engine_view.specs.Pointers.{function_of_place, is_variable_of, variable_size}
 use Rattle.graph_core.specs.declared.graph.MemoryObject.{MemoryObject}
 use Rattle.graph_core.specs.Graphs.{StaticObject, UnitForm}
 use Rattle.graph_core.specs.Memory.{static_bytes}
@@ -80,7 +80,7 @@ module _ (p : ProgramTree) (h : HomedForm) (valid : IsValid h.unit) (homed : Hav
       let k = keeps.statics number t.0 t.1 in
       let same : k.variable ≡ area.variable = same_Some k.variable area.variable (sym k.is ∙ area.is) in
       let stored : kept.Static (static_at h.unit number) ≡ kept.Static start = sym k.there ∙ ap (λ (v : Variable). v.storage) same ∙ area.storage in
-      record { object = t.0; is = t.1; begins = address_is (static_at h.unit number) start stored; size = area.size ∙ ap object_size (sym same) ∙ k.size }
+      record { object = t.0; is = t.1; begins = address_is (static_at h.unit number) start stored; size = area.size ∙ ap variable_size (sym same) ∙ k.size }
     where
       address_is : (x y : ℕ) → kept.Static x ≡ kept.Static y → y ≡ x
       address_is x y same = cc
@@ -102,8 +102,8 @@ module _ (p : ProgramTree) (h : HomedForm) (valid : IsValid h.unit) (homed : Hav
   frame_one number depth start bytes area =
       let from = from_standing (code_of h a) sp (b ∷ more) area.index area.activation area.there in
       let place = all_at (IsPlaced h a m) (b ∷ more) area.index from.0 placed from.1 in
-      let function_is : function_of m area.activation.place ≡ from.0.function = ap (λ (q : Standing). function_of m q.place) (sym from.2) ∙ place.function in
-      let owner : area.variable.function ≡ Some from.0.function = owner_is area.variable (function_of m area.activation.place) area.own ∙ ap (λ f. Some f) function_is in
+      let function_is : function_of_place m area.activation.place ≡ from.0.function = ap (λ (q : Standing). function_of_place m q.place) (sym from.2) ∙ place.function in
+      let owner : area.variable.function ≡ Some from.0.function = owner_is area.variable (function_of_place m area.activation.place) area.own ∙ ap (λ f. Some f) function_is in
       let has = keeps.objects_only from.0.function number area.offset area.variable area.is owner area.storage in
       let k = keeps.objects from.0.function has.index has.object has.is in
       let same : k.variable ≡ area.variable = same_Some k.variable area.variable (sym k.is ∙ ap (slice_get m.variables) has.var ∙ area.is) in
@@ -120,17 +120,17 @@ module _ (p : ProgramTree) (h : HomedForm) (valid : IsValid h.unit) (homed : Hav
         is = has.is;
         var = has.var;
         begins = area.starts ∙ ap (λ (q : Standing). q.frame + area.offset) (sym from.2) ∙ ap (λ k. start_of (code_of h a) sp (b ∷ more) area.index + k) (offset_is (object_at (code_of h a from.0.function).storage has.index) area.offset stored);
-        size = area.size ∙ ap object_size (sym same) ∙ k.size;
+        size = area.size ∙ ap variable_size (sym same) ∙ k.size;
       }
     where
       offset_is : (x y : ℕ) → kept.Frame x ≡ kept.Frame y → y ≡ x
       offset_is x y same = cc
 
-      owner_is : (v : Variable) (f : ℕ) → is_of f v ≡ true → v.function ≡ Some f
+      owner_is : (v : Variable) (f : ℕ) → is_variable_of f v ≡ true → v.function ≡ Some f
       owner_is v f own = by_function v.function refl
         where
           by_function : (o : Option ℕ) → v.function ≡ o → v.function ≡ Some f
-          by_function None is = absurd (let no : is_of f v ≡ false = ap (λ o. option_map_or (λ g. g == f) o false) is in cc)
+          by_function None is = absurd (let no : is_variable_of f v ≡ false = ap (λ o. option_map_or (λ g. g == f) o false) is in cc)
           by_function (Some g) is = is ∙ ap (λ k. Some k) (eqb-true g f (sym (ap (λ o. option_map_or (λ g. g == f) o false) is) ∙ own))
 
   -- ---- Inside

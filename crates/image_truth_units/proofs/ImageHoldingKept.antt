@@ -15,7 +15,7 @@ use Rattle.image_form.specs.declared.variables.Variable.{Variable}
 use Rattle.image_build_tables.specs.Spans.{Span, span, code_span}
 use Rattle.image_build_tables.specs.Storages.{storages_of}
 use Rattle.image_build_tables.specs.Variables.{shape, shapes_of, owner, owners_of, declared_names, name_length, length_of_name, storage}
-use Rattle.stop_engine_view.specs.Pointers.{object_size}
+use Rattle.stop_engine_view.specs.Pointers.{variable_size}
 use Rattle.stop_engine_view.specs.Words.{element_size}
 use Rattle.graph_core.specs.declared.graph.MemoryObject.{MemoryObject}
 use Rattle.graph_core.specs.Graphs.{Graph, StaticObject}
@@ -67,13 +67,13 @@ module _ (p : ProgramTree) (m : Form) (functions : map name_length m.functions �
     (h : HomedForm) (a : Arrangement) (e : EmittedForm) (storages : map storage m.variables ≡ storages_of h e (length m.variables)) (unit : HasVariablesIn p h.unit) (tells : Tells h a e) (tables : HasVariablesOf p m)
     (literals : (n : ℕ) (l : LiteralTree) → slice_get p.literals n ≡ Some l → (1 ≤ length l.bytes) × (length l.bytes ≤ 4294967295)) where
   -- how many bytes a variable of static storage has
-  static_sized : (k : ℕ) (o : StaticObject) (v : Variable) → slice_get h.unit.statics k ≡ Some o → slice_get m.variables k ≡ Some v → object_size v ≡ static_bytes o
+  static_sized : (k : ℕ) (o : StaticObject) (v : Variable) → slice_get h.unit.statics k ≡ Some o → slice_get m.variables k ≡ Some v → variable_size v ≡ static_bytes o
   static_sized k o v is at = elim (cases_lt k (length p.statics)) [
     | inl low ↦
         let t = there p.statics k low in
         let named = tables.statics k t.0 t.1 in
         let same : named.variable ≡ v = same_Some named.variable v (sym named.is ∙ at) in
-        ap object_size (sym same) ∙ size_of t.0.of named.variable named.element named.count named.some ∙ sym (unit.static_size k t.0 o t.1 is)
+        ap variable_size (sym same) ∙ size_of t.0.of named.variable named.element named.count named.some ∙ sym (unit.static_size k t.0 o t.1 is)
     | inr behind ↦
         let low = slice_get_within h.unit.statics k o is in
         let many = unit.statics in
@@ -117,7 +117,7 @@ module _ (p : ProgramTree) (m : Form) (functions : map name_length m.functions �
         is = mine.is;
         owner = mine.owner_is;
         there = mine.storage_is ∙ ap (λ i. kept.Frame i) (sym offset);
-        size = ap object_size (sym same) ∙ size_of of.tree.of named.variable named.element named.count named.some ∙ sym (unit.object_size f k of.variable g o of.tree is at of.number_is of.is);
+        size = ap variable_size (sym same) ∙ size_of of.tree.of named.variable named.element named.count named.some ∙ sym (unit.object_size f k of.variable g o of.tree is at of.number_is of.is);
       }
 
   no_object : (f k : ℕ) (o : MemoryObject) → slice_get h.unit.graphs f ≡ None → slice_get (code_of h a f).graph.objects k ≡ Some o → ⊥

@@ -9,7 +9,7 @@ use Rattle.c_tree.specs.declared.object_type.Scalar.{Scalar}
 use Rattle.c_tree.specs.declared.object_type.ValueType.TheVariants as value-type
 use Rattle.c_tree.specs.declared.object_type.ObjectType.TheVariants as of-object
 use Rattle.c_tree.specs.Programs.{ProgramTree}
-use Rattle.c_type_rules.specs.Types.{loaded, pointed_to}
+use Rattle.c_type_rules.specs.Types.{loaded_type, pointed_to}
 use Rattle.c_meaning_values.specs.declared.value.Value as source-value
 use Rattle.c_meaning_values.specs.declared.value.Value.TheVariants as source
 use Rattle.c_meaning_values.specs.Types.{scalar_size, size_by_stars}
@@ -29,7 +29,7 @@ use Rattle.image_truth_units.specs.Standing.{Standing, IsArea, LeadsInto, IsWord
 -- ---- Types
 
 -- a value of the type that an object's elements have
-pub typed : (memory : source-memory.Memory) (e : Scalar) (v : source-value.Value) → IsOf memory (loaded e) v → IsOfType e.base e.stars v
+pub typed : (memory : source-memory.Memory) (e : Scalar) (v : source-value.Value) → IsOf memory (loaded_type e) v → IsOfType e.base e.stars v
 typed memory e v of = by_stars e.stars refl
   where
     by_value : (stars : ℕ) (v : source-value.Value) → IsOf memory (if stars == 0 then value-type.Integer e.base else value-type.Pointer (of-object.Scalar (pointed_to e))) v → IsOfType e.base stars v

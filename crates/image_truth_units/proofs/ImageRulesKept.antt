@@ -19,7 +19,7 @@ use Rattle.image_form.specs.Rules.{IsImage}
 use Rattle.image_form.specs.RulesOfNodes.{NodeRules}
 use Rattle.image_form.specs.RulesOfRows.{RowRules}
 use Rattle.image_form_drafts.specs.Fitting.{AreFit}
-use Rattle.image_build_tables.specs.Tables.{change_record, sight}
+use Rattle.image_build_tables.specs.Tables.{change_record, pair_of_row}
 use Rattle.image_truth_units.specs.Units.{HasVariablesIn}
 use Rattle.image_truth_units.specs.Tables.{visible_from}
 use Rattle.image_truth_units.specs.Changes.{CanAllBeTold, most_told}
@@ -41,7 +41,7 @@ pub tables_keep : (p : ProgramTree) (h : HomedForm) (e : EmittedForm) (rows : Li
     → ((s : FlowStep) → Contains h.unit.steps s ↔ Contains (steps_of_program p) s) → AreInOrder h.unit.steps
     → ((a : Assignment) → Contains h.unit.assignments a ↔ Contains (assignments_of_program p) a) → AllPairs IsAssignmentBefore h.unit.assignments → CanAllBeTold p h.unit.log
     -- numbers fit 32 bits, a row tells of each visible variable, and sections are not too long
-    → AreFit m → map sight m.rows ≡ visible_from 1 (rows_of_program p) → AreFew m
+    → AreFit m → map pair_of_row m.rows ≡ visible_from 1 (rows_of_program p) → AreFew m
     -- rows and nodes keep their rules
     → RowRules m → NodeRules m → IsImage m
 tables_keep p h e rows m given spots places variables every steps steps_order assignments assignments_order told fits seen few row_rules node_rules = record {

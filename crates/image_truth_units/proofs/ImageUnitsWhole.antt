@@ -52,7 +52,7 @@ element_size UnsignedInt (suc k) = let some : (suc k == 0) ≡ false = grind (ar
 element_size Long (suc k) = let some : (suc k == 0) ≡ false = grind (arith, nat_tests) in rw some refl
 element_size UnsignedLong (suc k) = let some : (suc k == 0) ≡ false = grind (arith, nat_tests) in rw some refl
 
-type_size : (of : ObjectType) → object_count of * size_of (object_element of) ≡ c.count_of of * scalar_size (c.element_of of)
+type_size : (of : ObjectType) → object_count of * size_of (object_element of) ≡ c.value_count of * scalar_size (c.element_scalar of)
 type_size (of-object.Scalar s) = ap (λ k. 1 * k) (element_size s.base s.stars)
 type_size (of-object.Array s count) = ap (λ k. count * k) (element_size s.base s.stars)
 

@@ -20,7 +20,7 @@ use Rattle.image_form.specs.Names.{function_name, function_name_lengths, name_at
 use Rattle.image_form.specs.RulesOfNames.{IsIdentifier, IsIdentifierOrEmpty, NameRules, is_lower_letter}
 use Rattle.image_form.specs.declared.tables.Change.{Change}
 use Rattle.image_form.specs.declared.variables.Variable.{Variable}
-use Rattle.image_build_tables.specs.Variables.{Shape, automatic_shape, counted, length_of_name, literal_shape, name_length, pass_names, shape, static_shape}
+use Rattle.image_build_tables.specs.Variables.{Shape, automatic_shape, bounded_count, length_of_name, literal_shape, name_length, pass_names, shape, static_shape}
 use Rattle.image_build_tables.specs.Tables.{change_record}
 use Rattle.image_truth_units.specs.Changes.{CanBeTold}
 use Rattle.image_truth_units.proofs.Accepted.{both}
@@ -51,12 +51,12 @@ names_length (n ∷ names) =
     length-append n (flat_map (λ n. n) names) ∙ ap (λ k. length n + k) others ∙ sym (sum_more (length n) (map length names))
 
 -- the lengths that tables say of short names are their own
-shortened : (names : List (List ℕ)) → AllByRecursion (λ (n : List ℕ). length n ≤ 63) names → map (λ (n : List ℕ). counted (length n)) names ≡ map length names
+shortened : (names : List (List ℕ)) → AllByRecursion (λ (n : List ℕ). length n ≤ 63) names → map (λ (n : List ℕ). bounded_count (length n)) names ≡ map length names
 shortened [] each = refl
 shortened (n ∷ names) each =
     let short = each.0 in
-    let same : counted (length n) ≡ length n = omega (arith, short) in
-    ap (λ k. k ∷ map (λ (n : List ℕ). counted (length n)) names) same ∙ ap (λ l. length n ∷ l) (shortened names each.1)
+    let same : bounded_count (length n) ≡ length n = omega (arith, short) in
+    ap (λ k. k ∷ map (λ (n : List ℕ). bounded_count (length n)) names) same ∙ ap (λ l. length n ∷ l) (shortened names each.1)
 
 sum_short : (names : List (List ℕ)) → AllByRecursion (λ (n : List ℕ). length n ≤ 63) names → sum (map length names) ≤ 63 * length names
 sum_short [] each = let empty : List (List ℕ) = [] in let none : sum (map length empty) ≡ 0 = refl in omega (arith, none)
@@ -99,11 +99,11 @@ abbrev shape_length : Shape → ℕ
 shape_length q = q.name_length
 
 abbrev said_length : List ℕ → ℕ
-said_length n = counted (length n)
+said_length n = bounded_count (length n)
 
 static_lengths : (ts : List StaticTree) (rest : List Shape) (others : List (List ℕ)) → map shape_length rest ≡ map said_length others → map shape_length (map static_shape ts ++ rest) ≡ map said_length (map (λ (t : StaticTree). t.name) ts ++ others)
 static_lengths [] rest others same = same
-static_lengths (t ∷ ts) rest others same = ap (λ l. counted (length t.name) ∷ l) (static_lengths ts rest others same)
+static_lengths (t ∷ ts) rest others same = ap (λ l. bounded_count (length t.name) ∷ l) (static_lengths ts rest others same)
 
 literal_lengths : (ls : List LiteralTree) (rest : List Shape) (others : List (List ℕ)) → map shape_length rest ≡ map said_length others → map shape_length (map literal_shape ls ++ rest) ≡ map said_length (map (λ (l : LiteralTree). []) ls ++ others)
 literal_lengths [] rest others same = same
@@ -111,7 +111,7 @@ literal_lengths (l ∷ ls) rest others same = ap (λ l. 0 ∷ l) (literal_length
 
 automatic_lengths : (xs : List AutomaticTree) → map shape_length (map automatic_shape xs) ≡ map said_length (map (λ (a : AutomaticTree). a.name) xs)
 automatic_lengths [] = refl
-automatic_lengths (a ∷ xs) = ap (λ l. counted (length a.name) ∷ l) (automatic_lengths xs)
+automatic_lengths (a ∷ xs) = ap (λ l. bounded_count (length a.name) ∷ l) (automatic_lengths xs)
 
 no_names : (ls : List LiteralTree) → flat_map {A = ℕ} (λ (n : List ℕ). n) (map (λ (l : LiteralTree). []) ls) ≡ []
 no_names [] = refl

@@ -21,7 +21,7 @@ use Rattle.image_form.specs.declared.variables.Variable.{Variable}
 use Rattle.image_build_tables.specs.Nodes.{Naming, home_node}
 use Rattle.image_build_tables.specs.Rows.{naming_at, telling_of}
 use Rattle.image_build_tables.specs.Storages.{storage_of, storages_of}
-use Rattle.image_build_tables.specs.Variables.{counted, owned_from, owner, owners_of}
+use Rattle.image_build_tables.specs.Variables.{bounded_count, owned_from, owner, owners_of}
 use Rattle.image_build_tables.specs.Variables as declarations
 use Rattle.image_build_tables.proofs.NodeRules.{HasHomesIn, IsNamingIn, naming_at_is}
 use Rattle.image_truth_units.specs.ImageRulesUnits.{HasAllVariables}
@@ -149,7 +149,7 @@ module _ (p : ProgramTree) (h : HomedForm) (e : EmittedForm) (rows : List PlaceR
           let size = laid.size in
           let small = laid.small in
           let low : n < (code_of h given.emits.code.arrangement f).slots = less in
-          let number : counted (c.slots + 4 * n + 32) ≡ c.slots + 4 * n + 32 = omega (arith, slots, start, size, small, low) in
+          let number : bounded_count (c.slots + 4 * n + 32) ≡ c.slots + 4 * n + 32 = omega (arith, slots, start, size, small, low) in
           subst IsHomeNumber (sym number) (inr (omega arith, omega (arith, slots, start), omega (arith, slots, start, size, small, low)))
 
   -- THE NODES OF RECIPES THAT ARE TOLD AT A PLACE NAME HOMES.

@@ -8,7 +8,7 @@ use Rattle.c_tree.specs.declared.object_type.Object as designator
 use Rattle.c_tree.specs.declared.object_type.Object.TheVariants as object
 use Rattle.c_tree.specs.Programs.{AutomaticTree, TypedFunctionTree, ProgramTree}
 use Rattle.c_type_laws.specs.Laws.{is_in_memory}
-use Rattle.c_places.specs.Places.{Place, numbers_from, parameters_of, entry_of, close_of, places_of_all, places_of_function, places_of_functions, places_of_program, number_at}
+use Rattle.c_places.specs.Places.{Place, numbers_from, parameters_of, entry_of, close_of, places_of_all, places_of_function, places_of_functions, places_of_program, place_number_at}
 use Rattle.c_flow.specs.declared.assigned.Assigned.{Assigned}
 use Rattle.c_flow.specs.Assigns.{assigns_object, assigned_by_entry, assigned_by_statements, assigned_by_function, assigned_by_functions, assigned_by_program, among, variable_number, numbered_for, numbered_assigned, assignments_of_program}
 use Rattle.c_flow.specs.Flow.{start_of_all, ways_of_body}
@@ -58,18 +58,18 @@ only_one a b front = refl
 only_one a b (behind h) = elim h [ ]
 
 -- what an assignment by numbers is of
-unnumbered : (p : ProgramTree) (places : List Place) (all : List Assigned) (a : Assignment) → Among a (numbered_assigned p places all) → (b : Assigned) × Among b all × (number_at places b.at ≡ a.place.0) × (variable_number p b.object ≡ Some a.var.0)
+unnumbered : (p : ProgramTree) (places : List Place) (all : List Assigned) (a : Assignment) → Among a (numbered_assigned p places all) → (b : Assigned) × Among b all × (place_number_at places b.at ≡ a.place.0) × (variable_number p b.object ≡ Some a.var.0)
 unnumbered p places [] a h = elim h [ ]
-unnumbered p places (b ∷ all) a h = by (split_among a (numbered_for (number_at places b.at) (variable_number p b.object)) (numbered_assigned p places all) h) (unnumbered p places all a)
+unnumbered p places (b ∷ all) a h = by (split_among a (numbered_for (place_number_at places b.at) (variable_number p b.object)) (numbered_assigned p places all) h) (unnumbered p places all a)
   where
-    one : (o : Option ℕ) → variable_number p b.object ≡ o → Among a (numbered_for (number_at places b.at) o) → (number_at places b.at ≡ a.place.0) × (variable_number p b.object ≡ Some a.var.0)
+    one : (o : Option ℕ) → variable_number p b.object ≡ o → Among a (numbered_for (place_number_at places b.at) o) → (place_number_at places b.at ≡ a.place.0) × (variable_number p b.object ≡ Some a.var.0)
     one None e k = elim k [ ]
     one (Some m) e k =
-        let same = only_one a (record { place = record { 0 = number_at places b.at }; var = record { 0 = m } }) k in (sym (ap (λ (z : Assignment). z.place.0) same), e ∙ ap (λ (z : Assignment). Some z.var.0) (sym same))
+        let same = only_one a (record { place = record { 0 = place_number_at places b.at }; var = record { 0 = m } }) k in (sym (ap (λ (z : Assignment). z.place.0) same), e ∙ ap (λ (z : Assignment). Some z.var.0) (sym same))
 
-    by : Among a (numbered_for (number_at places b.at) (variable_number p b.object)) ⊎ Among a (numbered_assigned p places all) →
-        (Among a (numbered_assigned p places all) → (d : Assigned) × Among d all × (number_at places d.at ≡ a.place.0) × (variable_number p d.object ≡ Some a.var.0)) →
-        (d : Assigned) × Among d (b ∷ all) × (number_at places d.at ≡ a.place.0) × (variable_number p d.object ≡ Some a.var.0)
+    by : Among a (numbered_for (place_number_at places b.at) (variable_number p b.object)) ⊎ Among a (numbered_assigned p places all) →
+        (Among a (numbered_assigned p places all) → (d : Assigned) × Among d all × (place_number_at places d.at ≡ a.place.0) × (variable_number p d.object ≡ Some a.var.0)) →
+        (d : Assigned) × Among d (b ∷ all) × (place_number_at places d.at ≡ a.place.0) × (variable_number p d.object ≡ Some a.var.0)
     by (inl k) again = let r = one (variable_number p b.object) refl k in (b, front, r.0, r.1)
     by (inr k) again = let r = again k in (r.0, behind r.1, r.2, r.3)
 
@@ -97,13 +97,13 @@ got_there [] q h = elim h [ ]
 got_there (q ∷ places) r front = (0, refl)
 got_there (q ∷ places) r (behind h) = let k = got_there places r h in (suc k.0, k.1)
 
-one_position : (places : List Place) → AllAscend places → (a b : ℕ) → At a places → At b places → number_at places a ≡ number_at places b → a ≡ b
+one_position : (places : List Place) → AllAscend places → (a b : ℕ) → At a places → At b places → place_number_at places a ≡ place_number_at places b → a ≡ b
 one_position places up a b (q, h, e) (r, k, d) same =
     let i = got_there places q h in
     let j = got_there places r k in
     let m = numbered_in places up i.0 q i.1 in
     let n = numbered_in places up j.0 r j.1 in
-    let numbers : number_at places q.spot.at ≡ number_at places r.spot.at = ap (number_at places) e ∙ same ∙ sym (ap (number_at places) d) in
+    let numbers : place_number_at places q.spot.at ≡ place_number_at places r.spot.at = ap (place_number_at places) e ∙ same ∙ sym (ap (place_number_at places) d) in
     let index : i.0 ≡ j.0 = omega (arith, m, n, numbers) in
     let place : q ≡ r = some_same (sym i.1 ∙ ap (slice_get places) index ∙ j.1) in
     sym e ∙ ap (λ (z : Place). z.spot.at) place ∙ d

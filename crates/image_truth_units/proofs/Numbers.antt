@@ -12,7 +12,7 @@ use Rattle.c_type_rules.specs.Integers.{integer}
 use Rattle.image_build_tables.specs.Variables.{element_of_integer}
 use Rattle.image_form.specs.Form.{Form}
 use Rattle.line_form.specs.Decimal.{decimal, signed_decimal}
-use Rattle.rv_machine.specs.State.{State}
+use Rattle.rv_machine.specs.State.{MachineState}
 use Rattle.stop_engine_view.specs.Reading.{int_of_word}
 use Rattle.stop_engine_view.specs.Values.{word_text}
 use Rattle.image_truth_units.specs.Standing.{word_of_number}
@@ -64,7 +64,7 @@ int_again (negsuc n) h =
 -- ---- All types
 
 -- The word of a number of an integer type is shown as this number.
-pub number_shown : (m : Form) (s : State) (place : ℕ) (t : IntegerType) (z : ℤ) → holds (integer t) z ≡ true → word_text m s place (element_of_integer t) (word_of_number z) ≡ signed_decimal z
+pub number_shown : (m : Form) (s : MachineState) (place : ℕ) (t : IntegerType) (z : ℤ) → holds (integer t) z ≡ true → word_text m s place (element_of_integer t) (word_of_number z) ≡ signed_decimal z
 number_shown m s place Char z h = char_shown z h
 number_shown m s place SignedChar z h = ap signed_decimal (signed_char_again z h)
 number_shown m s place UnsignedChar z h = char_shown z h

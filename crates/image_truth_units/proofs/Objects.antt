@@ -11,12 +11,12 @@ use Rattle.c_meaning_values.specs.declared.value.Value as source
 use Rattle.c_meaning_values.specs.Types as c
 use Rattle.c_meaning_values.specs.Types.{scalar_size}
 use Rattle.c_meaning_values.specs.Memory.{Memory, Object}
-use Rattle.image_build_tables.specs.Variables.{element_by_stars, element_of, count_of}
+use Rattle.image_build_tables.specs.Variables.{element_by_stars, element_of_object, element_count}
 use Rattle.image_form.specs.Form.{Form}
 use Rattle.image_form.specs.declared.variables.ElementType.{ElementType}
 use Rattle.image_form.specs.declared.variables.Variable.{Variable}
 use Rattle.line_form.specs.Values.{array_text}
-use Rattle.rv_machine.specs.State.{State, word}
+use Rattle.rv_machine.specs.State.{MachineState, word}
 use Rattle.stop_engine_view.specs.Values as view
 use Rattle.stop_engine_view.specs.Values.{word_text, element_texts, memory_text}
 use Rattle.stop_engine_view.specs.Words.{element_size, element_word}
@@ -30,7 +30,7 @@ same_most : view.most_elements ≡ most_elements
 unfolding view.most_elements most_elements
 same_most = refl
 
-module _ (p : ProgramTree) (m : Form) (tables : HasVariablesOf p m) (memory : Memory) (here : Standing) (waiting : List Standing) (s : State) (h : HoldsMemory p m memory here waiting s) (n : ℕ) (o : Object) (is : slice_get memory n ≡ Some o) (start : ℕ) (fits : start + length o.values * scalar_size o.element < 4294967296)
+module _ (p : ProgramTree) (m : Form) (tables : HasVariablesOf p m) (memory : Memory) (here : Standing) (waiting : List Standing) (s : MachineState) (h : HoldsMemory p m memory here waiting s) (n : ℕ) (o : Object) (is : slice_get memory n ≡ Some o) (start : ℕ) (fits : start + length o.values * scalar_size o.element < 4294967296)
     (values : (i : ℕ) (v : source.Value) → slice_get o.values i ≡ Some v → AreBitsOf p m (here ∷ waiting) memory v (scalar_size o.element) (element_word s (element_by_stars o.element.base o.element.stars) (start + i * scalar_size o.element))) where
   -- the element of the object's type
   element : ElementType
@@ -69,7 +69,7 @@ module _ (p : ProgramTree) (m : Form) (tables : HasVariablesOf p m) (memory : Me
   scalar_shown (v ∷ w ∷ more) same one = absurd (omega (arith, one))
 
   -- The text of what stands in memory of an object of a type is that of its values.
-  pub object_shown : (of : ObjectType) (v : Variable) → o.element ≡ c.element_of of → length o.values ≡ c.count_of of → HasElements of → v.element ≡ element_of of → v.count ≡ count_of of → IsObjectText p memory of o.values (memory_text m s here.place v start)
+  pub object_shown : (of : ObjectType) (v : Variable) → o.element ≡ c.element_scalar of → length o.values ≡ c.value_count of → HasElements of → v.element ≡ element_of_object of → v.count ≡ element_count of → IsObjectText p memory of o.values (memory_text m s here.place v start)
   object_shown (type.Scalar e) v typed counted some element_is count_is =
       let test : (v.count == 0) ≡ true = ap (λ k. k == 0) count_is in
       let same : v.element ≡ element_by_stars o.element.base o.element.stars = element_is ∙ ap (λ (e : Scalar). element_by_stars e.base e.stars) (sym typed) in

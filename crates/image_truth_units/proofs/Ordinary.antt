@@ -2,7 +2,7 @@
 use Rattle.std.proofs.Common.{◌≡◌, ℕ, ◌≤◌, Bool, true, false, Some, None, List, [], ◌∷◌, ◌++◌, refl}
 use Rattle.graph_core.specs.Graphs.{Instruction, Marker, Zero, CopyWords, Block}
 use Rattle.graph_core.specs.Bounds.{most_words}
-use Rattle.graph_build_steps.specs.Drafts.{Made, Goal, To, Unused, Either, closed}
+use Rattle.graph_build_steps.specs.Drafts.{Made, Goal, To, Unused, Either, with_inner_block}
 
 abbrev pub is_ordinary : Instruction → Bool
 is_ordinary (Marker p) = false
@@ -53,6 +53,6 @@ module _ (Own : ℕ → Type 0) where
   inner_more (x ∷ xs) b h k = (h.0, inner_more xs b h.1 k)
 
   -- a block that is closed is one more inner block
-  pub closed_fine : (place : ℕ) → Own place → (m : Made) → Fine m → AreInner (closed place m)
+  pub closed_fine : (place : ℕ) → Own place → (m : Made) → Fine m → AreInner (with_inner_block place m)
   closed_fine place own m h =
       inner_more m.inner (record { place = Some place; instructions = m.ops; end = m.end }) h.1 (record { place = place; has = refl; own = own; all = h.0 })

@@ -16,8 +16,8 @@ use Rattle.c_type_laws.specs.Laws.{is_in_memory}
 use Rattle.c_places.specs.Places.{Place, stop, brought, brought_by_start, places_of_declarators, places_of_start, places_of_head, places_of_step, places_of, places_of_all}
 use Rattle.c_flow.specs.declared.assigned.Assigned.{Assigned}
 use Rattle.c_flow.specs.declared.edge.Ways.{Ways}
-use Rattle.c_flow.specs.Assigns.{assigns_object, assigned, assigned_by_values, assigned_by_initial, assigned_by_option, assigned_by_declarators, assigned_by_start, assigned_by_step, assigned_by, assigned_by_statements}
-use Rattle.c_flow.specs.Flow.{start, start_of_declarators, round_of, within_loop, within_switch, before as with_rest}
+use Rattle.c_flow.specs.Assigns.{assigns_object, assigned_objects, assigned_by_values, assigned_by_initial, assigned_by_option, assigned_by_declarators, assigned_by_start, assigned_by_step, assigned_by, assigned_by_statements}
+use Rattle.c_flow.specs.Flow.{start_place, start_of_declarators, round_of, within_loop, within_switch, ways_before as with_rest}
 use Rattle.debug_records.specs.declared.source.Spot.{Spot}
 use Rattle.graph_core.specs.Graphs as unit
 use Rattle.graph_core.specs.Graphs.{Instruction, Automatic, Store}
@@ -26,7 +26,7 @@ use Rattle.graph_build_layout.specs.declared.laid.Use.TheVariants.{Anywhere, Tes
 use Rattle.graph_build_names.specs.Names.{scalar_of, object_of, pick}
 use Rattle.graph_build_layout.specs.Layout.{laid}
 use Rattle.graph_build_steps.specs.Rules.{element_of}
-use Rattle.graph_build_steps.specs.Drafts.{Made, Goal, To, Unused, Either, before, ending, note}
+use Rattle.graph_build_steps.specs.Drafts.{Made, Goal, To, Unused, Either, instruction_before, ending, note}
 use Rattle.graph_build_steps.specs.Steps.{or_zero}
 use Rattle.graph_build_code.specs.Code.{code}
 use Rattle.graph_build_statements.specs.Coding.{Coding, Part, place_of, begun, going, label_for, with_end, placed_at, coded}
@@ -115,25 +115,25 @@ module _ (c : Coding) (blocks : List unit.Block) (x v : ℕ) (is_scalar : scalar
   passes : (p : ℕ) → IsPassing p c.top (HasPoint blocks c.top (Notes blocks x) (notes_back blocks x)) (LeadsPoint blocks c.top (Notes blocks x) (notes_back blocks x)) (AnyStand blocks c.top (Notes blocks x) (notes_back blocks x))
   passes p = point_passes blocks c.top (Notes blocks x) (notes_back blocks x) p
 
-  pub step_on : (i : Instruction) (m : Made) → is_marker i ≡ false → N m → N (before i m)
+  pub step_on : (i : Instruction) (m : Made) → is_marker i ≡ false → N m → N (instruction_before i m)
   step_on i m h k = (passes 0).step i m h k
 
   code_on : (at : ℕ) (e : RvalueTree) (t : ℕ) (want : Option ℕ) (m : Made) → N m → N (code c.names (place_of c at) c.top e t (To want m))
   code_on at e t want m k =
       (code_passes (place_of c at) c.top (HasPoint blocks c.top (Notes blocks x) (notes_back blocks x)) (LeadsPoint blocks c.top (Notes blocks x) (notes_back blocks x)) (AnyStand blocks c.top (Notes blocks x) (notes_back blocks x)) (passes (place_of c at)) c.names e t (To want m)).1 k
 
-  code_is : (at : ℕ) (e : RvalueTree) (t : ℕ) (g : Goal) (ks : List ℕ) → In automatics c.names outside (keeps false e ks) → Among (X at) (assigned at e) → N (code c.names (place_of c at) c.top e t g)
+  code_is : (at : ℕ) (e : RvalueTree) (t : ℕ) (g : Goal) (ks : List ℕ) → In automatics c.names outside (keeps false e ks) → Among (X at) (assigned_objects at e) → N (code c.names (place_of c at) c.top e t g)
   code_is at e t g ks h m = code_notes blocks c.top x c.names (place_of c at) e t g (sure automatics c.names outside e ks h) (assigned_writes c.names at v x is_scalar e m)
 
   -- a place of one expression
-  one_has : (spot : Spot) (scope : List ℕ) (e : RvalueTree) (t : ℕ) (g : Goal) (ks : List ℕ) → In automatics c.names outside (keeps false e ks) → Owns (assigned spot.at e) (stop number scope spot ∷ []) → HasN (place_of c spot.at) (coded c spot.at e t g)
+  one_has : (spot : Spot) (scope : List ℕ) (e : RvalueTree) (t : ℕ) (g : Goal) (ks : List ℕ) → In automatics c.names outside (keeps false e ks) → Owns (assigned_objects spot.at e) (stop number scope spot ∷ []) → HasN (place_of c spot.at) (coded c spot.at e t g)
   one_has spot scope e t g ks h own a = code_is spot.at e (begun c t) g ks h (own spot.at (stop number scope spot, front, refl) a)
 
   -- one that assigns nothing
   none_has : (spot : Spot) (scope : List ℕ) (m : Made) → Owns [] (stop number scope spot ∷ []) → HasN (place_of c spot.at) m
   none_has spot scope m own a = elim (own spot.at (stop number scope spot, front, refl) a) [ ]
 
-  run_adds : (spot : Spot) (scope : List ℕ) (e : RvalueTree) (t : ℕ) (next : Option ℕ) (part : Part) (ks : List ℕ) → In automatics c.names outside (keeps false e ks) → Owns (assigned spot.at e) (stop number scope spot ∷ []) → Adds (add_run c spot.at e t next part) part
+  run_adds : (spot : Spot) (scope : List ℕ) (e : RvalueTree) (t : ℕ) (next : Option ℕ) (part : Part) (ks : List ℕ) → In automatics c.names outside (keeps false e ks) → Owns (assigned_objects spot.at e) (stop number scope spot ∷ []) → Adds (add_run c spot.at e t next part) part
   run_adds spot scope e t next part ks h own =
       let go = going c next part.inner in
       place_adds spot.at (coded c spot.at e t (Unused go)) part (grows_on part.inner go.inner (coded c spot.at e t (Unused go)).inner (going_grows c next part.inner) (code_grows c spot.at e (begun c t) (Unused go))) (one_has spot scope e t (Unused go) ks h own)
@@ -141,7 +141,7 @@ module _ (c : Coding) (blocks : List unit.Block) (x v : ℕ) (is_scalar : scalar
   going_adds : (spot : Spot) (scope : List ℕ) (next : Option ℕ) (part : Part) → Owns [] (stop number scope spot ∷ []) → Adds (add_going c spot.at next part) part
   going_adds spot scope next part own = place_adds spot.at (going c next part.inner) part (going_grows c next part.inner) (none_has spot scope (going c next part.inner) own)
 
-  branching_adds : (spot : Spot) (scope : List ℕ) (e : RvalueTree) (t : ℕ) (one other : Option ℕ) (part : Part) (ks : List ℕ) → In automatics c.names outside (keeps false e ks) → Owns (assigned spot.at e) (stop number scope spot ∷ []) → Adds (add_branching c spot.at e t one other part) part
+  branching_adds : (spot : Spot) (scope : List ℕ) (e : RvalueTree) (t : ℕ) (one other : Option ℕ) (part : Part) (ks : List ℕ) → In automatics c.names outside (keeps false e ks) → Owns (assigned_objects spot.at e) (stop number scope spot ∷ []) → Adds (add_branching c spot.at e t one other part) part
   branching_adds spot scope e t one other part ks h own =
       let ends = with_end c spot.at other part.inner in
       let all = with_end c spot.at one ends in
@@ -152,7 +152,7 @@ module _ (c : Coding) (blocks : List unit.Block) (x v : ℕ) (is_scalar : scalar
   cleared_on : (object bytes covered : ℕ) (m : Made) → N m → N (cleared object bytes covered m)
   cleared_on object bytes covered m k = go (nat_le (words_of bytes) covered)
     where
-      go : (b : Bool) → N (if b then m else before (unit.Zero object (words_of bytes)) m)
+      go : (b : Bool) → N (if b then m else instruction_before (unit.Zero object (words_of bytes)) m)
       go true = k
       go false = step_on (unit.Zero object (words_of bytes)) m refl k
 
@@ -183,7 +183,7 @@ module _ (c : Coding) (blocks : List unit.Block) (x v : ℕ) (is_scalar : scalar
   bare_keeps (expression.StepPointer d g of l) ks h = h
   bare_keeps (expression.Call f all) ks h = h
 
-  bare_assigns : (at : ℕ) (e : RvalueTree) → Among (X at) (assigned at e) → Among (X at) (assigned at (bare e))
+  bare_assigns : (at : ℕ) (e : RvalueTree) → Among (X at) (assigned_objects at e) → Among (X at) (assigned_objects at (bare e))
   bare_assigns at (expression.Convert t e) h = h
   bare_assigns at (expression.Constant z t) h = h
   bare_assigns at expression.Null h = h
@@ -212,20 +212,20 @@ module _ (c : Coding) (blocks : List unit.Block) (x v : ℕ) (is_scalar : scalar
 
   elements_have : (at : ℕ) (s : Scalar) (object index : ℕ) (all : List RvalueTree) (t : ℕ) (m : Made) (ks : List ℕ) → In automatics c.names outside (kept_values all ks) → Among (X at) (assigned_by_values at all) → N (store_elements c at s object index all t m)
   elements_have at s object index [] t m ks h there = elim there [ ]
-  elements_have at s object index (e ∷ more) t m ks h there = by (split_among (X at) (assigned at e) (assigned_by_values at more) there) (λ k. elements_have at s object (index + 1) more (pick c.names t (laid c.names (bare e) Anywhere t).top) m (keeps false e ks) h k)
+  elements_have at s object index (e ∷ more) t m ks h there = by (split_among (X at) (assigned_objects at e) (assigned_by_values at more) there) (λ k. elements_have at s object (index + 1) more (pick c.names t (laid c.names (bare e) Anywhere t).top) m (keeps false e ks) h k)
     where
       rest : Made
       rest = store_elements c at s object (index + 1) more (pick c.names t (laid c.names (bare e) Anywhere t).top) m
 
-      by : Among (X at) (assigned at e) ⊎ Among (X at) (assigned_by_values at more) → (Among (X at) (assigned_by_values at more) → N rest) → N (store_elements c at s object index (e ∷ more) t m)
-      by (inl k) again = code_is at (bare e) t (To None (before (Store (element_of s) (Automatic object (index * scalar_size s)) (laid c.names (bare e) Anywhere t).value) rest)) ks (bare_keeps e ks (before_values automatics c.names outside more (keeps false e ks) h)) (bare_assigns at e k)
+      by : Among (X at) (assigned_objects at e) ⊎ Among (X at) (assigned_by_values at more) → (Among (X at) (assigned_by_values at more) → N rest) → N (store_elements c at s object index (e ∷ more) t m)
+      by (inl k) again = code_is at (bare e) t (To None (instruction_before (Store (element_of s) (Automatic object (index * scalar_size s)) (laid c.names (bare e) Anywhere t).value) rest)) ks (bare_keeps e ks (before_values automatics c.names outside more (keeps false e ks) h)) (bare_assigns at e k)
       by (inr k) again =
-          code_on at (bare e) t None (before (Store (element_of s) (Automatic object (index * scalar_size s)) (laid c.names (bare e) Anywhere t).value) rest) (step_on (Store (element_of s) (Automatic object (index * scalar_size s)) (laid c.names (bare e) Anywhere t).value) rest refl (again k))
+          code_on at (bare e) t None (instruction_before (Store (element_of s) (Automatic object (index * scalar_size s)) (laid c.names (bare e) Anywhere t).value) rest) (step_on (Store (element_of s) (Automatic object (index * scalar_size s)) (laid c.names (bare e) Anywhere t).value) rest refl (again k))
 
   kept_has : (at object : ℕ) (of : ObjectType) (i : InitialTree) (t : ℕ) (m : Made) (ks : List ℕ) → Fits None of i → In automatics c.names outside (kept_initial i ks) → Among (X at) (assigned_by_initial at i) → N (declare_kept c at object of i t m)
   kept_has at object of Zero t m ks f h there = elim there [ ]
   kept_has at object of (Literal k) t m ks f h there = elim there [ ]
-  kept_has at object (of-object.Scalar s) (scalar-initial e) t m ks f h there = code_is at e (begun c t) (To None (before (Store (element_of s) (Automatic object 0) (laid c.names e Anywhere (begun c t)).value) m)) ks h there
+  kept_has at object (of-object.Scalar s) (scalar-initial e) t m ks f h there = code_is at e (begun c t) (To None (instruction_before (Store (element_of s) (Automatic object 0) (laid c.names e Anywhere (begun c t)).value) m)) ks h there
   kept_has at object (of-object.Array s count) (Elements all) t m ks f h there = cleared_on object (scalar_size s * count) 0 (store_elements c at s object 0 all (begun c t) m) (elements_have at s object 0 all (begun c t) m ks h there)
   kept_has at object (of-object.Scalar s) (Elements all) t m ks f h there = absurd f
   kept_has at object (of-object.Array s count) (scalar-initial e) t m ks f h there = absurd f
@@ -316,8 +316,8 @@ module _ (c : Coding) (blocks : List unit.Block) (x v : ℕ) (is_scalar : scalar
       let more = scope ++ brought_by_start begin in
       let later = add_branching c spot.at e (start_reached c begin t) inside next part in
       adds_on (add_start c begin t spot.at later) later part
-      (begin_adds begin scope last t spot.at later ks f (before_it automatics c.names outside e (kept_start begin ks) h) (ascend_front last ps (stop number more spot ∷ []) up) (owns_first last (assigned_by_start begin) (assigned spot.at e) ps (stop number more spot ∷ []) own up (one_within number spot more e)))
-      (branching_adds spot more e (start_reached c begin t) inside next part (kept_start begin ks) h (owns_second last (assigned_by_start begin) (assigned spot.at e) ps (stop number more spot ∷ []) own up (start_within number begin scope)))
+      (begin_adds begin scope last t spot.at later ks f (before_it automatics c.names outside e (kept_start begin ks) h) (ascend_front last ps (stop number more spot ∷ []) up) (owns_first last (assigned_by_start begin) (assigned_objects spot.at e) ps (stop number more spot ∷ []) own up (one_within number spot more e)))
+      (branching_adds spot more e (start_reached c begin t) inside next part (kept_start begin ks) h (owns_second last (assigned_by_start begin) (assigned_objects spot.at e) ps (stop number more spot ∷ []) own up (start_within number begin scope)))
 
   result_adds : (spot : Spot) (scope : List ℕ) (e : Option RvalueTree) (t : ℕ) (part : Part) (ks : List ℕ) → In automatics c.names outside (kept_option e ks) → Owns (assigned_by_option spot.at e) (stop number scope spot ∷ []) → Adds (add_result c spot.at e t part) part
   result_adds spot scope None t part ks h own = place_adds spot.at (ending (unit.Return None) part.inner) part (grows_none part.inner) (none_has spot scope (ending (unit.Return None) part.inner) own)
@@ -325,7 +325,7 @@ module _ (c : Coding) (blocks : List unit.Block) (x v : ℕ) (is_scalar : scalar
       let m = ending (unit.Return (Some (laid c.names e Anywhere (begun c t)).value)) part.inner in
       place_adds spot.at (coded c spot.at e t (To None m)) part (code_grows c spot.at e (begun c t) (To None m)) (one_has spot scope e t (To None m) ks h own)
 
-  switch_adds : (spot : Spot) (scope : List ℕ) (e : RvalueTree) (all : TypedStatementTrees) (t : ℕ) (next : Option ℕ) (part : Part) (ks : List ℕ) → In automatics c.names outside (keeps false e ks) → Owns (assigned spot.at e) (stop number scope spot ∷ []) → Adds (add_switch c spot.at e all t next part) part
+  switch_adds : (spot : Spot) (scope : List ℕ) (e : RvalueTree) (all : TypedStatementTrees) (t : ℕ) (next : Option ℕ) (part : Part) (ks : List ℕ) → In automatics c.names outside (keeps false e ks) → Owns (assigned_objects spot.at e) (stop number scope spot ∷ []) → Adds (add_switch c spot.at e all t next part) part
   switch_adds spot scope e all t next part ks h own =
       let a = (laid c.names e Anywhere (begun c t)).value in
       let m = tests c spot.at a all next (default_start all next) part.inner in
@@ -342,8 +342,8 @@ module _ (c : Coding) (blocks : List unit.Block) (x v : ℕ) (is_scalar : scalar
         let later = add c s t1 w part in
         let ps = places_of number scope s in
         adds_on (add c (If spot e s) t w part) later part
-        (branching_adds spot scope e t (start s w.next) w.next later ks (before_statement automatics c.names outside s (keeps false e ks) h) (owns_first last (assigned spot.at e) (assigned_by s) (stop number scope spot ∷ []) ps own up (statement_within number s scope)))
-        (statement_owes s scope spot.at t1 w part (keeps false e ks) f h up.1 (owns_second last (assigned spot.at e) (assigned_by s) (stop number scope spot ∷ []) ps own up (one_within number spot scope e))))
+        (branching_adds spot scope e t (start_place s w.next) w.next later ks (before_statement automatics c.names outside s (keeps false e ks) h) (owns_first last (assigned_objects spot.at e) (assigned_by s) (stop number scope spot ∷ []) ps own up (statement_within number s scope)))
+        (statement_owes s scope spot.at t1 w part (keeps false e ks) f h up.1 (owns_second last (assigned_objects spot.at e) (assigned_by s) (stop number scope spot ∷ []) ps own up (one_within number spot scope e))))
     statement_owes (IfElse spot e s r) scope last t w part ks f h up own = (
         let t1 = reached c e Tested t in
         let t2 = statement_reached c s t1 in
@@ -353,28 +353,28 @@ module _ (c : Coding) (blocks : List unit.Block) (x v : ℕ) (is_scalar : scalar
         let here = stop number scope spot ∷ [] in
         let k1 = keeps false e ks in
         let behind_s = before_statement automatics c.names outside r (kept_by s k1) h in
-        let front_own = owns_first last (assigned spot.at e ++ assigned_by s) (assigned_by r) (stop number scope spot ∷ ps) pr own up (statement_within number r scope) in
+        let front_own = owns_first last (assigned_objects spot.at e ++ assigned_by s) (assigned_by r) (stop number scope spot ∷ ps) pr own up (statement_within number r scope) in
         let front_up = ascend_front last (stop number scope spot ∷ ps) pr up in
         let back_up = ascend_back last (stop number scope spot ∷ ps) pr up in
-        let both : Within (assigned spot.at e ++ assigned_by s) (stop number scope spot ∷ ps) = statement_within number (If spot e s) scope in
+        let both : Within (assigned_objects spot.at e ++ assigned_by s) (stop number scope spot ∷ ps) = statement_within number (If spot e s) scope in
         adds_on (add c (IfElse spot e s r) t w part) later part
-        (branching_adds spot scope e t (start s w.next) (start r w.next) later ks (before_statement automatics c.names outside s k1 behind_s) (owns_first last (assigned spot.at e) (assigned_by s) here ps front_own front_up (statement_within number s scope)))
-        (adds_on later other part (statement_owes s scope spot.at t1 w other k1 f.0 behind_s front_up.1 (owns_second last (assigned spot.at e) (assigned_by s) here ps front_own front_up (one_within number spot scope e)))
-        (statement_owes r scope back_up.0 t2 w part (kept_by s k1) f.1 h back_up.1 (owns_second last (assigned spot.at e ++ assigned_by s) (assigned_by r) (stop number scope spot ∷ ps) pr own up both))))
+        (branching_adds spot scope e t (start_place s w.next) (start_place r w.next) later ks (before_statement automatics c.names outside s k1 behind_s) (owns_first last (assigned_objects spot.at e) (assigned_by s) here ps front_own front_up (statement_within number s scope)))
+        (adds_on later other part (statement_owes s scope spot.at t1 w other k1 f.0 behind_s front_up.1 (owns_second last (assigned_objects spot.at e) (assigned_by s) here ps front_own front_up (one_within number spot scope e)))
+        (statement_owes r scope back_up.0 t2 w part (kept_by s k1) f.1 h back_up.1 (owns_second last (assigned_objects spot.at e ++ assigned_by s) (assigned_by r) (stop number scope spot ∷ ps) pr own up both))))
     statement_owes (While spot e s) scope last t w part ks f h up own = (
         let t1 = reached c e Tested t in
         let later = add c s t1 (within_loop spot.at w) part in
         let ps = places_of number scope s in
         adds_on (add c (While spot e s) t w part) later part
-        (branching_adds spot scope e t (start s (Some spot.at)) w.next later ks (before_statement automatics c.names outside s (keeps false e ks) h) (owns_first last (assigned spot.at e) (assigned_by s) (stop number scope spot ∷ []) ps own up (statement_within number s scope)))
-        (statement_owes s scope spot.at t1 (within_loop spot.at w) part (keeps false e ks) f h up.1 (owns_second last (assigned spot.at e) (assigned_by s) (stop number scope spot ∷ []) ps own up (one_within number spot scope e))))
+        (branching_adds spot scope e t (start_place s (Some spot.at)) w.next later ks (before_statement automatics c.names outside s (keeps false e ks) h) (owns_first last (assigned_objects spot.at e) (assigned_by s) (stop number scope spot ∷ []) ps own up (statement_within number s scope)))
+        (statement_owes s scope spot.at t1 (within_loop spot.at w) part (keeps false e ks) f h up.1 (owns_second last (assigned_objects spot.at e) (assigned_by s) (stop number scope spot ∷ []) ps own up (one_within number spot scope e))))
     statement_owes (DoWhile s spot e) scope last t w part ks f h up own = (
         let t1 = statement_reached c s t in
-        let later = add_branching c spot.at e t1 (start s (Some spot.at)) w.next part in
+        let later = add_branching c spot.at e t1 (start_place s (Some spot.at)) w.next part in
         let ps = places_of number scope s in
         adds_on (add c (DoWhile s spot e) t w part) later part
-        (statement_owes s scope last t (within_loop spot.at w) later ks f (before_it automatics c.names outside e (kept_by s ks) h) (ascend_front last ps (stop number scope spot ∷ []) up) (swapped_second last (assigned spot.at e) (assigned_by s) ps (stop number scope spot ∷ []) own up (one_within number spot scope e)))
-        (branching_adds spot scope e t1 (start s (Some spot.at)) w.next part (kept_by s ks) h (swapped_first last (assigned spot.at e) (assigned_by s) ps (stop number scope spot ∷ []) own up (statement_within number s scope))))
+        (statement_owes s scope last t (within_loop spot.at w) later ks f (before_it automatics c.names outside e (kept_by s ks) h) (ascend_front last ps (stop number scope spot ∷ []) up) (swapped_second last (assigned_objects spot.at e) (assigned_by s) ps (stop number scope spot ∷ []) own up (one_within number spot scope e)))
+        (branching_adds spot scope e t1 (start_place s (Some spot.at)) w.next part (kept_by s ks) h (swapped_first last (assigned_objects spot.at e) (assigned_by s) ps (stop number scope spot ∷ []) own up (statement_within number s scope))))
     statement_owes (For begin spot e step s) scope last t w part ks f h up own = (
         let round = round_of step spot.at in
         let inside = scope ++ brought_by_start begin in
@@ -396,7 +396,7 @@ module _ (c : Coding) (blocks : List unit.Block) (x v : ℕ) (is_scalar : scalar
         let back_up = ascend_back last (ph ++ pt) ps up in
         let both : Within (ah ++ at') (ph ++ pt) = joined ah at' ph pt (head_within number begin spot e scope) (step_within number step inside) in
         adds_on (add c (For begin spot e step s) t w part) later part
-        (head_adds begin spot e scope last t (start s (Some round)) w.next later ks f.0 (before_step automatics c.names outside step k2 h3) (ascend_front last ph pt front_up) (owns_first last ah at' ph pt front_own front_up (step_within number step inside)))
+        (head_adds begin spot e scope last t (start_place s (Some round)) w.next later ks f.0 (before_step automatics c.names outside step k2 h3) (ascend_front last ph pt front_up) (owns_first last ah at' ph pt front_own front_up (step_within number step inside)))
         (adds_on later body part (round_adds step inside t3 spot.at body k2 h3 (owns_second last ah at' ph pt front_own front_up (head_within number begin spot e scope)))
         (statement_owes s inside back_up.0 t2 (within_loop round w) part k3 f.1 h back_up.1 (owns_second last (ah ++ at') (assigned_by s) (ph ++ pt) ps own up both))))
     statement_owes (Switch spot e all) scope last t w part ks f h up own = (
@@ -404,8 +404,8 @@ module _ (c : Coding) (blocks : List unit.Block) (x v : ℕ) (is_scalar : scalar
         let later = add_all c all t1 (within_switch w) part in
         let ps = places_of_all number scope all in
         adds_on (add c (Switch spot e all) t w part) later part
-        (switch_adds spot scope e all t w.next later ks (before_statements automatics c.names outside all (keeps false e ks) h) (owns_first last (assigned spot.at e) (assigned_by_statements all) (stop number scope spot ∷ []) ps own up (statements_within number all scope)))
-        (statements_owe all scope spot.at t1 (within_switch w) part (keeps false e ks) f h up.1 (owns_second last (assigned spot.at e) (assigned_by_statements all) (stop number scope spot ∷ []) ps own up (one_within number spot scope e))))
+        (switch_adds spot scope e all t w.next later ks (before_statements automatics c.names outside all (keeps false e ks) h) (owns_first last (assigned_objects spot.at e) (assigned_by_statements all) (stop number scope spot ∷ []) ps own up (statements_within number all scope)))
+        (statements_owe all scope spot.at t1 (within_switch w) part (keeps false e ks) f h up.1 (owns_second last (assigned_objects spot.at e) (assigned_by_statements all) (stop number scope spot ∷ []) ps own up (one_within number spot scope e))))
     statement_owes (Break spot) scope last t w part ks f h up own = going_adds spot scope w.by_break part own
     statement_owes (Continue spot) scope last t w part ks f h up own = going_adds spot scope w.by_continue part own
     statement_owes (Return spot e) scope last t w part ks f h up own = result_adds spot scope e t part ks h own

@@ -17,7 +17,7 @@ use Rattle.graph_core.specs.Graphs as unit
 use Rattle.graph_core.specs.Graphs.{Operand, Location, Instruction, Operate, Truncate, Address, Store, Call, Block, Jump}
 use Rattle.graph_core.specs.Uses.{is_computation, target_of}
 use Rattle.graph_build_names.specs.Conversions.{is_narrow}
-use Rattle.graph_build_names.specs.Operands.{held, is_two, is_two_pointers, operand_at, located}
+use Rattle.graph_build_names.specs.Operands.{held, is_two, is_two_pointers, operand_at, located_at}
 use Rattle.graph_build_names.specs.Scales.{is_scaled, shift_of, scaled}
 use Rattle.graph_build_layout.specs.declared.laid.Use.{Use}
 use Rattle.graph_build_names.specs.Names.{Names, pick, object_of}
@@ -25,13 +25,13 @@ use Rattle.graph_build_names.specs.Writes.{is_that}
 use Rattle.graph_build_layout.specs.Laid.{Laid, Pair, PlaceLaid, behind_move, operation_laid, standing, moved_laid, steps_laid, compared_laid, left_scalar_laid, left_memory_laid, called_laid, object_laid}
 use Rattle.graph_build_layout.specs.Layout.{named_address}
 use Rattle.graph_build_steps.specs.Rules.{truncation_to, operation_for, move_by}
-use Rattle.graph_build_steps.specs.Drafts.{Made, Goal, To, Unused, Either, use_of, before, ending, leaf, target, follow, tested, scale, scaling, unscaling, move_if, note, noted, compare_by, compare_pointers_by, closed, forked, stored, called_by, renew, operated, code_scaled_pair, compared, compared_value, compared_pointers, compared_pointers_value, label_of, hold_location, held_location, branch_by}
+use Rattle.graph_build_steps.specs.Drafts.{Made, Goal, To, Unused, Either, use_of, instruction_before, ending, leaf, target, follow, tested, scale, scaling, unscaling, move_if, note, noted, compare_by, compare_pointers_by, with_inner_block, forked, stored, called_by, renew, operated, code_scaled_pair, compared, compared_value, compared_pointers, compared_pointers_value, label_of, hold_location, held_location, branch_by}
 use Rattle.graph_build_steps.specs.Drafts as drafts
 use Rattle.graph_build_steps.specs.declared.site.Two as declared-two
 use Rattle.graph_build_steps.specs.declared.site.Two.TheVariants as two
 use Rattle.graph_build_steps.specs.declared.change.Change as declared-change
 use Rattle.graph_build_steps.specs.declared.change.Change.TheVariants as change
-use Rattle.graph_build_steps.specs.Steps.{signed, finished, distance, changed, changed_element, takes_more, renewed_scalar, loaded_first, renewed_memory, left_scalar, left_memory, object_address, or_zero}
+use Rattle.graph_build_steps.specs.Steps.{signed, finished, element_distance, changed, changed_element, takes_more, renewed_scalar, loaded_first, renewed_memory, left_scalar, left_memory, object_address, or_zero}
 use Rattle.graph_build_laws.proofs.Temporaries.{pick_least, moved_behind}
 use Rattle.graph_build_laws.proofs.GraphMarkingPieces.{grows_none}
 use Rattle.image_truth_units.proofs.Rules.{stands, lies, NoneStands, Clear, Marking}
@@ -72,7 +72,7 @@ module _ (x : Marking) where
 
   -- the property holds before each instruction that computes a name
   abbrev pub Last : Option ℕ → ℕ → Made → Type 0
-  Last w y m = (i : Instruction) → is_computation i ≡ true → target_of i ≡ Some y → Clear x.own i → H w (before i m)
+  Last w y m = (i : Instruction) → is_computation i ≡ true → target_of i ≡ Some y → Clear x.own i → H w (instruction_before i m)
 
   pub last_write : (y : ℕ) (m : Made) → (Own y → H (Some y) m) → Last None y m
   last_write y m k i c t r = x.rules.write i y m c t r k
@@ -135,7 +135,7 @@ module _ (x : Marking) where
   pub hold_has : (b : Bool) (t : ℕ) (l : Location) (m : Made) → From t → Loc l → ((b ≡ true → Own t) → H None m) → H None (hold_location b t l m)
   hold_has b t l m le s k = move_has b t (operand_at l) m le (operand_clear l s) k
 
-  located_clear : (l : Location) (t : ℕ) → Own t → Loc l → Loc (located l (unit.Name t))
+  located_clear : (l : Location) (t : ℕ) → Own t → Loc l → Loc (located_at l (unit.Name t))
   located_clear (unit.At a) t o s = o
   located_clear (unit.Automatic i k) t o s = refl
   located_clear (unit.Static i) t o s = refl
@@ -161,11 +161,11 @@ module _ (x : Marking) where
   scale_has : (w : Option ℕ) (size : ℕ) (a : Operand) (t : ℕ) (m : Made) → From t → S a → ((is_scaled size a ≡ true → Own t) → H w m) → H w (scale size a t m)
   scale_has w size a t m le s k = go (is_scaled size a) k
     where
-      by : (o : Option ℕ) (next : Made) → (Own t → H w next) → H w (before (scaling o size t a) next)
+      by : (o : Option ℕ) (next : Made) → (Own t → H w next) → H w (instruction_before (scaling o size t a) next)
       by (Some j) next k = x.rules.pass w (Operate t operation.Sll a (unit.Constant j)) t next refl refl le (s, refl) k
       by None next k = x.rules.pass w (Operate t operation.Mul a (scaled size (unit.Constant 1) 0)) t next refl refl le (s, refl) k
 
-      go : (b : Bool) → ((b ≡ true → Own t) → H w m) → H w (if b then before (scaling (shift_of size) size t a) m else m)
+      go : (b : Bool) → ((b ≡ true → Own t) → H w m) → H w (if b then instruction_before (scaling (shift_of size) size t a) m else m)
       go true k = by (shift_of size) m (λ o. k (λ e. o))
       go false k = k (λ e. absurd (false_true e))
 
@@ -183,15 +183,15 @@ module _ (x : Marking) where
   renew_has : (w : Option ℕ) (ty : IntegerType) (y t : ℕ) (i : ℕ → Instruction) (m : Made) → Last w y m → From t → Computes i → H w (renew ty y t i m)
   renew_has w ty y t i m last le c = go (is_narrow ty)
     where
-      go : (b : Bool) → H w (if b then before (i t) (before (Truncate y (truncation_to ty) (unit.Name t)) m) else before (i y) m)
-      go true = let f = c t in x.rules.pass w (i t) t (before (Truncate y (truncation_to ty) (unit.Name t)) m) f.0 f.1 le f.2 (λ o. last (Truncate y (truncation_to ty) (unit.Name t)) refl refl o)
+      go : (b : Bool) → H w (if b then instruction_before (i t) (instruction_before (Truncate y (truncation_to ty) (unit.Name t)) m) else instruction_before (i y) m)
+      go true = let f = c t in x.rules.pass w (i t) t (instruction_before (Truncate y (truncation_to ty) (unit.Name t)) m) f.0 f.1 le f.2 (λ o. last (Truncate y (truncation_to ty) (unit.Name t)) refl refl o)
       go false = let f = c y in last (i y) f.0 f.1 f.2
 
   pub changed_has : (w : Option ℕ) (c : declared-change.Change) (y t free : ℕ) (old by : Operand) (m : Made) → Last w y m → From t → From free → S old → S by → H w (changed c y t free old by m)
   changed_has w (change.Integer o ty v) y t free old by m last lt lf s r = renew_has w ty y t (λ z. Operate z (operation_for o v) old by) m last lt (λ z. (refl, refl, (s, r)))
   changed_has w (change.Pointer d bytes) y t free old by m last lt lf s r =
       let i : Instruction = Operate y (move_by d) old (scaled bytes by free) in
-      scale_has w bytes by free (before i m) lf r (λ o. last i refl refl (s, scaled_clear bytes by free o r))
+      scale_has w bytes by free (instruction_before i m) lf r (λ o. last i refl refl (s, scaled_clear bytes by free o r))
 
   -- comparisons
   compare_has : (o : declared-comparison.Comparison) (s : Bool) (y t : ℕ) (a b : Operand) (m : Made) → Last None y m → From t → S a → S b → H None (compare_by o s y t a b m)
@@ -243,11 +243,11 @@ module _ (x : Marking) where
   pointers_has (To (Some y) m) o begun q lb ln sl sr k = pointers_value (To (Some y) m) o begun q 0 lb ln sl sr k
   pointers_has (Unused m) o begun q lb ln sl sr k = pointers_value (Unused m) o begun q 0 lb ln sl sr k
 
-  distance_has : (bytes : ℕ) (g : Goal) (begun : ℕ) (q : Pair) → From begun → From q.next → S q.left → S q.right → For (steps_laid n (use_of g) (not (bytes == 1)) begun q).value g → H None (distance n bytes g begun q)
+  distance_has : (bytes : ℕ) (g : Goal) (begun : ℕ) (q : Pair) → From begun → From q.next → S q.left → S q.right → For (steps_laid n (use_of g) (not (bytes == 1)) begun q).value g → H None (element_distance n bytes g begun q)
   distance_has bytes g begun q lb ln sl sr k = go (bytes == 1) k
     where
       go : (b : Bool) → For (steps_laid n (use_of g) (not b) begun q).value g →
-          H None (if b then operated n g begun q.next (λ y. Operate y operation.Sub q.left q.right) else before (Operate (pick n begun q.next) operation.Sub q.left q.right) (operated n g begun (q.next + 1) (λ y. unscaling (shift_of bytes) bytes y (pick n begun q.next))))
+          H None (if b then operated n g begun q.next (λ y. Operate y operation.Sub q.left q.right) else instruction_before (Operate (pick n begun q.next) operation.Sub q.left q.right) (operated n g begun (q.next + 1) (λ y. unscaling (shift_of bytes) bytes y (pick n begun q.next))))
       go true k = operated_has g begun q.next _ (λ y. Operate y operation.Sub q.left q.right) lb ln (λ y. (refl, refl, (sl, sr))) k
       go false k =
           let t = pick n begun q.next in
@@ -287,13 +287,13 @@ module _ (x : Marking) where
   -- a new value in memory
   stored_last : (e : declared-element.Element) (l : Location) (g : Goal) (begun free top : ℕ) → From begun → From free → Loc l → For (operation_laid n (use_of g) begun free top).value g →
       Last None (target g (pick n begun free)) (stored e l (unit.Name (target g (pick n begun free))) g)
-  stored_last e l (To None m) begun free top lb lf loc k = let y = pick n begun free in last_fresh y (before (Store e l (unit.Name y)) m) (least_pick begun free lb lf) (λ o. x.rules.store None e l (unit.Name y) m (loc, o) (k o))
-  stored_last e l (To (Some y) m) begun free top lb lf loc k = last_write y (before (Store e l (unit.Name y)) m) (λ o. x.rules.store (Some y) e l (unit.Name y) m (loc, o) (k o o))
-  stored_last e l (Unused m) begun free top lb lf loc k = let y = pick n begun free in last_fresh y (before (Store e l (unit.Name y)) m) (least_pick begun free lb lf) (λ o. x.rules.store None e l (unit.Name y) m (loc, o) (k o))
+  stored_last e l (To None m) begun free top lb lf loc k = let y = pick n begun free in last_fresh y (instruction_before (Store e l (unit.Name y)) m) (least_pick begun free lb lf) (λ o. x.rules.store None e l (unit.Name y) m (loc, o) (k o))
+  stored_last e l (To (Some y) m) begun free top lb lf loc k = last_write y (instruction_before (Store e l (unit.Name y)) m) (λ o. x.rules.store (Some y) e l (unit.Name y) m (loc, o) (k o o))
+  stored_last e l (Unused m) begun free top lb lf loc k = let y = pick n begun free in last_fresh y (instruction_before (Store e l (unit.Name y)) m) (least_pick begun free lb lf) (λ o. x.rules.store None e l (unit.Name y) m (loc, o) (k o))
   stored_last e l (Either one other inner) begun free top lb lf loc k =
       let y = pick n begun free in
       let next = tested (unit.Name y) one other inner in
-      last_fresh y (before (Store e l (unit.Name y)) next) (least_pick begun free lb lf) (λ o. x.rules.store None e l (unit.Name y) next (loc, o) (tested_has (unit.Name y) one other inner o k))
+      last_fresh y (instruction_before (Store e l (unit.Name y)) next) (least_pick begun free lb lf) (λ o. x.rules.store None e l (unit.Name y) next (loc, o) (tested_has (unit.Name y) one other inner o k))
 
   pub memory_has : (c : declared-change.Change) (q : PlaceLaid) (moved : Bool) (by : Laid) (g : Goal) (top : ℕ) → From q.next → From by.next → Own q.next → (moved ≡ true → Own (q.next + 1)) → Loc q.location → S by.value →
       For (operation_laid n (use_of g) q.next (behind_move (takes_more c by.value) by.next) top).value g → H None (renewed_memory n c q moved by g)
@@ -311,7 +311,7 @@ module _ (x : Marking) where
 
   -- a scalar's old value, by whether the scalar itself wants it
   abbrev left_by_test : declared-change.Change → (y t : ℕ) → Made → Bool → Made
-  left_by_test c y t m b = changed c y (if b then t + 1 else t) (if b then t + 1 else t) (unit.Name y) (unit.Constant 1) (note y (if b then before (unit.Move y (unit.Name t)) m else m))
+  left_by_test c y t m b = changed c y (if b then t + 1 else t) (if b then t + 1 else t) (unit.Name y) (unit.Constant 1) (note y (if b then instruction_before (unit.Move y (unit.Name t)) m else m))
 
   pub left_scalar_has : (c : declared-change.Change) (y t : ℕ) (g : Goal) (narrow : Bool) → x.may y → Own y → From t → For (left_scalar_laid n (use_of g) narrow y t).value g → H None (left_scalar c y t g)
   left_scalar_has c y t (Unused m) narrow may o le k = changed_has None c y t t (unit.Name y) (unit.Constant 1) (note y m) (last_change None y m refl may (k o)) le le o refl
@@ -325,9 +325,9 @@ module _ (x : Marking) where
       (λ own. changed_has None c y (t + 1) (t + 1) (unit.Name y) (unit.Constant 1) (note y next) (last_change None y next refl may (tested_has (unit.Name t) one other inner own k)) (omega (arith, le)) (omega (arith, le)) o refl)
   left_scalar_has c y t (To (Some z) m) narrow may o le k = go (z == y) refl
     where
-      go : (b : Bool) → (z == y) ≡ b → H None (if b then before (unit.Move t (unit.Name y)) (left_by_test c y t m b) else before (unit.Move z (unit.Name y)) (left_by_test c y t m b))
+      go : (b : Bool) → (z == y) ≡ b → H None (if b then instruction_before (unit.Move t (unit.Name y)) (left_by_test c y t m b) else instruction_before (unit.Move z (unit.Name y)) (left_by_test c y t m b))
       go true e =
-          let next = before (unit.Move y (unit.Name t)) m in
+          let next = instruction_before (unit.Move y (unit.Name t)) m in
           let there : Own y → H (Some y) m = λ own. subst (λ w. H (Some w) m) (same_name z y e) (k (subst Own (sym (same_name z y e)) own) (subst Own (sym (same_name z y e)) own)) in
           x.rules.pass None (unit.Move t (unit.Name y)) t (left_by_test c y t m true) refl refl le o
           (λ own. changed_has None c y (t + 1) (t + 1) (unit.Name y) (unit.Constant 1) (note y next) (last_change None y next refl may (x.rules.write (unit.Move y (unit.Name t)) y m refl refl own there)) (omega (arith, le)) (omega (arith, le)) o refl)
@@ -337,11 +337,11 @@ module _ (x : Marking) where
 
   -- the old value of what is in memory
   left_by : (w : Option ℕ) (c : declared-change.Change) (loc : Location) (old free : ℕ) (m : Made) → From free → Loc loc → Own old → H w m →
-      H w (changed c (behind_move (takes_more c (unit.Constant 1)) free) free free (unit.Name old) (unit.Constant 1) (before (Store (changed_element c) loc (unit.Name (behind_move (takes_more c (unit.Constant 1)) free))) m))
+      H w (changed c (behind_move (takes_more c (unit.Constant 1)) free) free free (unit.Name old) (unit.Constant 1) (instruction_before (Store (changed_element c) loc (unit.Name (behind_move (takes_more c (unit.Constant 1)) free))) m))
   left_by w c loc old free m le h o k =
       let y = behind_move (takes_more c (unit.Constant 1)) free in
       let up = (moved_behind (takes_more c (unit.Constant 1)) free).0 in
-      changed_has w c y free free (unit.Name old) (unit.Constant 1) (before (Store (changed_element c) loc (unit.Name y)) m) (last_pass w y (before (Store (changed_element c) loc (unit.Name y)) m) (omega (arith, le, up)) (λ own. x.rules.store w (changed_element c) loc (unit.Name y) m (h, own) k)) le le o refl
+      changed_has w c y free free (unit.Name old) (unit.Constant 1) (instruction_before (Store (changed_element c) loc (unit.Name y)) m) (last_pass w y (instruction_before (Store (changed_element c) loc (unit.Name y)) m) (omega (arith, le, up)) (λ own. x.rules.store w (changed_element c) loc (unit.Name y) m (h, own) k)) le le o refl
 
   pub left_memory_has : (c : declared-change.Change) (q : PlaceLaid) (g : Goal) (narrow : Bool) (t : ℕ) → From q.next → Loc q.location → For (left_memory_laid n (use_of g) narrow t q).value g → H None (left_memory c q g)
   left_memory_has c q (To (Some y) m) narrow t le loc k = x.rules.write (unit.Load y (changed_element c) q.location) y _ refl refl loc (λ o. left_by (Some y) c q.location y q.next m le loc o (k o o))
@@ -383,17 +383,17 @@ module _ (x : Marking) where
   object_has (object.Automatic v) t g le k = operated_has g t t t (λ y. Address y (or_zero (object_of n v))) le le (λ y. (refl, refl, tt)) (object_for g (object_of n v) t k)
 
   -- two arms that write the truth to a name, and what follows, which reads it
-  arms_have : (m : Made) (t : ℕ) → From t → (Own t → H None m) → let arm0 : Made = record { ops = unit.Move t (unit.Constant 0) ∷ []; end = Jump (label_of x.top m); inner = closed x.place m } in
-      let arm1 : Made = record { ops = unit.Move t (unit.Constant 1) ∷ []; end = Jump (label_of x.top m); inner = closed x.place arm0 } in
-      x.Leads (label_of x.top arm1) (closed x.place arm1) × x.Leads (label_of x.top arm0) (closed x.place arm1)
+  arms_have : (m : Made) (t : ℕ) → From t → (Own t → H None m) → let arm0 : Made = record { ops = unit.Move t (unit.Constant 0) ∷ []; end = Jump (label_of x.top m); inner = with_inner_block x.place m } in
+      let arm1 : Made = record { ops = unit.Move t (unit.Constant 1) ∷ []; end = Jump (label_of x.top m); inner = with_inner_block x.place arm0 } in
+      x.Leads (label_of x.top arm1) (with_inner_block x.place arm1) × x.Leads (label_of x.top arm0) (with_inner_block x.place arm1)
   arms_have m t le h =
       let l = label_of x.top m in
-      let arm0 : Made = record { ops = unit.Move t (unit.Constant 0) ∷ []; end = Jump l; inner = closed x.place m } in
-      let arm1 : Made = record { ops = unit.Move t (unit.Constant 1) ∷ []; end = Jump l; inner = closed x.place arm0 } in
-      let has0 : H None arm0 = x.rules.pass None (unit.Move t (unit.Constant 0)) t (ending (Jump l) (closed x.place m)) refl refl le refl (λ o. x.rules.jump l (closed x.place m) (x.rules.close m (h o))) in
-      let has1 : H None arm1 = x.rules.pass None (unit.Move t (unit.Constant 1)) t (ending (Jump l) (closed x.place arm0)) refl refl le refl
-      (λ o. x.rules.jump l (closed x.place arm0) (x.rules.keep arm0 l (closed x.place m) (grows_none (closed x.place m)) has0 (x.rules.close m (h o)))) in
-      (x.rules.close arm1 has1, x.rules.keep arm1 (label_of x.top arm0) (closed x.place arm0) (grows_none (closed x.place arm0)) has1 (x.rules.close arm0 has0))
+      let arm0 : Made = record { ops = unit.Move t (unit.Constant 0) ∷ []; end = Jump l; inner = with_inner_block x.place m } in
+      let arm1 : Made = record { ops = unit.Move t (unit.Constant 1) ∷ []; end = Jump l; inner = with_inner_block x.place arm0 } in
+      let has0 : H None arm0 = x.rules.pass None (unit.Move t (unit.Constant 0)) t (ending (Jump l) (with_inner_block x.place m)) refl refl le refl (λ o. x.rules.jump l (with_inner_block x.place m) (x.rules.close m (h o))) in
+      let has1 : H None arm1 = x.rules.pass None (unit.Move t (unit.Constant 1)) t (ending (Jump l) (with_inner_block x.place arm0)) refl refl le refl
+      (λ o. x.rules.jump l (with_inner_block x.place arm0) (x.rules.keep arm0 l (with_inner_block x.place m) (grows_none (with_inner_block x.place m)) has0 (x.rules.close m (h o)))) in
+      (x.rules.close arm1 has1, x.rules.keep arm1 (label_of x.top arm0) (with_inner_block x.place arm0) (grows_none (with_inner_block x.place arm0)) has1 (x.rules.close arm0 has0))
 
   -- what a truth in a name is for
   abbrev pub ForName : ℕ → Goal → Type 0
@@ -403,4 +403,4 @@ module _ (x : Marking) where
   forked_has (Either one other inner) t le h = h
   forked_has (Unused m) t le h = arms_have m t le h
   forked_has (To None m) t le h = arms_have m t le h
-  forked_has (To (Some y) m) t le h = arms_have (before (unit.Move y (unit.Name t)) m) t le (λ o. x.rules.write (unit.Move y (unit.Name t)) y m refl refl o (λ own. h own own))
+  forked_has (To (Some y) m) t le h = arms_have (instruction_before (unit.Move y (unit.Name t)) m) t le (λ o. x.rules.write (unit.Move y (unit.Name t)) y m refl refl o (λ own. h own own))

@@ -5,7 +5,7 @@ use Rattle.std.proofs.lemmas.Option.{none-some, same_Some, slice_get_within}
 use Rattle.places.specs.declared.table.PlaceRow.{PlaceRow}
 use Rattle.c_tree.specs.Programs.{ProgramTree}
 use Rattle.c_places.specs.Places.{Place, places_of_program}
-use Rattle.c_flow.specs.Rows.{Row, row_of, row_view}
+use Rattle.c_flow.specs.Rows.{Row, flow_row, row_view}
 use Rattle.graph_homes.specs.Homed.{HomedForm}
 use Rattle.rv_emit_tables.specs.Emitted.{EmittedForm, FunctionCode, address_of_word}
 use Rattle.image_form.specs.Form.{Form, numbered}
@@ -49,7 +49,7 @@ module _ (p : ProgramTree) (h : HomedForm) (e : EmittedForm) (rows : List PlaceR
       let low = slice_get_within m.places i x is in
       let q = there (places_of_program p) i (omega (arith, low, many)) in
       let r = across spot spot_of_row m.places rows i x given.tables.places is in
-      let same : row_view r.0 ≡ row_of p q.0 = same_Some (row_view r.0) (row_of p q.0) (sym (map_at row_view rows i r.0 r.1) ∙ ap (λ l. slice_get l i) given.tables.rows_are ∙ map_at (row_of p) (places_of_program p) i q.0 q.1) in
+      let same : row_view r.0 ≡ flow_row p q.0 = same_Some (row_view r.0) (flow_row p q.0) (sym (map_at row_view rows i r.0 r.1) ∙ ap (λ l. slice_get l i) given.tables.rows_are ∙ map_at (flow_row p) (places_of_program p) i q.0 q.1) in
       record {
         at = q.0;
         is = q.1;

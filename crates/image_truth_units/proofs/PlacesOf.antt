@@ -8,7 +8,7 @@ use Rattle.c_tree.specs.TypedStatements.{DeclaredTree, TypedStartTree, Nothing, 
 use Rattle.c_tree.specs.Programs.{TypedFunctionTree, ProgramTree}
 use Rattle.c_places.specs.Flow.{reaches_end}
 use Rattle.debug_records.specs.declared.source.Spot.{Spot}
-use Rattle.c_places.specs.Places.{Place, stop, brought, brought_by_start, brought_by_body, parameters_of, entry_of, close_of, places_of_declarators, places_of_start, places_of_head, places_of_step, places_of, places_of_all, places_of_function, places_of_functions, places_of_program, number_at}
+use Rattle.c_places.specs.Places.{Place, stop, brought, brought_by_start, brought_by_body, parameters_of, entry_of, close_of, places_of_declarators, places_of_start, places_of_head, places_of_step, places_of, places_of_all, places_of_function, places_of_functions, places_of_program, place_number_at}
 use Rattle.graph_core.specs.Graphs as unit
 use Rattle.graph_core.specs.Graphs.{Marker, Graph, UnitForm}
 use Rattle.graph_core.specs.Paths.{Among}
@@ -104,10 +104,10 @@ program_in number (f ∷ all) (suc k) j tree q is at =
     behind_all (places_of_function number f) (places_of_functions (number + 1) all) r.0 q r.1
 
 -- The places of graphs are the program's places: it is asked that places are numbered in order, and that the markers of a graph are those of the places of its function.
-module _ (p : ProgramTree) (u : UnitForm) (is : IsUnitOf p u) (numbered : (k : ℕ) (q : Place) → slice_get (places_of_program p) k ≡ Some q → number_at (places_of_program p) q.spot.at ≡ k + 1)
-    (markers : (k : ℕ) (f : TypedFunctionTree) → slice_get p.functions k ≡ Some f → (is_main : Bool) → markers_of_blocks (graph_of p f is_main).blocks ≡ map (λ (q : Place). number_at (places_of_program p) q.spot.at) (places_of_function k f)) where
+module _ (p : ProgramTree) (u : UnitForm) (is : IsUnitOf p u) (numbered : (k : ℕ) (q : Place) → slice_get (places_of_program p) k ≡ Some q → place_number_at (places_of_program p) q.spot.at ≡ k + 1)
+    (markers : (k : ℕ) (f : TypedFunctionTree) → slice_get p.functions k ≡ Some f → (is_main : Bool) → markers_of_blocks (graph_of p f is_main).blocks ≡ map (λ (q : Place). place_number_at (places_of_program p) q.spot.at) (places_of_function k f)) where
   -- one of a function's places, by its number
-  own_place : (f : ℕ) (tree : TypedFunctionTree) (j place : ℕ) (q : Place) → slice_get p.functions f ≡ Some tree → slice_get (places_of_function f tree) j ≡ Some q → place ≡ number_at (places_of_program p) q.spot.at → (i : ℕ) × (r : Place) × (place ≡ i + 1) × (slice_get (places_of_program p) i ≡ Some r) × (r.function ≡ f)
+  own_place : (f : ℕ) (tree : TypedFunctionTree) (j place : ℕ) (q : Place) → slice_get p.functions f ≡ Some tree → slice_get (places_of_function f tree) j ≡ Some q → place ≡ place_number_at (places_of_program p) q.spot.at → (i : ℕ) × (r : Place) × (place ≡ i + 1) × (slice_get (places_of_program p) i ≡ Some r) × (r.function ≡ f)
   own_place f tree j place q there at number =
       let same : 0 + f ≡ f = omega arith in
       let i = program_in 0 p.functions f j tree q there (ap (λ n. slice_get (places_of_function n tree) j) same ∙ at) in
@@ -123,8 +123,8 @@ module _ (p : ProgramTree) (u : UnitForm) (is : IsUnitOf p u) (numbered : (k : �
       by_kind tree b there same (inl entry) = own_place f tree 0 place (entry_of f tree) there refl (entry ∙ ap (λ (x : Graph). x.entry) (sym same))
       by_kind tree b there same (inr has) =
           let listed = subst (λ l. Among place l) (ap (λ (x : Graph). markers_of_blocks x.blocks) (sym same) ∙ markers f tree there b) (marker_of_blocks g.blocks has.number place has.block has.is has.marker) in
-          let k = among_at (map (λ (q : Place). number_at (places_of_program p) q.spot.at) (places_of_function f tree)) place listed in
-          let q = from_map (λ (q : Place). number_at (places_of_program p) q.spot.at) (places_of_function f tree) k.0 place k.1 in
+          let k = among_at (map (λ (q : Place). place_number_at (places_of_program p) q.spot.at) (places_of_function f tree)) place listed in
+          let q = from_map (λ (q : Place). place_number_at (places_of_program p) q.spot.at) (places_of_function f tree) k.0 place k.1 in
           own_place f tree k.0 place q.0 there q.1 (sym q.2)
 
   -- An image that has the program's places, each of its function, has those of a graph.

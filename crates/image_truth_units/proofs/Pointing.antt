@@ -11,11 +11,11 @@ use Rattle.image_form.specs.Form.{Form}
 use Rattle.image_form.specs.declared.variables.Storage.TheVariants as kept
 use Rattle.image_form.specs.declared.variables.Variable.{Variable}
 use Rattle.line_form.specs.Values.{static_pointer, frame_pointer, null_text, unknown_pointer}
-use Rattle.rv_machine.specs.State.{State, reg, word}
+use Rattle.rv_machine.specs.State.{MachineState, reg, word}
 use Rattle.stop_engine_view.specs.declared.target.Target.TheVariants as target
 use Rattle.stop_engine_view.specs.Callers.{calling_place}
 use Rattle.stop_engine_view.specs.Reading.{depth, frame_of, greatest_depth}
-use Rattle.stop_engine_view.specs.Pointers.{object_size, local_start, offset_within, is_of, function_of, local_offset, local_target, or_else, stack_target, pointed_at, target_text, pointer_text}
+use Rattle.stop_engine_view.specs.Pointers.{variable_size, local_start, offset_within, is_variable_of, function_of_place, local_offset, local_target, target_or_else, stack_target, pointed_at, target_text, pointer_text}
 use Rattle.image_truth_units.specs.Texts.{owner_text}
 use Rattle.image_truth_units.specs.Variables.{static_count, automatic_number, HasVariablesOf}
 use Rattle.image_truth_units.specs.Standing.{Standing, AreCallers, IsArea, IsStaticArea, IsFrameArea, IsDeclared, HoldsMemory}
@@ -34,14 +34,14 @@ depth_bound = refl
 
 -- ---- Objects of frames
 
-module _ (p : ProgramTree) (m : Form) (tables : HasVariablesOf p m) (memory : Memory) (here : Standing) (waiting : List Standing) (s : State) (h : HoldsMemory p m memory here waiting s) (x deep start bytes offset : ℕ) (area : IsFrameArea m (here ∷ waiting) (automatic_number p x) deep start bytes) (within : offset ≤ bytes) where
+module _ (p : ProgramTree) (m : Form) (tables : HasVariablesOf p m) (memory : Memory) (here : Standing) (waiting : List Standing) (s : MachineState) (h : HoldsMemory p m memory here waiting s) (x deep start bytes offset : ℕ) (area : IsFrameArea m (here ∷ waiting) (automatic_number p x) deep start bytes) (within : offset ≤ bytes) where
   -- the address lies in the variable of the activation
-  local_hit : (v : Variable) → slice_get m.variables (automatic_number p x) ≡ Some v → local_offset v (function_of m area.activation.place) area.activation.frame (start + offset) ≡ Some offset
+  local_hit : (v : Variable) → slice_get m.variables (automatic_number p x) ≡ Some v → local_offset v (function_of_place m area.activation.place) area.activation.frame (start + offset) ≡ Some offset
   local_hit v is =
       let same : area.variable ≡ v = same_Some area.variable v (sym area.is ∙ is) in
-      let own : is_of (function_of m area.activation.place) v ≡ true = ap (is_of (function_of m area.activation.place)) (sym same) ∙ area.own in
+      let own : is_variable_of (function_of_place m area.activation.place) v ≡ true = ap (is_variable_of (function_of_place m area.activation.place)) (sym same) ∙ area.own in
       let stored : v.storage ≡ kept.Frame area.offset = ap (λ (w : Variable). w.storage) (sym same) ∙ area.storage in
-      let size : bytes ≡ object_size v = area.size ∙ ap object_size same in
+      let size : bytes ≡ variable_size v = area.size ∙ ap variable_size same in
       let fits = h.inside (OfVariable x deep) start bytes area in
       let starts = area.starts in
       let first : word (area.activation.frame + area.offset) ≡ start = omega (arith, fits, starts) in
@@ -52,17 +52,17 @@ module _ (p : ProgramTree) (m : Form) (tables : HasVariablesOf p m) (memory : Me
 
   -- it is found in its frame
   local_found : (vs : List Variable) (j number : ℕ) → AreFrom m number vs → j < length vs → number + j ≡ automatic_number p x
-      → local_target (start + offset) (function_of m area.activation.place) area.activation.frame deep number vs ≡ Some (target.Local (automatic_number p x) deep offset)
+      → local_target (start + offset) (function_of_place m area.activation.place) area.activation.frame deep number vs ≡ Some (target.Local (automatic_number p x) deep offset)
   local_found [] j number from lt at = absurd (omega (arith, lt))
   local_found (v ∷ vs) zero number from lt at =
       let same : number ≡ automatic_number p x = omega (arith, at) in
       let hit = local_hit v (ap (slice_get m.variables) (sym same) ∙ from_here m number v vs from) in
-      ap (λ r. option_map_or (λ n. Some (target.Local number deep n)) r (local_target (start + offset) (function_of m area.activation.place) area.activation.frame deep (number + 1) vs)) hit ∙ ap (λ k. Some (target.Local k deep offset)) same
+      ap (λ r. option_map_or (λ n. Some (target.Local number deep n)) r (local_target (start + offset) (function_of_place m area.activation.place) area.activation.frame deep (number + 1) vs)) hit ∙ ap (λ k. Some (target.Local k deep offset)) same
   local_found (v ∷ vs) (suc j) number from lt at =
       let other : static_count p ≤ number → OfVariable x deep ≢ OfVariable (number - static_count p) deep = λ least same. absurd (let e : automatic_number p x ≡ automatic_number p (number - static_count p) = ap (number_of p) same in omega (arith, e, at, least)) in
       let none = no_local p m tables memory here waiting s h (OfVariable x deep) start bytes offset area within area.index deep number area.activation v area.there area.deep (from_here m number v vs from) other in
       let rest = local_found vs j (number + 1) (from_next m number v vs from) (omega (arith, lt)) (omega (arith, at)) in
-      ap (λ r. option_map_or (λ n. Some (target.Local number deep n)) r (local_target (start + offset) (function_of m area.activation.place) area.activation.frame deep (number + 1) vs)) none ∙ rest
+      ap (λ r. option_map_or (λ n. Some (target.Local number deep n)) r (local_target (start + offset) (function_of_place m area.activation.place) area.activation.frame deep (number + 1) vs)) none ∙ rest
 
   -- and so it is among the frames, where no inner one has it
   stack_found : (n : ℕ) (a : Standing) (more : List Standing) (i j : ℕ) → ((k : ℕ) → slice_get (a ∷ more) k ≡ slice_get (here ∷ waiting) (i + k)) → i + (length more + 1) ≡ length waiting + 1 → AreCallers m s a more → i + j ≡ area.index → length more < n
@@ -75,9 +75,9 @@ module _ (p : ProgramTree) (m : Form) (tables : HasVariablesOf p m) (memory : Me
       let deep_is : length more + 1 ≡ deep = omega (arith, level, long, index) in
       let number = slice_get_within m.variables (automatic_number p x) area.variable area.is in
       let found = local_found m.variables (automatic_number p x) 0 (from_first m) number (omega arith) in
-      let first : local_target (start + offset) (function_of m a.place) a.frame (length more + 1) 0 m.variables ≡ Some (target.Local (automatic_number p x) deep offset) =
-      ap (λ d. local_target (start + offset) (function_of m a.place) a.frame d 0 m.variables) deep_is ∙ ap (λ (b : Standing). local_target (start + offset) (function_of m b.place) b.frame deep 0 m.variables) same ∙ found in
-      ap (λ r. or_else r (if calling_place m s a.frame == 0 then None else stack_target n m s (start + offset) (calling_place m s a.frame) (word (a.frame + frame_of m a.place)) (word (length more + 1 + 4294967295)))) first
+      let first : local_target (start + offset) (function_of_place m a.place) a.frame (length more + 1) 0 m.variables ≡ Some (target.Local (automatic_number p x) deep offset) =
+      ap (λ d. local_target (start + offset) (function_of_place m a.place) a.frame d 0 m.variables) deep_is ∙ ap (λ (b : Standing). local_target (start + offset) (function_of_place m b.place) b.frame deep 0 m.variables) same ∙ found in
+      ap (λ r. target_or_else r (if calling_place m s a.frame == 0 then None else stack_target n m s (start + offset) (calling_place m s a.frame) (word (a.frame + frame_of m a.place)) (word (length more + 1 + 4294967295)))) first
   stack_found (suc n) a [] i (suc j) from long callers at few = absurd (none (from (suc j) ∙ ap (slice_get (here ∷ waiting)) at ∙ area.there))
     where
       none : {A : Type 0} {y : A} → None ≡ Some y → ⊥
@@ -93,7 +93,7 @@ module _ (p : ProgramTree) (m : Form) (tables : HasVariablesOf p m) (memory : Me
       let most = h.few in
       let deep_is : word (length (b ∷ more) + 1 + 4294967295) ≡ length more + 1 = omega (arith, most, long) in
       let rest = stack_found n b more (i + 1) j (λ k. from (suc k) ∙ ap (slice_get (here ∷ waiting)) (omega arith)) (omega (arith, long)) callers.4 (omega (arith, at)) (omega (arith, few)) in
-      ap (λ r. or_else r (if calling_place m s a.frame == 0 then None else stack_target n m s (start + offset) (calling_place m s a.frame) (word (a.frame + frame_of m a.place)) (word (length (b ∷ more) + 1 + 4294967295)))) first
+      ap (λ r. target_or_else r (if calling_place m s a.frame == 0 then None else stack_target n m s (start + offset) (calling_place m s a.frame) (word (a.frame + frame_of m a.place)) (word (length (b ∷ more) + 1 + 4294967295)))) first
       ∙ ap (λ c. if c then None else stack_target n m s (start + offset) (calling_place m s a.frame) (word (a.frame + frame_of m a.place)) (word (length (b ∷ more) + 1 + 4294967295))) test
       ∙ ap (λ q. stack_target n m s (start + offset) q (word (a.frame + frame_of m a.place)) (word (length (b ∷ more) + 1 + 4294967295))) callers.0
       ∙ ap (λ f. stack_target n m s (start + offset) b.place f (word (length (b ∷ more) + 1 + 4294967295))) frame_is
@@ -101,13 +101,13 @@ module _ (p : ProgramTree) (m : Form) (tables : HasVariablesOf p m) (memory : Me
 
 -- ---- All objects
 
-module _ (p : ProgramTree) (m : Form) (tables : HasVariablesOf p m) (memory : Memory) (here : Standing) (waiting : List Standing) (s : State) (h : HoldsMemory p m memory here waiting s) where
+module _ (p : ProgramTree) (m : Form) (tables : HasVariablesOf p m) (memory : Memory) (here : Standing) (waiting : List Standing) (s : MachineState) (h : HoldsMemory p m memory here waiting s) where
   static_pointed : (o : Owner) (start bytes offset number : ℕ) → (area : IsArea p m (here ∷ waiting) o start bytes) → offset ≤ bytes → number ≡ number_of p o → number < static_count p → IsStaticArea m number start bytes
       → pointed_at m s here.place (start + offset) ≡ Some (owner_target p o offset)
   static_pointed o start bytes offset number area within at below its =
       let lt = slice_get_within m.variables number its.variable its.is in
       let found = static_found p m tables memory here waiting s h o start bytes offset area within m.variables number 0 0 (from_first m) lt (omega (arith, at)) (subst (λ k. k < static_count p) at below) (omega arith) in
-      ap (λ r. or_else r (stack_target greatest_depth m s (start + offset) here.place (reg s 2) (depth s))) found
+      ap (λ r. target_or_else r (stack_target greatest_depth m s (start + offset) here.place (reg s 2) (depth s))) found
 
   -- an address in what an owner owns, or directly behind it, is taken for one in it
   pub pointed : (o : Owner) (start bytes offset : ℕ) → IsArea p m (here ∷ waiting) o start bytes → offset ≤ bytes → pointed_at m s here.place (start + offset) ≡ Some (owner_target p o offset)
@@ -118,7 +118,7 @@ module _ (p : ProgramTree) (m : Form) (tables : HasVariablesOf p m) (memory : Me
       let few = h.few in
       let enough : length waiting < greatest_depth = omega (arith, few, depth_bound) in
       let found = stack_found p m tables memory here waiting s h x deep start bytes offset area within greatest_depth here waiting 0 area.index (λ k. ap (slice_get (here ∷ waiting)) (omega arith)) (omega arith) h.callers (omega arith) enough in
-      ap (λ r. or_else r (stack_target greatest_depth m s (start + offset) here.place (reg s 2) (depth s))) none
+      ap (λ r. target_or_else r (stack_target greatest_depth m s (start + offset) here.place (reg s 2) (depth s))) none
       ∙ ap (λ f. stack_target greatest_depth m s (start + offset) here.place f (depth s)) (sym h.frame)
       ∙ ap (λ d. stack_target greatest_depth m s (start + offset) here.place here.frame d) h.depth_is ∙ found
 

@@ -10,7 +10,7 @@ use Rattle.c_tree.specs.TypedStatements as statement
 use Rattle.c_tree.specs.TypedStatements.{InitialTree, Zero, Scalar, Elements, Literal, DeclaredTree, TypedStartTree, Nothing, Value, Declares, StepTree, TypedStatementTree, Block, Declaration, Empty, Run, If, IfElse, While, DoWhile, For, Switch, Break, Continue, Return, TypedStatementTrees, case, default}
 use Rattle.c_places.specs.Places.{Place, stop, brought, brought_by_start, places_of_declarators, places_of_start, places_of_head, places_of_step, places_of, places_of_all}
 use Rattle.c_flow.specs.declared.assigned.Assigned.{Assigned}
-use Rattle.c_flow.specs.Assigns.{assigns_object, named, assigned, assigned_within, assigned_by_all, assigned_by_values, assigned_by_initial, assigned_by_option, assigned_by_declarators, assigned_by_start, assigned_by_step, assigned_by, assigned_by_statements}
+use Rattle.c_flow.specs.Assigns.{assigns_object, named_object, assigned_objects, assigned_within, assigned_by_all, assigned_by_values, assigned_by_initial, assigned_by_option, assigned_by_declarators, assigned_by_start, assigned_by_step, assigned_by, assigned_by_statements}
 use Rattle.graph_core.specs.Paths.{Among, front, behind}
 use Rattle.graph_build_names.specs.Names.{Names, scalar_of}
 use Rattle.graph_build_names.specs.Writes.{writes, writes_within, writes_any, names_it, is_that}
@@ -58,7 +58,7 @@ module _ (at : ℕ) where
       by (inl m) = h a m
       by (inr m) = k a m
 
-  named_at : (l : LvalueTree) (a : Assigned) → Among a (named at l) → a.at ≡ at
+  named_at : (l : LvalueTree) (a : Assigned) → Among a (named_object at l) → a.at ≡ at
   named_at (Named o of) a front = refl
   named_at (Named o of) a (behind m) = elim m [ ]
   named_at (Target of e) a m = elim m [ ]
@@ -67,7 +67,7 @@ module _ (at : ℕ) where
 
   mutual
     -- what an expression assigns it assigns at its position
-    pub assigned_at : (e : RvalueTree) (a : Assigned) → Among a (assigned at e) → a.at ≡ at
+    pub assigned_at : (e : RvalueTree) (a : Assigned) → Among a (assigned_objects at e) → a.at ≡ at
     assigned_at (Constant z t) a m = elim m [ ]
     assigned_at Null a m = elim m [ ]
     assigned_at (Load s l) a m = within_at l a m
@@ -77,36 +77,36 @@ module _ (at : ℕ) where
     assigned_at (Discard e) a m = assigned_at e a m
     assigned_at (Signed o t e) a m = assigned_at e a m
     assigned_at (Not e) a m = assigned_at e a m
-    assigned_at (Arithmetic o t b d) a m = both (assigned at b) (assigned at d) (assigned_at b) (assigned_at d) a m
-    assigned_at (Compare o t b d) a m = both (assigned at b) (assigned at d) (assigned_at b) (assigned_at d) a m
-    assigned_at (ComparePointers o b d) a m = both (assigned at b) (assigned at d) (assigned_at b) (assigned_at d) a m
-    assigned_at (Move w of b d) a m = both (assigned at b) (assigned at d) (assigned_at b) (assigned_at d) a m
-    assigned_at (MoveFrom b of d) a m = both (assigned at b) (assigned at d) (assigned_at b) (assigned_at d) a m
-    assigned_at (Difference of b d) a m = both (assigned at b) (assigned at d) (assigned_at b) (assigned_at d) a m
-    assigned_at (And b d) a m = both (assigned at b) (assigned at d) (assigned_at b) (assigned_at d) a m
-    assigned_at (Or b d) a m = both (assigned at b) (assigned at d) (assigned_at b) (assigned_at d) a m
-    assigned_at (Conditional c b d) a m = both (assigned at c ++ assigned at b) (assigned at d) (both (assigned at c) (assigned at b) (assigned_at c) (assigned_at b)) (assigned_at d) a m
-    assigned_at (Comma b d) a m = both (assigned at b) (assigned at d) (assigned_at b) (assigned_at d) a m
-    assigned_at (Assign s l e) a m = both (named at l ++ assigned_within at l) (assigned at e) (both (named at l) (assigned_within at l) (named_at l) (within_at l)) (assigned_at e) a m
-    assigned_at (Update o t u l e) a m = both (named at l ++ assigned_within at l) (assigned at e) (both (named at l) (assigned_within at l) (named_at l) (within_at l)) (assigned_at e) a m
-    assigned_at (UpdatePointer d of l e) a m = both (named at l ++ assigned_within at l) (assigned at e) (both (named at l) (assigned_within at l) (named_at l) (within_at l)) (assigned_at e) a m
-    assigned_at (Step d g t u l) a m = both (named at l) (assigned_within at l) (named_at l) (within_at l) a m
-    assigned_at (StepPointer d g of l) a m = both (named at l) (assigned_within at l) (named_at l) (within_at l) a m
+    assigned_at (Arithmetic o t b d) a m = both (assigned_objects at b) (assigned_objects at d) (assigned_at b) (assigned_at d) a m
+    assigned_at (Compare o t b d) a m = both (assigned_objects at b) (assigned_objects at d) (assigned_at b) (assigned_at d) a m
+    assigned_at (ComparePointers o b d) a m = both (assigned_objects at b) (assigned_objects at d) (assigned_at b) (assigned_at d) a m
+    assigned_at (Move w of b d) a m = both (assigned_objects at b) (assigned_objects at d) (assigned_at b) (assigned_at d) a m
+    assigned_at (MoveFrom b of d) a m = both (assigned_objects at b) (assigned_objects at d) (assigned_at b) (assigned_at d) a m
+    assigned_at (Difference of b d) a m = both (assigned_objects at b) (assigned_objects at d) (assigned_at b) (assigned_at d) a m
+    assigned_at (And b d) a m = both (assigned_objects at b) (assigned_objects at d) (assigned_at b) (assigned_at d) a m
+    assigned_at (Or b d) a m = both (assigned_objects at b) (assigned_objects at d) (assigned_at b) (assigned_at d) a m
+    assigned_at (Conditional c b d) a m = both (assigned_objects at c ++ assigned_objects at b) (assigned_objects at d) (both (assigned_objects at c) (assigned_objects at b) (assigned_at c) (assigned_at b)) (assigned_at d) a m
+    assigned_at (Comma b d) a m = both (assigned_objects at b) (assigned_objects at d) (assigned_at b) (assigned_at d) a m
+    assigned_at (Assign s l e) a m = both (named_object at l ++ assigned_within at l) (assigned_objects at e) (both (named_object at l) (assigned_within at l) (named_at l) (within_at l)) (assigned_at e) a m
+    assigned_at (Update o t u l e) a m = both (named_object at l ++ assigned_within at l) (assigned_objects at e) (both (named_object at l) (assigned_within at l) (named_at l) (within_at l)) (assigned_at e) a m
+    assigned_at (UpdatePointer d of l e) a m = both (named_object at l ++ assigned_within at l) (assigned_objects at e) (both (named_object at l) (assigned_within at l) (named_at l) (within_at l)) (assigned_at e) a m
+    assigned_at (Step d g t u l) a m = both (named_object at l) (assigned_within at l) (named_at l) (within_at l) a m
+    assigned_at (StepPointer d g of l) a m = both (named_object at l) (assigned_within at l) (named_at l) (within_at l) a m
     assigned_at (Call c all) a m = all_at all a m
 
     within_at : (l : LvalueTree) (a : Assigned) → Among a (assigned_within at l) → a.at ≡ at
     within_at (Named o of) a m = elim m [ ]
     within_at (Target of e) a m = assigned_at e a m
-    within_at (Element of b d) a m = both (assigned at b) (assigned at d) (assigned_at b) (assigned_at d) a m
-    within_at (ElementFrom of b d) a m = both (assigned at b) (assigned at d) (assigned_at b) (assigned_at d) a m
+    within_at (Element of b d) a m = both (assigned_objects at b) (assigned_objects at d) (assigned_at b) (assigned_at d) a m
+    within_at (ElementFrom of b d) a m = both (assigned_objects at b) (assigned_objects at d) (assigned_at b) (assigned_at d) a m
 
     all_at : (all : ArgumentTrees) (a : Assigned) → Among a (assigned_by_all at all) → a.at ≡ at
     all_at none a m = elim m [ ]
-    all_at (first e rest) a m = both (assigned at e) (assigned_by_all at rest) (assigned_at e) (all_at rest) a m
+    all_at (first e rest) a m = both (assigned_objects at e) (assigned_by_all at rest) (assigned_at e) (all_at rest) a m
 
   values_at : (all : List RvalueTree) (a : Assigned) → Among a (assigned_by_values at all) → a.at ≡ at
   values_at [] a m = elim m [ ]
-  values_at (e ∷ rest) a m = both (assigned at e) (assigned_by_values at rest) (assigned_at e) (values_at rest) a m
+  values_at (e ∷ rest) a m = both (assigned_objects at e) (assigned_by_values at rest) (assigned_at e) (values_at rest) a m
 
   pub initial_at : (i : InitialTree) (a : Assigned) → Among a (assigned_by_initial at i) → a.at ≡ at
   initial_at Zero a m = elim m [ ]
@@ -162,7 +162,7 @@ module _ (n : Names) (at v x : ℕ) (is_scalar : scalar_of n v ≡ Some x) where
   one_of a b front = refl
   one_of a b (behind m) = elim m [ ]
 
-  named_writes : (l : LvalueTree) → Among A (named at l) → names_it n x l ≡ true
+  named_writes : (l : LvalueTree) → Among A (named_object at l) → names_it n x l ≡ true
   named_writes (Named (object.Automatic w) of) m =
       ap (is_that x) (ap (scalar_of n) (same_variable w (one_of A (assigns_object at (object.Automatic w)) m)) ∙ is_scalar) ∙ same_is
   named_writes (Named (object.Static i) of) m = absurd (true_false (ap (λ (a : Assigned). is_automatic a.object) (one_of A (assigns_object at (object.Static i)) m)))
@@ -172,7 +172,7 @@ module _ (n : Names) (at v x : ℕ) (is_scalar : scalar_of n v ≡ Some x) where
   named_writes (ElementFrom of b d) m = elim m [ ]
 
   mutual
-    pub assigned_writes : (e : RvalueTree) → Among (assigns_object at (object.Automatic v)) (assigned at e) → writes n x e ≡ true
+    pub assigned_writes : (e : RvalueTree) → Among (assigns_object at (object.Automatic v)) (assigned_objects at e) → writes n x e ≡ true
     assigned_writes (Constant z t) m = elim m [ ]
     assigned_writes Null m = elim m [ ]
     assigned_writes (Load s l) m = within_writes l m
@@ -182,32 +182,32 @@ module _ (n : Names) (at v x : ℕ) (is_scalar : scalar_of n v ≡ Some x) where
     assigned_writes (Discard e) m = assigned_writes e m
     assigned_writes (Signed o t e) m = assigned_writes e m
     assigned_writes (Not e) m = assigned_writes e m
-    assigned_writes (Arithmetic o t b d) m = two (writes n x b) (writes n x d) (assigned at b) (assigned at d) (assigned_writes b) (assigned_writes d) m
-    assigned_writes (Compare o t b d) m = two (writes n x b) (writes n x d) (assigned at b) (assigned at d) (assigned_writes b) (assigned_writes d) m
-    assigned_writes (ComparePointers o b d) m = two (writes n x b) (writes n x d) (assigned at b) (assigned at d) (assigned_writes b) (assigned_writes d) m
-    assigned_writes (Move w of b d) m = two (writes n x b) (writes n x d) (assigned at b) (assigned at d) (assigned_writes b) (assigned_writes d) m
-    assigned_writes (MoveFrom b of d) m = two (writes n x b) (writes n x d) (assigned at b) (assigned at d) (assigned_writes b) (assigned_writes d) m
-    assigned_writes (Difference of b d) m = two (writes n x b) (writes n x d) (assigned at b) (assigned at d) (assigned_writes b) (assigned_writes d) m
-    assigned_writes (And b d) m = two (writes n x b) (writes n x d) (assigned at b) (assigned at d) (assigned_writes b) (assigned_writes d) m
-    assigned_writes (Or b d) m = two (writes n x b) (writes n x d) (assigned at b) (assigned at d) (assigned_writes b) (assigned_writes d) m
-    assigned_writes (Conditional c b d) m = three (writes n x c) (writes n x b) (writes n x d) (assigned at c) (assigned at b) (assigned at d) (assigned_writes c) (assigned_writes b) (assigned_writes d) m
-    assigned_writes (Comma b d) m = two (writes n x b) (writes n x d) (assigned at b) (assigned at d) (assigned_writes b) (assigned_writes d) m
-    assigned_writes (Assign s l e) m = three (names_it n x l) (writes_within n x l) (writes n x e) (named at l) (assigned_within at l) (assigned at e) (named_writes l) (within_writes l) (assigned_writes e) m
-    assigned_writes (Update o t u l e) m = three (names_it n x l) (writes_within n x l) (writes n x e) (named at l) (assigned_within at l) (assigned at e) (named_writes l) (within_writes l) (assigned_writes e) m
-    assigned_writes (UpdatePointer d of l e) m = three (names_it n x l) (writes_within n x l) (writes n x e) (named at l) (assigned_within at l) (assigned at e) (named_writes l) (within_writes l) (assigned_writes e) m
-    assigned_writes (Step d g t u l) m = two (names_it n x l) (writes_within n x l) (named at l) (assigned_within at l) (named_writes l) (within_writes l) m
-    assigned_writes (StepPointer d g of l) m = two (names_it n x l) (writes_within n x l) (named at l) (assigned_within at l) (named_writes l) (within_writes l) m
+    assigned_writes (Arithmetic o t b d) m = two (writes n x b) (writes n x d) (assigned_objects at b) (assigned_objects at d) (assigned_writes b) (assigned_writes d) m
+    assigned_writes (Compare o t b d) m = two (writes n x b) (writes n x d) (assigned_objects at b) (assigned_objects at d) (assigned_writes b) (assigned_writes d) m
+    assigned_writes (ComparePointers o b d) m = two (writes n x b) (writes n x d) (assigned_objects at b) (assigned_objects at d) (assigned_writes b) (assigned_writes d) m
+    assigned_writes (Move w of b d) m = two (writes n x b) (writes n x d) (assigned_objects at b) (assigned_objects at d) (assigned_writes b) (assigned_writes d) m
+    assigned_writes (MoveFrom b of d) m = two (writes n x b) (writes n x d) (assigned_objects at b) (assigned_objects at d) (assigned_writes b) (assigned_writes d) m
+    assigned_writes (Difference of b d) m = two (writes n x b) (writes n x d) (assigned_objects at b) (assigned_objects at d) (assigned_writes b) (assigned_writes d) m
+    assigned_writes (And b d) m = two (writes n x b) (writes n x d) (assigned_objects at b) (assigned_objects at d) (assigned_writes b) (assigned_writes d) m
+    assigned_writes (Or b d) m = two (writes n x b) (writes n x d) (assigned_objects at b) (assigned_objects at d) (assigned_writes b) (assigned_writes d) m
+    assigned_writes (Conditional c b d) m = three (writes n x c) (writes n x b) (writes n x d) (assigned_objects at c) (assigned_objects at b) (assigned_objects at d) (assigned_writes c) (assigned_writes b) (assigned_writes d) m
+    assigned_writes (Comma b d) m = two (writes n x b) (writes n x d) (assigned_objects at b) (assigned_objects at d) (assigned_writes b) (assigned_writes d) m
+    assigned_writes (Assign s l e) m = three (names_it n x l) (writes_within n x l) (writes n x e) (named_object at l) (assigned_within at l) (assigned_objects at e) (named_writes l) (within_writes l) (assigned_writes e) m
+    assigned_writes (Update o t u l e) m = three (names_it n x l) (writes_within n x l) (writes n x e) (named_object at l) (assigned_within at l) (assigned_objects at e) (named_writes l) (within_writes l) (assigned_writes e) m
+    assigned_writes (UpdatePointer d of l e) m = three (names_it n x l) (writes_within n x l) (writes n x e) (named_object at l) (assigned_within at l) (assigned_objects at e) (named_writes l) (within_writes l) (assigned_writes e) m
+    assigned_writes (Step d g t u l) m = two (names_it n x l) (writes_within n x l) (named_object at l) (assigned_within at l) (named_writes l) (within_writes l) m
+    assigned_writes (StepPointer d g of l) m = two (names_it n x l) (writes_within n x l) (named_object at l) (assigned_within at l) (named_writes l) (within_writes l) m
     assigned_writes (Call c all) m = all_writes all m
 
     within_writes : (l : LvalueTree) → Among (assigns_object at (object.Automatic v)) (assigned_within at l) → writes_within n x l ≡ true
     within_writes (Named o of) m = elim m [ ]
     within_writes (Target of e) m = assigned_writes e m
-    within_writes (Element of b d) m = two (writes n x b) (writes n x d) (assigned at b) (assigned at d) (assigned_writes b) (assigned_writes d) m
-    within_writes (ElementFrom of b d) m = two (writes n x b) (writes n x d) (assigned at b) (assigned at d) (assigned_writes b) (assigned_writes d) m
+    within_writes (Element of b d) m = two (writes n x b) (writes n x d) (assigned_objects at b) (assigned_objects at d) (assigned_writes b) (assigned_writes d) m
+    within_writes (ElementFrom of b d) m = two (writes n x b) (writes n x d) (assigned_objects at b) (assigned_objects at d) (assigned_writes b) (assigned_writes d) m
 
     all_writes : (all : ArgumentTrees) → Among (assigns_object at (object.Automatic v)) (assigned_by_all at all) → writes_any n x all ≡ true
     all_writes none m = elim m [ ]
-    all_writes (first e rest) m = two (writes n x e) (writes_any n x rest) (assigned at e) (assigned_by_all at rest) (assigned_writes e) (all_writes rest) m
+    all_writes (first e rest) m = two (writes n x e) (writes_any n x rest) (assigned_objects at e) (assigned_by_all at rest) (assigned_writes e) (all_writes rest) m
 
 -- What a statement assigns it assigns at the position of one of its places.
 abbrev pub Within : List Assigned → List Place → Type 0
@@ -243,23 +243,23 @@ module _ (number : ℕ) where
 
   pub start_within : (begin : TypedStartTree) (scope : List ℕ) → Within (assigned_by_start begin) (places_of_start number scope begin)
   start_within Nothing scope = λ a m. elim m [ ]
-  start_within (Value spot e) scope = at_spot spot scope (assigned spot.at e) [] (assigned_at spot.at e)
+  start_within (Value spot e) scope = at_spot spot scope (assigned_objects spot.at e) [] (assigned_at spot.at e)
   start_within (Declares all) scope = declared_within all scope
 
   pub step_within : (step : Option StepTree) (scope : List ℕ) → Within (assigned_by_step step) (places_of_step number scope step)
   step_within None scope = λ a m. elim m [ ]
-  step_within (Some s) scope = at_spot s.spot scope (assigned s.spot.at s.value) [] (assigned_at s.spot.at s.value)
+  step_within (Some s) scope = at_spot s.spot scope (assigned_objects s.spot.at s.value) [] (assigned_at s.spot.at s.value)
 
   pub head_within : (begin : TypedStartTree) (spot : Spot) (e : Option RvalueTree) (scope : List ℕ) → Within (assigned_by_start begin ++ assigned_by_option spot.at e) (places_of_head number scope begin spot e)
   head_within begin spot None scope = swapped (assigned_by_start begin) [] (stop number scope spot ∷ []) (places_of_start number scope begin) (start_within begin scope) (λ a m. elim m [ ])
-  head_within begin spot (Some e) scope = joined (assigned_by_start begin) (assigned spot.at e) (places_of_start number scope begin) (stop number (scope ++ brought_by_start begin) spot ∷ []) (start_within begin scope) (at_spot spot (scope ++ brought_by_start begin) (assigned spot.at e) [] (assigned_at spot.at e))
+  head_within begin spot (Some e) scope = joined (assigned_by_start begin) (assigned_objects spot.at e) (places_of_start number scope begin) (stop number (scope ++ brought_by_start begin) spot ∷ []) (start_within begin scope) (at_spot spot (scope ++ brought_by_start begin) (assigned_objects spot.at e) [] (assigned_at spot.at e))
 
   option_at : (spot : Spot) (scope : List ℕ) (e : Option RvalueTree) → Within (assigned_by_option spot.at e) (stop number scope spot ∷ [])
   option_at spot scope None = λ a m. elim m [ ]
-  option_at spot scope (Some e) = at_spot spot scope (assigned spot.at e) [] (assigned_at spot.at e)
+  option_at spot scope (Some e) = at_spot spot scope (assigned_objects spot.at e) [] (assigned_at spot.at e)
 
-  pub one_within : (spot : Spot) (scope : List ℕ) (e : RvalueTree) → Within (assigned spot.at e) (stop number scope spot ∷ [])
-  one_within spot scope e = at_spot spot scope (assigned spot.at e) [] (assigned_at spot.at e)
+  pub one_within : (spot : Spot) (scope : List ℕ) (e : RvalueTree) → Within (assigned_objects spot.at e) (stop number scope spot ∷ [])
+  one_within spot scope e = at_spot spot scope (assigned_objects spot.at e) [] (assigned_at spot.at e)
 
   mutual
     pub statement_within : (s : TypedStatementTree) (scope : List ℕ) → Within (assigned_by s) (places_of number scope s)
@@ -267,17 +267,17 @@ module _ (number : ℕ) where
     statement_within (Declaration all) scope = declared_within all scope
     statement_within (Empty spot) scope = λ a m. elim m [ ]
     statement_within (Run spot e) scope = one_within spot scope e
-    statement_within (If spot e s) scope = joined (assigned spot.at e) (assigned_by s) (stop number scope spot ∷ []) (places_of number scope s) (one_within spot scope e) (statement_within s scope)
+    statement_within (If spot e s) scope = joined (assigned_objects spot.at e) (assigned_by s) (stop number scope spot ∷ []) (places_of number scope s) (one_within spot scope e) (statement_within s scope)
     statement_within (IfElse spot e s r) scope =
-        joined (assigned spot.at e ++ assigned_by s) (assigned_by r) (stop number scope spot ∷ places_of number scope s) (places_of number scope r)
-        (joined (assigned spot.at e) (assigned_by s) (stop number scope spot ∷ []) (places_of number scope s) (one_within spot scope e) (statement_within s scope)) (statement_within r scope)
-    statement_within (While spot e s) scope = joined (assigned spot.at e) (assigned_by s) (stop number scope spot ∷ []) (places_of number scope s) (one_within spot scope e) (statement_within s scope)
-    statement_within (DoWhile s spot e) scope = swapped (assigned spot.at e) (assigned_by s) (places_of number scope s) (stop number scope spot ∷ []) (one_within spot scope e) (statement_within s scope)
+        joined (assigned_objects spot.at e ++ assigned_by s) (assigned_by r) (stop number scope spot ∷ places_of number scope s) (places_of number scope r)
+        (joined (assigned_objects spot.at e) (assigned_by s) (stop number scope spot ∷ []) (places_of number scope s) (one_within spot scope e) (statement_within s scope)) (statement_within r scope)
+    statement_within (While spot e s) scope = joined (assigned_objects spot.at e) (assigned_by s) (stop number scope spot ∷ []) (places_of number scope s) (one_within spot scope e) (statement_within s scope)
+    statement_within (DoWhile s spot e) scope = swapped (assigned_objects spot.at e) (assigned_by s) (places_of number scope s) (stop number scope spot ∷ []) (one_within spot scope e) (statement_within s scope)
     statement_within (For begin spot e step s) scope =
         let inside = scope ++ brought_by_start begin in
         joined (assigned_by_start begin ++ assigned_by_option spot.at e ++ assigned_by_step step) (assigned_by s) (places_of_head number scope begin spot e ++ places_of_step number inside step) (places_of number inside s)
         (joined (assigned_by_start begin ++ assigned_by_option spot.at e) (assigned_by_step step) (places_of_head number scope begin spot e) (places_of_step number inside step) (head_within begin spot e scope) (step_within step inside)) (statement_within s inside)
-    statement_within (Switch spot e all) scope = joined (assigned spot.at e) (assigned_by_statements all) (stop number scope spot ∷ []) (places_of_all number scope all) (one_within spot scope e) (statements_within all scope)
+    statement_within (Switch spot e all) scope = joined (assigned_objects spot.at e) (assigned_by_statements all) (stop number scope spot ∷ []) (places_of_all number scope all) (one_within spot scope e) (statements_within all scope)
     statement_within (Break spot) scope = λ a m. elim m [ ]
     statement_within (Continue spot) scope = λ a m. elim m [ ]
     statement_within (Return spot e) scope = option_at spot scope e

@@ -9,7 +9,7 @@ use Rattle.c_tree.specs.TypedExpressions.{RvalueTree}
 use Rattle.c_tree.specs.TypedStatements.{DeclaredTree, TypedStartTree, Nothing, Value, Declares, StepTree, TypedStatementTree, Block, Declaration, Empty, Run, If, IfElse, While, DoWhile, For, Switch, Break, Continue, Return, TypedStatementTrees, none, first, case, default}
 use Rattle.c_tree.specs.Programs.{TypedFunctionTree}
 use Rattle.c_places.specs.Flow.{reaches_end}
-use Rattle.c_places.specs.Places.{Place, stop, brought, brought_by_start, brought_by_body, parameters_of, entry_of, close_of, count_before, number_at, places_of_declarators, places_of_start, places_of_head, places_of_step, places_of, places_of_all, places_of_function, places_of_functions}
+use Rattle.c_places.specs.Places.{Place, stop, brought, brought_by_start, brought_by_body, parameters_of, entry_of, close_of, count_before, place_number_at, places_of_declarators, places_of_start, places_of_head, places_of_step, places_of, places_of_all, places_of_function, places_of_functions}
 use Rattle.c_type_laws.specs.Orders.{ascends, ascends_behind}
 use Rattle.image_truth_units.proofs.Accepted.{both, is_less}
 use Rattle.image_truth_units.proofs.Lists.{all_at}
@@ -188,14 +188,14 @@ so_many last (x ∷ all) (suc k) q h is =
     (omega (arith, less, more), ap (λ b. if b then count_before q.spot.at all + 1 else count_before q.spot.at all) (is_before x.spot.at q.spot.at more) ∙ (omega (arith, many)))
 
 -- Places that ascend are numbered by where they stand among them.
-pub numbered_at : (all : List Place) (k : ℕ) (q : Place) → ascends (spots all) ≡ true → slice_get all k ≡ Some q → number_at all q.spot.at ≡ k + 1
+pub numbered_at : (all : List Place) (k : ℕ) (q : Place) → ascends (spots all) ≡ true → slice_get all k ≡ Some q → place_number_at all q.spot.at ≡ k + 1
 numbered_at [] k q h is = absurd (none-some q is)
 numbered_at (x ∷ all) zero q h is =
     let none = none_before x.spot.at x.spot.at all (omega arith) h in
-    let none_too : number_at (x ∷ all) x.spot.at ≡ 0 + 1 = ap (λ b. (if b then count_before x.spot.at all + 1 else count_before x.spot.at all) + 1) (not_before x.spot.at x.spot.at (omega arith)) ∙ ap (λ n. n + 1) none in
-    subst (λ (y : Place). number_at (x ∷ all) y.spot.at ≡ 0 + 1) (same_Some x q is) none_too
+    let none_too : place_number_at (x ∷ all) x.spot.at ≡ 0 + 1 = ap (λ b. (if b then count_before x.spot.at all + 1 else count_before x.spot.at all) + 1) (not_before x.spot.at x.spot.at (omega arith)) ∙ ap (λ n. n + 1) none in
+    subst (λ (y : Place). place_number_at (x ∷ all) y.spot.at ≡ 0 + 1) (same_Some x q is) none_too
 numbered_at (x ∷ all) (suc k) q h is =
     let later = so_many x.spot.at all k q h is in
     let many = later.1 in
-    let number : number_at (x ∷ all) q.spot.at ≡ count_before q.spot.at all + 1 + 1 = ap (λ b. (if b then count_before q.spot.at all + 1 else count_before q.spot.at all) + 1) (is_before x.spot.at q.spot.at later.0) in
+    let number : place_number_at (x ∷ all) q.spot.at ≡ count_before q.spot.at all + 1 + 1 = ap (λ b. (if b then count_before q.spot.at all + 1 else count_before q.spot.at all) + 1) (is_before x.spot.at q.spot.at later.0) in
     omega (arith, number, many)

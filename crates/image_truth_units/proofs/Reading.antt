@@ -9,7 +9,7 @@ use Rattle.c_tree.specs.declared.types.IntegerType.{IntegerType}
 use Rattle.c_tree.specs.declared.types.IntegerType.TheVariants.{Char, SignedChar, UnsignedChar, Short, UnsignedShort, Int, UnsignedInt, Long, UnsignedLong}
 use Rattle.c_meaning_values.specs.Types.{size_by_stars}
 use Rattle.image_build_tables.specs.Variables.{element_by_stars}
-use Rattle.rv_machine.specs.State.{State, word}
+use Rattle.rv_machine.specs.State.{MachineState, word}
 use Rattle.rv_machine.specs.Memory.{word_in}
 use Rattle.rv_machine.specs.Table.{InBytes, InStack, location_of}
 use Rattle.rv_machine.specs.Reading.{byte_at, byte_of_location}
@@ -18,7 +18,7 @@ use Rattle.rv_emit_steps.specs.Holding.{memory_of, half_at, word_at}
 use Rattle.rv_emit_steps.proofs.Bytes.{in_bytes, in_stack}
 use Rattle.rv_emit_steps.specs.Meaning.{bits_at}
 
-location_in_bytes : (s : State) (a : ℕ) → length s.code ≤ most_words s.map → bytes_start s.map ≤ a → a < bytes_end s.map → location_of s a ≡ Some (InBytes (a - bytes_start s.map))
+location_in_bytes : (s : MachineState) (a : ℕ) → length s.code ≤ most_words s.map → bytes_start s.map ≤ a → a < bytes_end s.map → location_of s a ≡ Some (InBytes (a - bytes_start s.map))
 unfolding location_of
 location_in_bytes s a short low high =
     let ends = code_ends s.map (length s.code) short in
@@ -28,7 +28,7 @@ location_in_bytes s a short low high =
     let a4 : nat_lt a (bytes_end s.map) ≡ true = lt-ltb a (bytes_end s.map) high in
     simp (a1, a2, a3, a4)
 
-location_in_stack : (s : State) (a : ℕ) → length s.code ≤ most_words s.map → stack_start s.map ≤ a → a < stack_end s.map → location_of s a ≡ Some (InStack (a - stack_start s.map))
+location_in_stack : (s : MachineState) (a : ℕ) → length s.code ≤ most_words s.map → stack_start s.map ≤ a → a < stack_end s.map → location_of s a ≡ Some (InStack (a - stack_start s.map))
 unfolding location_of
 location_in_stack s a short low high =
     let ends = code_ends s.map (length s.code) short in
@@ -56,30 +56,30 @@ part_inside m a n k (inl (low, high)) lt = inl (omega (arith, low), omega (arith
 part_inside m a n k (inr (low, high)) lt = inr (omega (arith, low), omega (arith, high, lt))
 
 -- a byte
-pub byte_is : (s : State) (a : ℕ) → length s.code ≤ most_words s.map → AreInside s.map a 1 → byte_at s a ≡ memory_of s.map s.bytes s.stack a
+pub byte_is : (s : MachineState) (a : ℕ) → length s.code ≤ most_words s.map → AreInside s.map a 1 → byte_at s a ≡ memory_of s.map s.bytes s.stack a
 unfolding byte_at
 byte_is s a short (inl (low, high)) =
     let apart = (map_facts s.map).apart in
     ap (byte_of_location s) (location_in_bytes s a short low (omega (arith, high))) ∙ sym (in_bytes s.map s.bytes s.stack a low (omega (arith, high, apart)))
 byte_is s a short (inr (low, high)) = ap (byte_of_location s) (location_in_stack s a short low (omega (arith, high))) ∙ sym (in_stack s.map s.bytes s.stack a low)
 
-byte_behind : (s : State) (a n k : ℕ) → length s.code ≤ most_words s.map → AreInside s.map a n → k < n → byte_at s (word (a + k)) ≡ memory_of s.map s.bytes s.stack (a + k)
+byte_behind : (s : MachineState) (a n k : ℕ) → length s.code ≤ most_words s.map → AreInside s.map a n → k < n → byte_at s (word (a + k)) ≡ memory_of s.map s.bytes s.stack (a + k)
 byte_behind s a n k short inside lt =
     let fits = inside_fits s.map a n inside in
     let same : word (a + k) ≡ a + k = omega (arith, fits, lt) in
     ap (byte_at s) same ∙ byte_is s (a + k) short (part_inside s.map a n k inside lt)
 
-first_byte : (s : State) (a n : ℕ) → length s.code ≤ most_words s.map → AreInside s.map a n → 1 ≤ n → byte_at s a ≡ memory_of s.map s.bytes s.stack a
+first_byte : (s : MachineState) (a n : ℕ) → length s.code ≤ most_words s.map → AreInside s.map a n → 1 ≤ n → byte_at s a ≡ memory_of s.map s.bytes s.stack a
 first_byte s a n short (inl (low, high)) lt = byte_is s a short (inl (low, omega (arith, high, lt)))
 first_byte s a n short (inr (low, high)) lt = byte_is s a short (inr (low, omega (arith, high, lt)))
 
 -- a halfword
-half_is : (s : State) (a : ℕ) → length s.code ≤ most_words s.map → AreInside s.map a 2 → memory_half s a ≡ half_at (memory_of s.map s.bytes s.stack) a
+half_is : (s : MachineState) (a : ℕ) → length s.code ≤ most_words s.map → AreInside s.map a 2 → memory_half s a ≡ half_at (memory_of s.map s.bytes s.stack) a
 half_is s a short inside =
     ap (λ b. b + byte_at s (word (a + 1)) * 256) (first_byte s a 2 short inside (omega arith)) ∙ ap (λ b. memory_of s.map s.bytes s.stack a + b * 256) (byte_behind s a 2 1 short inside (omega arith))
 
 -- a word
-word_is : (s : State) (a : ℕ) → length s.code ≤ most_words s.map → AreInside s.map a 4 → memory_word s a ≡ word_at (memory_of s.map s.bytes s.stack) a
+word_is : (s : MachineState) (a : ℕ) → length s.code ≤ most_words s.map → AreInside s.map a 4 → memory_word s a ≡ word_at (memory_of s.map s.bytes s.stack) a
 unfolding memory_word
 word_is s a short inside =
     let f = memory_of s.map s.bytes s.stack in
@@ -94,7 +94,7 @@ word_is s a short inside =
     joined w x y z w' x' y' z' b0 b1 b2 b3 = omega (arith, b0, b1, b2, b3)
 
 -- an element of any type
-pub element_is : (s : State) (base : IntegerType) (stars a : ℕ) → length s.code ≤ most_words s.map → AreInside s.map a (size_by_stars base stars) → element_word s (element_by_stars base stars) a ≡ bits_at (memory_of s.map s.bytes s.stack) (size_by_stars base stars) a
+pub element_is : (s : MachineState) (base : IntegerType) (stars a : ℕ) → length s.code ≤ most_words s.map → AreInside s.map a (size_by_stars base stars) → element_word s (element_by_stars base stars) a ≡ bits_at (memory_of s.map s.bytes s.stack) (size_by_stars base stars) a
 element_is s Char zero a short inside = byte_is s a short inside
 element_is s SignedChar zero a short inside = byte_is s a short inside
 element_is s UnsignedChar zero a short inside = byte_is s a short inside
@@ -107,7 +107,7 @@ element_is s UnsignedLong zero a short inside = word_is s a short inside
 element_is s base (suc stars) a short inside = word_is s a short inside
 
 -- a word of the stack, from the offset of its address in the stack on
-pub stack_word_is : (s : State) (a : ℕ) → stack_start s.map ≤ a → word_in s.stack (a - stack_start s.map) ≡ word_at (memory_of s.map s.bytes s.stack) a
+pub stack_word_is : (s : MachineState) (a : ℕ) → stack_start s.map ≤ a → word_in s.stack (a - stack_start s.map) ≡ word_at (memory_of s.map s.bytes s.stack) a
 unfolding word_in
 stack_word_is s a low =
     let f = memory_of s.map s.bytes s.stack in

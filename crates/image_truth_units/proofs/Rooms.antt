@@ -10,7 +10,7 @@ use Rattle.c_tree.specs.declared.object_type.Scalar.{Scalar}
 use Rattle.c_tree.specs.declared.object_type.ObjectType.{ObjectType}
 use Rattle.c_tree.specs.declared.object_type.ObjectType.TheVariants as of-object
 use Rattle.c_tree.specs.Programs.{AutomaticTree, LiteralTree, ProgramTree}
-use Rattle.c_type_rules.specs.Integers.{size, scalar_size, object_size, room}
+use Rattle.c_type_rules.specs.Integers.{integer_size, scalar_size, object_size, room}
 use Rattle.c_type_bounds.specs.Bounds.{kept_room, variables_of}
 use Rattle.c_type_laws.specs.Objects.{is_kept_array}
 use Rattle.graph_core.specs.Bounds.{most_words}
@@ -22,7 +22,7 @@ use Rattle.graph_build_laws.proofs.Homes.{dropped_at, taken_at}
 use Rattle.base_laws.proofs.Options.{some_same}
 
 -- a scalar has a word at most
-small_integer : (t : IntegerType) → size t ≤ 4
+small_integer : (t : IntegerType) → integer_size t ≤ 4
 small_integer Char = omega arith
 small_integer SignedChar = omega arith
 small_integer UnsignedChar = omega arith
@@ -36,7 +36,7 @@ small_integer UnsignedLong = omega arith
 small_scalar : (s : Scalar) → scalar_size s ≤ 4
 small_scalar s = go (s.stars == 0)
   where
-    go : (b : Bool) → (if b then size s.base else 4) ≤ 4
+    go : (b : Bool) → (if b then integer_size s.base else 4) ≤ 4
     go true = small_integer s.base
     go false = omega arith
 

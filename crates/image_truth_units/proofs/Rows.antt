@@ -10,7 +10,7 @@ use Rattle.c_meaning_values.specs.Memory.{Memory, Object, contents}
 use Rattle.image_form.specs.Form.{Form}
 use Rattle.image_form.specs.declared.verdicts.Verdict.{Verdict}
 use Rattle.image_form.specs.declared.verdicts.Verdict.TheVariants.{Home, Recovered, Noncurrent, Nonresident}
-use Rattle.rv_machine.specs.State.{State}
+use Rattle.rv_machine.specs.State.{MachineState}
 use Rattle.stop_engine_view.specs.Values.{held_text}
 use Rattle.image_truth_units.specs.Texts.{IsObjectText}
 use Rattle.image_truth_units.specs.Variables.{automatic_number, HasVariablesOf}
@@ -19,7 +19,7 @@ use Rattle.image_truth_units.specs.Rows.{IsShown, IsKeptBy}
 use Rattle.image_truth_units.proofs.Contents.{contents_are}
 use Rattle.image_truth_units.proofs.Shown.{static_shown, automatic_shown, home_shown, recipe_shown}
 
-module _ (p : ProgramTree) (m : Form) (tables : HasVariablesOf p m) (memory : Memory) (here : Standing) (waiting : List Standing) (s : State) (h : HoldsMemory p m memory here waiting s)
+module _ (p : ProgramTree) (m : Form) (tables : HasVariablesOf p m) (memory : Memory) (here : Standing) (waiting : List Standing) (s : MachineState) (h : HoldsMemory p m memory here waiting s)
     (differ : (j k : ℕ) (q r : Object) → slice_get memory j ≡ Some q → slice_get memory k ≡ Some r → q.phase ≢ Ended → r.phase ≢ Ended → q.owner ≡ r.owner → j ≡ k) where
   -- The text of a static variable is that of what it holds.
   pub static_is_shown : (n k : ℕ) (t : StaticTree) (o : Object) → slice_get p.statics n ≡ Some t → slice_get memory k ≡ Some o → o.owner ≡ Static n → o.phase ≡ Live → IsObjectText p memory t.of (contents (Static n) memory) (held_text m s here.place n)

@@ -14,13 +14,13 @@ use Rattle.c_meaning_values.specs.declared.value.Phase.TheVariants.{Live}
 use Rattle.c_meaning_values.specs.Types as c
 use Rattle.c_meaning_values.specs.Types.{scalar_size}
 use Rattle.c_meaning_values.specs.Memory.{Memory, Object}
-use Rattle.image_build_tables.specs.Variables.{element_by_stars, element_of, count_of}
+use Rattle.image_build_tables.specs.Variables.{element_by_stars, element_of_object, element_count}
 use Rattle.image_form.specs.Form.{Form}
 use Rattle.image_form.specs.declared.variables.Storage.{Storage}
 use Rattle.image_form.specs.declared.variables.Storage.TheVariants as kept
 use Rattle.image_form.specs.declared.variables.Variable.{Variable}
-use Rattle.rv_machine.specs.State.{State, reg, word}
-use Rattle.stop_engine_view.specs.Pointers.{object_size}
+use Rattle.rv_machine.specs.State.{MachineState, reg, word}
+use Rattle.stop_engine_view.specs.Pointers.{variable_size}
 use Rattle.stop_engine_view.specs.Recipes.{recipe_value}
 use Rattle.stop_engine_view.specs.Values.{word_text, memory_text, stored_text, variable_text, held_text, recovered_text, recipe_levels}
 use Rattle.stop_engine_view.specs.Words.{element_size, home_word}
@@ -31,7 +31,7 @@ use Rattle.image_truth_units.proofs.Values.{size_same, word_shown}
 use Rattle.image_truth_units.proofs.Objects.{object_shown}
 
 -- what a variable's bytes are by its type
-pub size_of : (of : ObjectType) (v : Variable) → v.element ≡ element_of of → v.count ≡ count_of of → HasElements of → object_size v ≡ c.count_of of * scalar_size (c.element_of of)
+pub size_of : (of : ObjectType) (v : Variable) → v.element ≡ element_of_object of → v.count ≡ element_count of → HasElements of → variable_size v ≡ c.value_count of * scalar_size (c.element_scalar of)
 size_of (type.Scalar e) v element_is count_is some =
     let test : (v.count == 0) ≡ true = ap (λ k. k == 0) count_is in
     ap (λ b. (if b then 1 else v.count) * element_size v.element) test ∙ ap (λ k. 1 * k) (ap element_size element_is ∙ size_same e.base e.stars)
@@ -39,13 +39,13 @@ size_of (type.Array e count) v element_is count_is some =
     let test : (v.count == 0) ≡ false = grind (arith, nat_tests, count_is, some) in
     ap (λ b. (if b then 1 else v.count) * element_size v.element) test ∙ ap (λ k. k * element_size v.element) count_is ∙ ap (λ k. count * k) (ap element_size element_is ∙ size_same e.base e.stars)
 
-module _ (p : ProgramTree) (m : Form) (tables : HasVariablesOf p m) (memory : Memory) (here : Standing) (waiting : List Standing) (s : State) (h : HoldsMemory p m memory here waiting s) where
+module _ (p : ProgramTree) (m : Form) (tables : HasVariablesOf p m) (memory : Memory) (here : Standing) (waiting : List Standing) (s : MachineState) (h : HoldsMemory p m memory here waiting s) where
   -- the text of what stands at the address of an object, where it has its owner's type
-  stored_shown : (n : ℕ) (o : Object) → slice_get memory n ≡ Some o → (stands : StandsInMemory p m (here ∷ waiting) memory s o) → (of : ObjectType) (v : Variable) → o.element ≡ c.element_of of → length o.values ≡ c.count_of of → HasElements of → v.element ≡ element_of of → v.count ≡ count_of of
-      → stands.bytes ≡ object_size v → IsObjectText p memory of o.values (memory_text m s here.place v stands.start)
+  stored_shown : (n : ℕ) (o : Object) → slice_get memory n ≡ Some o → (stands : StandsInMemory p m (here ∷ waiting) memory s o) → (of : ObjectType) (v : Variable) → o.element ≡ c.element_scalar of → length o.values ≡ c.value_count of → HasElements of → v.element ≡ element_of_object of → v.count ≡ element_count of
+      → stands.bytes ≡ variable_size v → IsObjectText p memory of o.values (memory_text m s here.place v stands.start)
   stored_shown n o is stands of v typed counted some element_is count_is size =
       let fits = h.inside o.owner stands.start stands.bytes stands.area in
-      let whole : stands.bytes ≡ length o.values * scalar_size o.element = size ∙ size_of of v element_is count_is some ∙ sym (ap (λ k. k * scalar_size o.element) counted ∙ ap (λ (e : Scalar). c.count_of of * scalar_size e) typed) in
+      let whole : stands.bytes ≡ length o.values * scalar_size o.element = size ∙ size_of of v element_is count_is some ∙ sym (ap (λ k. k * scalar_size o.element) counted ∙ ap (λ (e : Scalar). c.value_count of * scalar_size e) typed) in
       object_shown p m tables memory here waiting s h n o is stands.start (omega (arith, fits, whole)) stands.values of v typed counted some element_is count_is
 
   -- a variable of an image, by what its storage is
@@ -65,7 +65,7 @@ module _ (p : ProgramTree) (m : Form) (tables : HasVariablesOf p m) (memory : Me
       let same : area.1.variable ≡ named.variable = same_Some area.1.variable named.variable (sym area.1.is ∙ named.is) in
       let stored : named.variable.storage ≡ kept.Static stands.start = ap (λ (v : Variable). v.storage) (sym same) ∙ area.1.storage in
       subst (IsObjectText p memory t.of o.values) (sym (held_is n named.variable (kept.Static stands.start) named.is stored))
-      (stored_shown k o is stands t.of named.variable (type_is.2 ∙ ap (λ (v : StaticTree). c.element_of v.of) tree) (type_is.3 ∙ ap (λ (v : StaticTree). c.count_of v.of) tree) named.some named.element named.count (area.1.size ∙ ap object_size same))
+      (stored_shown k o is stands t.of named.variable (type_is.2 ∙ ap (λ (v : StaticTree). c.element_scalar v.of) tree) (type_is.3 ∙ ap (λ (v : StaticTree). c.value_count v.of) tree) named.some named.element named.count (area.1.size ∙ ap variable_size same))
 
   -- ---- Automatic variables in memory
 
@@ -87,7 +87,7 @@ module _ (p : ProgramTree) (m : Form) (tables : HasVariablesOf p m) (memory : Me
       let starts : stands.start ≡ reg s 2 + area.offset = area.starts ∙ ap (λ (b : Standing). b.frame + area.offset) (sym innermost) ∙ ap (λ f. f + area.offset) h.frame in
       let address : stands.start ≡ word (reg s 2 + area.offset) = omega (arith, fits, starts) in
       subst (IsObjectText p memory a.of o.values) (sym (held_is (automatic_number p x) named.variable (kept.Frame area.offset) named.is stored ∙ ap (memory_text m s here.place named.variable) (sym address)))
-      (stored_shown k o is stands a.of named.variable (type_is.2 ∙ ap (λ (v : AutomaticTree). c.element_of v.of) tree) (type_is.3 ∙ ap (λ (v : AutomaticTree). c.count_of v.of) tree) named.some named.element named.count (area.size ∙ ap object_size same))
+      (stored_shown k o is stands a.of named.variable (type_is.2 ∙ ap (λ (v : AutomaticTree). c.element_scalar v.of) tree) (type_is.3 ∙ ap (λ (v : AutomaticTree). c.value_count v.of) tree) named.some named.element named.count (area.size ∙ ap variable_size same))
 
   -- ---- Variables in homes
 
@@ -103,14 +103,14 @@ module _ (p : ProgramTree) (m : Form) (tables : HasVariablesOf p m) (memory : Me
 
   -- the text of a word of the value of a scalar variable is that of what its object holds
   word_is : (x k : ℕ) (a : AutomaticTree) (e : Scalar) (o : Object) (deep : ℕ) (value : source.Value) (w : ℕ) → slice_get p.automatics x ≡ Some a → a.of ≡ type.Scalar e → slice_get memory k ≡ Some o → o.owner ≡ OfVariable x deep → o.values ≡ value ∷ [] → IsWordOf p m (here ∷ waiting) memory value w
-      → (v : Variable) → v.element ≡ element_of a.of → IsObjectText p memory a.of o.values (word_text m s here.place v.element w)
+      → (v : Variable) → v.element ≡ element_of_object a.of → IsObjectText p memory a.of o.values (word_text m s here.place v.element w)
   word_is x k a e o deep value w declared scalar is owner holds means v element_is =
       let type_is = subst (λ q. IsDeclared p q o) owner (h.declared k o is) in
       let tree : type_is.0 ≡ a = same_Some type_is.0 a (sym type_is.1 ∙ declared) in
-      let of : o.element ≡ e = type_is.2 ∙ ap (λ (v : AutomaticTree). c.element_of v.of) tree ∙ ap c.element_of scalar in
+      let of : o.element ≡ e = type_is.2 ∙ ap (λ (v : AutomaticTree). c.element_scalar v.of) tree ∙ ap c.element_scalar scalar in
       let typed = h.typed k 0 o value is (ap (λ l. slice_get l 0) holds) in
       let text = word_shown p m tables memory here waiting s h o.element.base o.element.stars value w typed means in
-      let element_same : v.element ≡ element_by_stars o.element.base o.element.stars = element_is ∙ ap element_of scalar ∙ ap (λ (e : Scalar). element_by_stars e.base e.stars) (sym of) in
+      let element_same : v.element ≡ element_by_stars o.element.base o.element.stars = element_is ∙ ap element_of_object scalar ∙ ap (λ (e : Scalar). element_by_stars e.base e.stars) (sym of) in
       subst (λ of. IsObjectText p memory of o.values (word_text m s here.place v.element w)) (sym scalar)
       (subst (λ vs. IsObjectText p memory (type.Scalar e) vs (word_text m s here.place v.element w)) (sym holds)
       (subst (λ t. IsText p memory value (word_text m s here.place t w)) (sym element_same) text))

@@ -6,7 +6,7 @@ use Rattle.graph_core.specs.Graphs as unit
 use Rattle.graph_core.specs.Graphs.{Operand, Location, Instruction, Marker, Note, Move, Operate, Truncate, Same, Address, Load, Store, Zero, CopyWords, Call, End, Block}
 use Rattle.graph_core.specs.Uses.{names_of, names_of_all, names_of_location, names_of_some, reads_of, target_of, is_computation}
 use Rattle.graph_core.specs.Paths.{is_marker, is_call, notes, writes}
-use Rattle.graph_build_steps.specs.Drafts.{Made, closed, label_of}
+use Rattle.graph_build_steps.specs.Drafts.{Made, with_inner_block, label_of}
 use Rattle.graph_build_laws.specs.Passing.{Grows}
 use Rattle.graph_build_laws.specs.Points.{AtLabel, StandIn}
 use Rattle.graph_build_laws.proofs.Instances.{got_before, got_next}
@@ -14,10 +14,10 @@ use Rattle.image_truth_units.proofs.Rules.{stands, lies, NoneStands, SomeClear, 
 use Rattle.base_laws.proofs.Options.{some_same}
 
 module _ (blocks : List Block) (top : ℕ) where
-  pub closed_before : (place : ℕ) (m : Made) → StandIn blocks top (closed place m) → StandIn blocks top m.inner
+  pub closed_before : (place : ℕ) (m : Made) → StandIn blocks top (with_inner_block place m) → StandIn blocks top m.inner
   closed_before place m st k b e = st k b (got_before m.inner (record { place = Some place; instructions = m.ops; end = m.end } ∷ []) k b e)
 
-  pub closed_at : (G : List Instruction → End → Type 0) (place : ℕ) (m : Made) → StandIn blocks top (closed place m) → G m.ops m.end → AtLabel blocks G (label_of top m)
+  pub closed_at : (G : List Instruction → End → Type 0) (place : ℕ) (m : Made) → StandIn blocks top (with_inner_block place m) → G m.ops m.end → AtLabel blocks G (label_of top m)
   closed_at G place m st h b e =
       let it : Block = record { place = Some place; instructions = m.ops; end = m.end } in
       let there : slice_get blocks (label_of top m) ≡ Some it = st (length m.inner) it (got_next m.inner it) in

@@ -5,14 +5,14 @@ use Rattle.c_tree.specs.TypedStatements as statement
 use Rattle.c_tree.specs.TypedStatements.{DeclaredTree, TypedStartTree, Nothing, Value, Declares, TypedStatementTree, Block, Declaration, Empty, Run, If, IfElse, While, DoWhile, For, Switch, Break, Continue, Return, TypedStatementTrees, case, default}
 use Rattle.c_tree.specs.Programs.{TypedFunctionTree}
 use Rattle.c_places.specs.declared.flow.Exits.{Exits}
-use Rattle.c_places.specs.Flow.{onwards, behind, exits_of, exits_of_all, reaches_end}
-use Rattle.c_flow.specs.Flow.{start, start_of_all, start_of_declarators, start_of_for, ways_of_body}
+use Rattle.c_places.specs.Flow.{onwards, exits_behind, exits_of, exits_of_all, reaches_end}
+use Rattle.c_flow.specs.Flow.{start_place, start_of_all, start_of_declarators, start_of_for, ways_of_body}
 
 behind_by : (b : Bool) (x e : Exits) → b ≡ true → x.next ≡ true → (if b then x else e).next ≡ true
 behind_by true x e h k = k
 behind_by false x e h k = cc
 
-behind_next : (e f : Exits) → e.next ≡ true → f.next ≡ true → (behind e f).next ≡ true
+behind_next : (e f : Exits) → e.next ≡ true → f.next ≡ true → (exits_behind e f).next ≡ true
 behind_next e f h k = behind_by e.next (record { next = f.next; breaks = e.breaks || f.breaks; continues = e.continues || f.continues }) e h k
 
 -- declarators without one begin where what follows does
@@ -27,7 +27,7 @@ for_some (Declares all) head h = let none = declarators_none all (Some head) h i
 
 mutual
   -- A statement without a place leads to what follows it.
-  start_none : (s : TypedStatementTree) (next : Option ℕ) → start s next ≡ None → ((exits_of s).next ≡ true) × (next ≡ None)
+  start_none : (s : TypedStatementTree) (next : Option ℕ) → start_place s next ≡ None → ((exits_of s).next ≡ true) × (next ≡ None)
   start_none (Block all) next h = starts_none all onwards refl next h
   start_none (Declaration all) next h = (refl, declarators_none all next h)
   start_none (Empty spot) next h = cc
@@ -44,7 +44,7 @@ mutual
 
   starts_none : (all : TypedStatementTrees) (e : Exits) → e.next ≡ true → (next : Option ℕ) → start_of_all all next ≡ None → ((exits_of_all e all).next ≡ true) × (next ≡ None)
   starts_none statement.none e k next h = (k, h)
-  starts_none (statement.first s rest) e k next h = (let one = start_none s (start_of_all rest next) h in starts_none rest (behind e (exits_of s)) (behind_next e (exits_of s) k one.0) next one.1)
+  starts_none (statement.first s rest) e k next h = (let one = start_none s (start_of_all rest next) h in starts_none rest (exits_behind e (exits_of s)) (behind_next e (exits_of s) k one.0) next one.1)
   starts_none (case z rest) e k next h = starts_none rest (record { next = true; breaks = e.breaks; continues = e.continues }) refl next h
   starts_none (default rest) e k next h = starts_none rest (record { next = true; breaks = e.breaks; continues = e.continues }) refl next h
 

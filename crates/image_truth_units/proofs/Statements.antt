@@ -13,20 +13,20 @@ use Rattle.c_type_rules.specs.Integers.{scalar_size}
 use Rattle.c_flow.specs.declared.assigned.Assigned.{Assigned}
 use Rattle.c_flow.specs.declared.edge.Edge.{Edge}
 use Rattle.c_flow.specs.declared.edge.Ways.{Ways}
-use Rattle.c_flow.specs.Assigns.{assigns_object, assigned, assigned_by_values, assigned_by_initial, assigned_by_option, assigned_by_declarators, assigned_by_start, assigned_by_step, assigned_by, assigned_by_statements}
-use Rattle.c_flow.specs.Flow.{edge, start, start_of_all, start_of_declarators, flow_of_declarators, flow_of_start, round_of, flow_of_step, flow_out, flow_to_labels, flow_past, within_loop, within_switch, before as with_rest, flow_of, flow_of_all}
+use Rattle.c_flow.specs.Assigns.{assigns_object, assigned_objects, assigned_by_values, assigned_by_initial, assigned_by_option, assigned_by_declarators, assigned_by_start, assigned_by_step, assigned_by, assigned_by_statements}
+use Rattle.c_flow.specs.Flow.{edge, start_place, start_of_all, start_of_declarators, flow_of_declarators, flow_of_start, round_of, flow_of_step, flow_out, flow_to_labels, flow_past, within_loop, within_switch, ways_before as with_rest, flow_of, flow_of_all}
 use Rattle.graph_core.specs.declared.block.Comparison.TheVariants as branch
 use Rattle.graph_core.specs.Graphs as unit
 use Rattle.graph_core.specs.Graphs.{Operand, Automatic, Store, CopyWords}
 use Rattle.graph_core.specs.Paths.{Among, front, behind}
-use Rattle.graph_build_names.specs.Conversions.{word_of}
+use Rattle.graph_build_names.specs.Conversions.{unsigned_bits}
 use Rattle.graph_build_layout.specs.declared.laid.Use.TheVariants.{Anywhere, Tested}
 use Rattle.graph_build_layout.specs.declared.laid.Use.TheVariants as use-of
 use Rattle.graph_build_names.specs.Names.{scalar_of, object_of, pick}
 use Rattle.graph_build_names.specs.Writes.{writes}
 use Rattle.graph_build_layout.specs.Layout.{laid}
 use Rattle.graph_build_steps.specs.Rules.{element_of}
-use Rattle.graph_build_steps.specs.Drafts.{Made, Goal, To, Unused, Either, use_of, before, ending, note, closed, label_of}
+use Rattle.graph_build_steps.specs.Drafts.{Made, Goal, To, Unused, Either, use_of, instruction_before, ending, note, with_inner_block, label_of}
 use Rattle.graph_build_steps.specs.Steps.{or_zero}
 use Rattle.graph_build_code.specs.Code.{code}
 use Rattle.graph_build_statements.specs.Coding.{Coding, Part, place_of, block_of, begun, going, label_for, with_end, placed_at, coded}
@@ -106,7 +106,7 @@ module _ (x : Marks) where
   parts xs ys h = (λ e a. h e (among_front e xs ys a), λ e a. h e (among_back e xs ys a))
 
   -- an expression may write what it does
-  may_code : (at : ℕ) (e : RvalueTree) → MayAll (assigned at e) → (y : ℕ) → writes c.names y e ≡ true → x.may (place_of c at) y
+  may_code : (at : ℕ) (e : RvalueTree) → MayAll (assigned_objects at e) → (y : ℕ) → writes c.names y e ≡ true → x.may (place_of c at) y
   may_code at e h y w = let r = writes_is c.names at y e w in h (assigns_object at (object.Automatic r.variable)) r.among r.variable y refl r.name
 
   -- the property holds of each block of a part that is a place's
@@ -128,10 +128,10 @@ module _ (x : Marks) where
   begun_from : (t : ℕ) → From t → From (begun c t)
   begun_from t le = Rattle.graph_build_laws.proofs.Temporaries.pick_least c.names c.scalars c.scalars t (omega arith) le
 
-  code_at : (at : ℕ) (e : RvalueTree) (t : ℕ) (g : Goal) → From t → MayAll (assigned at e) → ForGoal (marking at) (laid c.names e (use_of g) t).value g → M at (code c.names (place_of c at) c.top e t g)
+  code_at : (at : ℕ) (e : RvalueTree) (t : ℕ) (g : Goal) → From t → MayAll (assigned_objects at e) → ForGoal (marking at) (laid c.names e (use_of g) t).value g → M at (code c.names (place_of c at) c.top e t g)
   code_at at e t g le may k = code_has (marking at) e t g le (may_code at e may) k
 
-  coded_at : (at : ℕ) (e : RvalueTree) (t : ℕ) (g : Goal) → From t → MayAll (assigned at e) → ForGoal (marking at) (laid c.names e (use_of g) (begun c t)).value g → M at (coded c at e t g)
+  coded_at : (at : ℕ) (e : RvalueTree) (t : ℕ) (g : Goal) → From t → MayAll (assigned_objects at e) → ForGoal (marking at) (laid c.names e (use_of g) (begun c t)).value g → M at (coded c at e t g)
   coded_at at e t g le may k = code_at at e (begun c t) g (begun_from t le) may k
 
   pub going_has : (at : ℕ) (next : Option ℕ) (inner : List unit.Block) → HoldAlong (edge at next) → x.Stand inner → M at (going c next inner)
@@ -164,7 +164,7 @@ module _ (x : Marks) where
         )),
   )
 
-  run_adds : (at : ℕ) (e : RvalueTree) (t : ℕ) (next : Option ℕ) (part : Part) → From t → MayAll (assigned at e) → HoldAlong (edge at next) → Adds (add_run c at e t next part) part
+  run_adds : (at : ℕ) (e : RvalueTree) (t : ℕ) (next : Option ℕ) (part : Part) → From t → MayAll (assigned_objects at e) → HoldAlong (edge at next) → Adds (add_run c at e t next part) part
   run_adds at e t next part le may h =
       let go = going c next part.inner in
       place_adds at (coded c at e t (Unused go)) part (grows_on part.inner go.inner (coded c at e t (Unused go)).inner (going_grows c next part.inner) (code_grows c at e (begun c t) (Unused go)))
@@ -173,7 +173,7 @@ module _ (x : Marks) where
   going_adds : (at : ℕ) (next : Option ℕ) (part : Part) → HoldAlong (edge at next) → Adds (add_going c at next part) part
   going_adds at next part h = place_adds at (going c next part.inner) part (going_grows c next part.inner) (going_has at next part.inner h)
 
-  branching_adds : (at : ℕ) (e : RvalueTree) (t : ℕ) (one other : Option ℕ) (part : Part) → From t → MayAll (assigned at e) → HoldAlong (edge at one) → HoldAlong (edge at other) → Adds (add_branching c at e t one other part) part
+  branching_adds : (at : ℕ) (e : RvalueTree) (t : ℕ) (one other : Option ℕ) (part : Part) → From t → MayAll (assigned_objects at e) → HoldAlong (edge at one) → HoldAlong (edge at other) → Adds (add_branching c at e t one other part) part
   branching_adds at e t one other part le may h k =
       let ends = with_end c at other part.inner in
       let all = with_end c at one ends in
@@ -185,11 +185,11 @@ module _ (x : Marks) where
   cleared_has : (at object bytes covered : ℕ) (m : Made) → M at m → M at (cleared object bytes covered m)
   cleared_has at object bytes covered m k = go (nat_le (words_of bytes) covered)
     where
-      go : (b : Bool) → M at (if b then m else before (unit.Zero object (words_of bytes)) m)
+      go : (b : Bool) → M at (if b then m else instruction_before (unit.Zero object (words_of bytes)) m)
       go true = k
       go false = (x.rules (P at)).zero object (words_of bytes) m k
 
-  bare_may : (at : ℕ) (e : RvalueTree) → MayAll (assigned at e) → MayAll (assigned at (bare e))
+  bare_may : (at : ℕ) (e : RvalueTree) → MayAll (assigned_objects at e) → MayAll (assigned_objects at (bare e))
   bare_may at (expression.Convert t e) h = h
   bare_may at (expression.Constant z t) h = h
   bare_may at expression.Null h = h
@@ -224,16 +224,16 @@ module _ (x : Marks) where
       let up = laid_behind c.names (bare e) Anywhere t in
       let from : From next = Rattle.graph_build_laws.proofs.Temporaries.pick_least c.names c.scalars t r.top le (omega (arith, le, up.0, up.1)) in
       let rest = store_elements c at s object (index + 1) more next m in
-      let both = may_parts (assigned at e) (assigned_by_values at more) may in
+      let both = may_parts (assigned_objects at e) (assigned_by_values at more) may in
       let place = Automatic object (index * scalar_size s) in
-      code_at at (bare e) t (To None (before (Store (element_of s) place r.value) rest)) le (bare_may at e both.0)
+      code_at at (bare e) t (To None (instruction_before (Store (element_of s) place r.value) rest)) le (bare_may at e both.0)
       (λ v. (x.rules (P at)).store None (element_of s) place r.value rest (refl, v) (elements_have at s object (index + 1) more next m from both.1 k))
 
   single_has : (at object : ℕ) (s : Scalar) (i : InitialTree) (t : ℕ) (m : Made) → From t → MayAll (assigned_by_initial at i) → M at m → M at (declare_single c at object s i t m)
   single_has at object s Zero t m le may k = (x.rules (P at)).store None (element_of s) (Automatic object 0) (unit.Constant 0) m (refl, refl) k
   single_has at object s (scalar-initial e) t m le may k =
       let a = (laid c.names e Anywhere (begun c t)).value in
-      coded_at at e t (To None (before (Store (element_of s) (Automatic object 0) a) m)) le may (λ v. (x.rules (P at)).store None (element_of s) (Automatic object 0) a m (refl, v) k)
+      coded_at at e t (To None (instruction_before (Store (element_of s) (Automatic object 0) a) m)) le may (λ v. (x.rules (P at)).store None (element_of s) (Automatic object 0) a m (refl, v) k)
   single_has at object s (Elements all) t m le may k = cleared_has at object (scalar_size s) 0 m k
   single_has at object s (Literal j) t m le may k = cleared_has at object (scalar_size s) 0 m k
 
@@ -241,7 +241,7 @@ module _ (x : Marks) where
   array_has at object s bytes (Elements all) t m le may k =
       let rest = store_elements c at s object 0 all (begun c t) m in cleared_has at object bytes 0 rest (elements_have at s object 0 all (begun c t) m (begun_from t le) may k)
   array_has at object s bytes (Literal j) t m le may k =
-      let rest = before (CopyWords object j (copied_words c j bytes)) m in
+      let rest = instruction_before (CopyWords object j (copied_words c j bytes)) m in
       cleared_has at object bytes (copied_words c j bytes) rest ((x.rules (P at)).copy object j (copied_words c j bytes) m k)
   array_has at object s bytes Zero t m le may k = cleared_has at object bytes 0 m k
   array_has at object s bytes (scalar-initial e) t m le may k = cleared_has at object bytes 0 m k
@@ -250,7 +250,7 @@ module _ (x : Marks) where
   kept_has at object (of-object.Scalar s) i t m le may k = single_has at object s i t m le may k
   kept_has at object (of-object.Array s count) i t m le may k = array_has at object s (scalar_size s * count) i t m le may k
 
-  moved_note : (at y : ℕ) (m : Made) → x.may (P at) y → M at m → M at (before (unit.Move y (unit.Constant 0)) (note y m))
+  moved_note : (at y : ℕ) (m : Made) → x.may (P at) y → M at m → M at (instruction_before (unit.Move y (unit.Constant 0)) (note y m))
   moved_note at y m may k = (x.rules (P at)).write (unit.Move y (unit.Constant 0)) y (note y m) refl refl refl (λ o. (x.rules (P at)).noted y m may k)
 
   scalar_has : (at y : ℕ) (i : InitialTree) (t : ℕ) (m : Made) → From t → x.may (P at) y → MayAll (assigned_by_initial at i) → M at m → M at (declare_scalar c at y i t m)
@@ -332,7 +332,7 @@ module _ (x : Marks) where
       let ends = with_end c at to inner in
       let m = tests c at a rest next other ends in
       let has = tests_have at a s rest next other ends l.1 k (end_stands at to inner st) in
-      (x.rules (P at)).branch branch.Equal a (unit.Constant (word_of z)) (label_for c to inner) (label_of c.top m) (closed (P at) m) s refl
+      (x.rules (P at)).branch branch.Equal a (unit.Constant (unsigned_bits z)) (label_for c to inner) (label_of c.top m) (with_inner_block (P at) m) s refl
       ((x.rules (P at)).keep m (label_for c to inner) ends (tests_grow c at a rest next other ends) has (end_leads at to inner st l.0)) ((x.rules (P at)).close m has)
 
   -- where `default` leads is a step of the flow
@@ -342,7 +342,7 @@ module _ (x : Marks) where
   default_of at (case z rest) next h k = default_of at rest next (parts (edge at (start_of_all rest next)) (flow_to_labels at rest next) h).1 k
   default_of at (default rest) next h k = (parts (edge at (start_of_all rest next)) (flow_to_labels at rest next) h).0
 
-  switch_adds : (at : ℕ) (e : RvalueTree) (all : TypedStatementTrees) (t : ℕ) (next : Option ℕ) (part : Part) → From t → MayAll (assigned at e) → HoldAlong (flow_to_labels at all next) → HoldAlong (flow_past at all next) → Adds (add_switch c at e all t next part) part
+  switch_adds : (at : ℕ) (e : RvalueTree) (all : TypedStatementTrees) (t : ℕ) (next : Option ℕ) (part : Part) → From t → MayAll (assigned_objects at e) → HoldAlong (flow_to_labels at all next) → HoldAlong (flow_past at all next) → Adds (add_switch c at e all t next part) part
   switch_adds at e all t next part le may h k =
       let a = (laid c.names e Anywhere (begun c t)).value in
       let other = default_start all next in
@@ -357,46 +357,46 @@ module _ (x : Marks) where
     statement_has (Empty spot) t w part le may h = going_adds spot.at w.next part h
     statement_has (Run spot e) t w part le may h = run_adds spot.at e t w.next part le may h
     statement_has (If spot e s) t w part le may h = (
-        let e1 = edge spot.at (start s w.next) in let e2 = edge spot.at w.next in
+        let e1 = edge spot.at (start_place s w.next) in let e2 = edge spot.at w.next in
         let k = parts (e1 ++ e2) (flow_of w s) h in
         let l = parts e1 e2 k.0 in
-        let a = may_parts (assigned spot.at e) (assigned_by s) may in
+        let a = may_parts (assigned_objects spot.at e) (assigned_by s) may in
         let t1 = reached c e Tested t in
         let later = add c s t1 w part in
-        adds_on (add c (If spot e s) t w part) later part (branching_adds spot.at e t (start s w.next) w.next later le a.0 l.0 l.1) (statement_has s t1 w part (omega (arith, le, reached_more c e Tested t)) a.1 k.1))
+        adds_on (add c (If spot e s) t w part) later part (branching_adds spot.at e t (start_place s w.next) w.next later le a.0 l.0 l.1) (statement_has s t1 w part (omega (arith, le, reached_more c e Tested t)) a.1 k.1))
     statement_has (IfElse spot e s r) t w part le may h = (
-        let e1 = edge spot.at (start s w.next) in let e2 = edge spot.at (start r w.next) in
+        let e1 = edge spot.at (start_place s w.next) in let e2 = edge spot.at (start_place r w.next) in
         let k = parts (e1 ++ e2 ++ flow_of w s) (flow_of w r) h in
         let l = parts (e1 ++ e2) (flow_of w s) k.0 in
         let m = parts e1 e2 l.0 in
-        let a = may_parts (assigned spot.at e ++ assigned_by s) (assigned_by r) may in
-        let b = may_parts (assigned spot.at e) (assigned_by s) a.0 in
+        let a = may_parts (assigned_objects spot.at e ++ assigned_by s) (assigned_by r) may in
+        let b = may_parts (assigned_objects spot.at e) (assigned_by s) a.0 in
         let t1 = reached c e Tested t in
         let t2 = statement_reached c s t1 in
         let from1 : From t1 = omega (arith, le, reached_more c e Tested t) in
         let from2 : From t2 = omega (arith, from1, statement_more c s t1) in
         let last = add c r t2 w part in
         let later = add c s t1 w last in
-        adds_on (add c (IfElse spot e s r) t w part) later part (branching_adds spot.at e t (start s w.next) (start r w.next) later le b.0 m.0 m.1) (adds_on later last part (statement_has s t1 w last from1 b.1 l.1) (statement_has r t2 w part from2 a.1 k.1)))
+        adds_on (add c (IfElse spot e s r) t w part) later part (branching_adds spot.at e t (start_place s w.next) (start_place r w.next) later le b.0 m.0 m.1) (adds_on later last part (statement_has s t1 w last from1 b.1 l.1) (statement_has r t2 w part from2 a.1 k.1)))
     statement_has (While spot e s) t w part le may h = (
-        let e1 = edge spot.at (start s (Some spot.at)) in let e2 = edge spot.at w.next in
+        let e1 = edge spot.at (start_place s (Some spot.at)) in let e2 = edge spot.at w.next in
         let k = parts (e1 ++ e2) (flow_of (within_loop spot.at w) s) h in
         let l = parts e1 e2 k.0 in
-        let a = may_parts (assigned spot.at e) (assigned_by s) may in
+        let a = may_parts (assigned_objects spot.at e) (assigned_by s) may in
         let t1 = reached c e Tested t in
         let later = add c s t1 (within_loop spot.at w) part in
-        adds_on (add c (While spot e s) t w part) later part (branching_adds spot.at e t (start s (Some spot.at)) w.next later le a.0 l.0 l.1) (statement_has s t1 (within_loop spot.at w) part (omega (arith, le, reached_more c e Tested t)) a.1 k.1))
+        adds_on (add c (While spot e s) t w part) later part (branching_adds spot.at e t (start_place s (Some spot.at)) w.next later le a.0 l.0 l.1) (statement_has s t1 (within_loop spot.at w) part (omega (arith, le, reached_more c e Tested t)) a.1 k.1))
     statement_has (DoWhile s spot e) t w part le may h = (
-        let e1 = edge spot.at (start s (Some spot.at)) in let e2 = edge spot.at w.next in
+        let e1 = edge spot.at (start_place s (Some spot.at)) in let e2 = edge spot.at w.next in
         let k = parts (e1 ++ e2) (flow_of (within_loop spot.at w) s) h in
         let l = parts e1 e2 k.0 in
-        let a = may_parts (assigned spot.at e) (assigned_by s) may in
+        let a = may_parts (assigned_objects spot.at e) (assigned_by s) may in
         let t1 = statement_reached c s t in
-        let later = add_branching c spot.at e t1 (start s (Some spot.at)) w.next part in
-        adds_on (add c (DoWhile s spot e) t w part) later part (statement_has s t (within_loop spot.at w) later le a.1 k.1) (branching_adds spot.at e t1 (start s (Some spot.at)) w.next part (omega (arith, le, statement_more c s t)) a.0 l.0 l.1))
+        let later = add_branching c spot.at e t1 (start_place s (Some spot.at)) w.next part in
+        adds_on (add c (DoWhile s spot e) t w part) later part (statement_has s t (within_loop spot.at w) later le a.1 k.1) (branching_adds spot.at e t1 (start_place s (Some spot.at)) w.next part (omega (arith, le, statement_more c s t)) a.0 l.0 l.1))
     statement_has (For begin spot e step s) t w part le may h = (
         let round = round_of step spot.at in
-        let inside = start s (Some round) in
+        let inside = start_place s (Some round) in
         let f = flow_of (within_loop round w) s in
         let fb = flow_of_start begin spot.at in let fi = edge spot.at inside in let fo = flow_out e spot.at w.next in let fs = flow_of_step step spot.at in
         let k = parts (fb ++ fi ++ fo ++ fs) f h in
@@ -420,7 +420,7 @@ module _ (x : Marks) where
         let fl = flow_to_labels spot.at all w.next in let fp = flow_past spot.at all w.next in
         let k = parts (fl ++ fp) (flow_of_all (within_switch w) all) h in
         let l = parts fl fp k.0 in
-        let a = may_parts (assigned spot.at e) (assigned_by_statements all) may in
+        let a = may_parts (assigned_objects spot.at e) (assigned_by_statements all) may in
         let t1 = reached c e Anywhere t in
         let later = add_all c all t1 (within_switch w) part in
         adds_on (add c (Switch spot e all) t w part) later part (switch_adds spot.at e all t w.next later le a.0 l.0 l.1) (statements_have all t1 (within_switch w) part (omega (arith, le, reached_more c e Anywhere t)) a.1 k.1))

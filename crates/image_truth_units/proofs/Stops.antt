@@ -10,7 +10,7 @@ use Rattle.image_form.specs.Form.{Form}
 use Rattle.image_form.specs.declared.verdicts.Verdict.TheVariants.{Home as AtHome}
 use Rattle.image_form.specs.declared.variables.Variable.{Variable}
 use Rattle.image_build_tables.specs.Storages.{storage_of}
-use Rattle.rv_machine.specs.State.{State, reg}
+use Rattle.rv_machine.specs.State.{MachineState, reg}
 use Rattle.stop_engine_view.specs.Words.{home_word}
 use Rattle.graph_homes.specs.declared.home.Home.{Home}
 use Rattle.graph_homes.specs.declared.home.Home.TheVariants.{Register, Slot}
@@ -37,7 +37,7 @@ home_kind slots (Register r) = tt
 home_kind slots (Slot k) = tt
 
 module _ (p : ProgramTree) (h : HomedForm) (valid : IsValid h.unit) (homed : HaveHomes h) (a : Arrangement) (e : EmittedForm) (m : Form) (count : length h.unit.statics ≡ static_count p) (keeps : KeepsObjectsOf h a m) (owners : m.owners ≡ e.owners) (outermost : slice_index e.owners 2 ≡ 0)
-    (c : Configuration) (s : State) (regions : e.map ≡ map_of_unit h.unit) (short : length s.code ≤ most_words s.map) (stands : StandsAt h e a c s) (running : IsRunning (over_homes h) c) (places : KeepsPlacesOf h a m)
+    (c : Configuration) (s : MachineState) (regions : e.map ≡ map_of_unit h.unit) (short : length s.code ≤ most_words s.map) (stands : StandsAt h e a c s) (running : IsRunning (over_homes h) c) (places : KeepsPlacesOf h a m)
     (memory : source-memory.Memory) (same : SameMemory p memory c.memory) (typed : AreTyped memory) (declared : (n : ℕ) (o : source-memory.Object) → slice_get memory n ≡ Some o → IsDeclared p o.owner o) where
   -- the word of a home whose value is a variable's is that of the variable's value
   word_of_home : (home : Home) (value : source-value.Value) (slots : ℕ) → slots ≡ (code_of h a c.here.function).storage.slots → IsHomeAmong (code_of h a c.here.function).slots home → SameValue p memory c.memory value (c.here.names (home_number home))

@@ -6,7 +6,7 @@ use Rattle.c_tree.specs.TypedExpressions.{RvalueTree, LvalueTree, ArgumentTrees,
 use Rattle.c_tree.specs.TypedStatements as statement
 use Rattle.c_tree.specs.TypedStatements.{InitialTree, Zero, Scalar, Elements, Literal, DeclaredTree, TypedStartTree, Nothing, Value, Declares, StepTree, TypedStatementTree, Block, Declaration, Empty, Run, If, IfElse, While, DoWhile, For, Switch, Break, Continue, Return, TypedStatementTrees, case, default}
 use Rattle.c_tree.specs.Programs.{AutomaticTree}
-use Rattle.c_places.specs.Memory.{named, named_if, keeps, kept_in, kept_all, kept_values, kept_initial, kept_declared, kept_start, kept_option, kept_step, kept_by, kept_by_all}
+use Rattle.c_places.specs.Memory.{with_named_variable, named_if, keeps, kept_in, kept_in_arguments, kept_values, kept_initial, kept_declared, kept_start, kept_option, kept_step, kept_by, kept_by_all}
 use Rattle.c_type_laws.specs.Laws.{is_in_memory, are_in_memory}
 use Rattle.graph_build_names.specs.Names.{Names, scalar_of}
 use Rattle.graph_build_names.specs.Writes.{writes, writes_within, writes_any, names_it, is_that}
@@ -29,7 +29,7 @@ module _ (all : List AutomaticTree) (n : Names) (outside : (v k : ℕ) → scala
   back_of [] ys h = h
   back_of (x ∷ xs) ys h = back_of xs ys (two_true (is_in_memory (slice_get all x)) (are_in_memory all (xs ++ ys)) h).1
 
-  named_before : (l : LvalueTree) (ks : List ℕ) → In (named l ks) → In ks
+  named_before : (l : LvalueTree) (ks : List ℕ) → In (with_named_variable l ks) → In ks
   named_before (Named (object.Automatic v) of) ks h = front_of ks (v ∷ []) h
   named_before (Named (object.Static i) of) ks h = h
   named_before (Named (object.Literal i) of) ks h = h
@@ -48,7 +48,7 @@ module _ (all : List AutomaticTree) (n : Names) (outside : (v k : ℕ) → scala
     before q Null ks h = h
     before q (Load s l) ks h = before_in q l ks h
     before q (Decay l) ks h = before_in q l ks h
-    before q (AddressOf l) ks h = named_before l ks (before_in q l (named l ks) h)
+    before q (AddressOf l) ks h = named_before l ks (before_in q l (with_named_variable l ks) h)
     before q (Convert t e) ks h = before q e ks h
     before q (Discard e) ks h = before q e ks h
     before q (Signed o t e) ks h = before q e ks h
@@ -76,7 +76,7 @@ module _ (all : List AutomaticTree) (n : Names) (outside : (v k : ℕ) → scala
     before_in q (Element of a b) ks h = before q a ks (before q b (keeps q a ks) h)
     before_in q (ElementFrom of a b) ks h = before q a ks (before q b (keeps q a ks) h)
 
-    before_all : (q : Bool) (args : ArgumentTrees) (ks : List ℕ) → In (kept_all q args ks) → In ks
+    before_all : (q : Bool) (args : ArgumentTrees) (ks : List ℕ) → In (kept_in_arguments q args ks) → In ks
     before_all q none ks h = h
     before_all q (first e rest) ks h = before q e ks (before_all q rest (keeps q e ks) h)
 
@@ -145,7 +145,7 @@ module _ (all : List AutomaticTree) (n : Names) (outside : (v k : ℕ) → scala
       by None e = refl
       by (Some y) e = absurd (outside v y e inside)
 
-  idle_name : (x : ℕ) (l : LvalueTree) (ks : List ℕ) → In (named l ks) → names_it n x l ≡ false
+  idle_name : (x : ℕ) (l : LvalueTree) (ks : List ℕ) → In (with_named_variable l ks) → names_it n x l ≡ false
   idle_name x (Named (object.Automatic v) of) ks h = kept_name x v ks h
   idle_name x (Named (object.Static i) of) ks h = refl
   idle_name x (Named (object.Literal i) of) ks h = refl
@@ -160,7 +160,7 @@ module _ (all : List AutomaticTree) (n : Names) (outside : (v k : ℕ) → scala
     idle x Null ks h = refl
     idle x (Load s l) ks h = idle_in x l ks h
     idle x (Decay l) ks h = idle_in x l ks h
-    idle x (AddressOf l) ks h = idle_in x l (named l ks) h
+    idle x (AddressOf l) ks h = idle_in x l (with_named_variable l ks) h
     idle x (Convert t e) ks h = idle x e ks h
     idle x (Discard e) ks h = idle x e ks h
     idle x (Signed o t e) ks h = idle x e ks h
@@ -177,12 +177,12 @@ module _ (all : List AutomaticTree) (n : Names) (outside : (v k : ℕ) → scala
         let behind_a = before true b (keeps true a (keeps true c ks)) h in
         no_three (writes n x c) (writes n x a) (writes n x b) (idle x c ks (before true a (keeps true c ks) behind_a)) (idle x a (keeps true c ks) behind_a) (idle x b (keeps true a (keeps true c ks)) h)
     idle x (Comma a b) ks h = no_two (writes n x a) (writes n x b) (idle x a ks (before true b (keeps true a ks) h)) (idle x b (keeps true a ks) h)
-    idle x (Assign s l e) ks h = let k = before true e (kept_in true l (named l ks)) h in no_three (names_it n x l) (writes_within n x l) (writes n x e) (idle_name x l ks (before_in true l (named l ks) k)) (idle_in x l (named l ks) k) (idle x e (kept_in true l (named l ks)) h)
-    idle x (Update o t u l e) ks h = let k = before true e (kept_in true l (named l ks)) h in no_three (names_it n x l) (writes_within n x l) (writes n x e) (idle_name x l ks (before_in true l (named l ks) k)) (idle_in x l (named l ks) k) (idle x e (kept_in true l (named l ks)) h)
+    idle x (Assign s l e) ks h = let k = before true e (kept_in true l (with_named_variable l ks)) h in no_three (names_it n x l) (writes_within n x l) (writes n x e) (idle_name x l ks (before_in true l (with_named_variable l ks) k)) (idle_in x l (with_named_variable l ks) k) (idle x e (kept_in true l (with_named_variable l ks)) h)
+    idle x (Update o t u l e) ks h = let k = before true e (kept_in true l (with_named_variable l ks)) h in no_three (names_it n x l) (writes_within n x l) (writes n x e) (idle_name x l ks (before_in true l (with_named_variable l ks) k)) (idle_in x l (with_named_variable l ks) k) (idle x e (kept_in true l (with_named_variable l ks)) h)
     idle x (UpdatePointer d of l e) ks h =
-        let k = before true e (kept_in true l (named l ks)) h in no_three (names_it n x l) (writes_within n x l) (writes n x e) (idle_name x l ks (before_in true l (named l ks) k)) (idle_in x l (named l ks) k) (idle x e (kept_in true l (named l ks)) h)
-    idle x (Step d g t u l) ks h = no_two (names_it n x l) (writes_within n x l) (idle_name x l ks (before_in true l (named l ks) h)) (idle_in x l (named l ks) h)
-    idle x (StepPointer d g of l) ks h = no_two (names_it n x l) (writes_within n x l) (idle_name x l ks (before_in true l (named l ks) h)) (idle_in x l (named l ks) h)
+        let k = before true e (kept_in true l (with_named_variable l ks)) h in no_three (names_it n x l) (writes_within n x l) (writes n x e) (idle_name x l ks (before_in true l (with_named_variable l ks) k)) (idle_in x l (with_named_variable l ks) k) (idle x e (kept_in true l (with_named_variable l ks)) h)
+    idle x (Step d g t u l) ks h = no_two (names_it n x l) (writes_within n x l) (idle_name x l ks (before_in true l (with_named_variable l ks) h)) (idle_in x l (with_named_variable l ks) h)
+    idle x (StepPointer d g of l) ks h = no_two (names_it n x l) (writes_within n x l) (idle_name x l ks (before_in true l (with_named_variable l ks) h)) (idle_in x l (with_named_variable l ks) h)
     idle x (Call c args) ks h = idle_all x args ks h
 
     idle_in : (x : ℕ) (l : LvalueTree) (ks : List ℕ) → In (kept_in true l ks) → writes_within n x l ≡ false
@@ -191,7 +191,7 @@ module _ (all : List AutomaticTree) (n : Names) (outside : (v k : ℕ) → scala
     idle_in x (Element of a b) ks h = no_two (writes n x a) (writes n x b) (idle x a ks (before true b (keeps true a ks) h)) (idle x b (keeps true a ks) h)
     idle_in x (ElementFrom of a b) ks h = no_two (writes n x a) (writes n x b) (idle x a ks (before true b (keeps true a ks) h)) (idle x b (keeps true a ks) h)
 
-    idle_all : (x : ℕ) (args : ArgumentTrees) (ks : List ℕ) → In (kept_all true args ks) → writes_any n x args ≡ false
+    idle_all : (x : ℕ) (args : ArgumentTrees) (ks : List ℕ) → In (kept_in_arguments true args ks) → writes_any n x args ≡ false
     idle_all x none ks h = refl
     idle_all x (first e rest) ks h = no_two (writes n x e) (writes_any n x rest) (idle x e ks (before_all true rest (keeps true e ks) h)) (idle_all x rest (keeps true e ks) h)
 
@@ -202,7 +202,7 @@ module _ (all : List AutomaticTree) (n : Names) (outside : (v k : ℕ) → scala
     sure Null ks h = tt
     sure (Load s l) ks h = sure_in l ks h
     sure (Decay l) ks h = sure_in l ks h
-    sure (AddressOf l) ks h = sure_in l (named l ks) h
+    sure (AddressOf l) ks h = sure_in l (with_named_variable l ks) h
     sure (Convert t e) ks h = sure e ks h
     sure (Discard e) ks h = sure e ks h
     sure (Signed o t e) ks h = sure e ks h
@@ -232,6 +232,6 @@ module _ (all : List AutomaticTree) (n : Names) (outside : (v k : ℕ) → scala
     sure_in (Element of a b) ks h = (sure a ks (before false b (keeps false a ks) h), sure b (keeps false a ks) h)
     sure_in (ElementFrom of a b) ks h = (sure a ks (before false b (keeps false a ks) h), sure b (keeps false a ks) h)
 
-    sure_all : (args : ArgumentTrees) (ks : List ℕ) → In (kept_all false args ks) → AreSure n args
+    sure_all : (args : ArgumentTrees) (ks : List ℕ) → In (kept_in_arguments false args ks) → AreSure n args
     sure_all none ks h = tt
     sure_all (first e rest) ks h = (sure e ks (before_all false rest (keeps false e ks) h), sure_all rest (keeps false e ks) h)

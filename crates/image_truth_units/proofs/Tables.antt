@@ -11,7 +11,7 @@ use Rattle.std.proofs.lemmas.Option.{none-some, same_Some}
 use Rattle.std.proofs.Math.Seq.{take-append_seam, drop-append-add}
 use Rattle.c_tree.specs.declared.object_type.ObjectType.{ObjectType}
 use Rattle.c_tree.specs.Programs.{StaticTree, AutomaticTree, LiteralTree, TypedFunctionTree, ProgramTree}
-use Rattle.image_build_tables.specs.Variables.{Shape, shape, static_shape, literal_shape, automatic_shape, shapes_of, owner, owned_from, owners_of, counted, declared_names, name_length, length_of_name, element_of, count_of}
+use Rattle.image_build_tables.specs.Variables.{Shape, shape, static_shape, literal_shape, automatic_shape, shapes_of, owner, owned_from, owners_of, bounded_count, declared_names, name_length, length_of_name, element_of_object, element_count}
 use Rattle.image_form.specs.Form.{Form}
 use Rattle.image_form.specs.Names.{name_at, variable_name, variable_name_lengths, function_name_lengths}
 use Rattle.image_form.specs.Rules.{IsImage}
@@ -50,12 +50,12 @@ names_length (n ∷ names) =
     length-append n (flat_map (λ n. n) names) ∙ ap (λ k. length n + k) others ∙ sym (sum_more (length n) (map length names))
 
 -- the lengths that an image says of short names are their own
-shortened : (names : List (List ℕ)) → AllByRecursion (λ l. l ≤ 63) (map (λ (n : List ℕ). counted (length n)) names) → map (λ (n : List ℕ). counted (length n)) names ≡ map length names
+shortened : (names : List (List ℕ)) → AllByRecursion (λ l. l ≤ 63) (map (λ (n : List ℕ). bounded_count (length n)) names) → map (λ (n : List ℕ). bounded_count (length n)) names ≡ map length names
 shortened [] each = refl
 shortened (n ∷ names) each =
     let short = each.0 in
-    let same : counted (length n) ≡ length n = omega (arith, short) in
-    ap (λ k. k ∷ map (λ (n : List ℕ). counted (length n)) names) same ∙ ap (λ l. length n ∷ l) (shortened names each.1)
+    let same : bounded_count (length n) ≡ length n = omega (arith, short) in
+    ap (λ k. k ∷ map (λ (n : List ℕ). bounded_count (length n)) names) same ∙ ap (λ l. length n ∷ l) (shortened names each.1)
 
 -- what lies behind names is found behind their lengths
 past_names : (names : List (List ℕ)) (rest : List ℕ) → drop (sum (map length names)) (flat_map (λ n. n) names ++ rest) ≡ rest
@@ -74,11 +74,11 @@ shape_length q = q.name_length
 
 -- the length that an image says of a name
 abbrev said_length : List ℕ → ℕ
-said_length n = counted (length n)
+said_length n = bounded_count (length n)
 
 static_lengths : (ts : List StaticTree) (rest : List Shape) (others : List (List ℕ)) → map shape_length rest ≡ map said_length others → map shape_length (map static_shape ts ++ rest) ≡ map said_length (map (λ (t : StaticTree). t.name) ts ++ others)
 static_lengths [] rest others same = same
-static_lengths (t ∷ ts) rest others same = ap (λ l. counted (length t.name) ∷ l) (static_lengths ts rest others same)
+static_lengths (t ∷ ts) rest others same = ap (λ l. bounded_count (length t.name) ∷ l) (static_lengths ts rest others same)
 
 literal_lengths : (ls : List LiteralTree) (rest : List Shape) (others : List (List ℕ)) → map shape_length rest ≡ map said_length others → map shape_length (map literal_shape ls ++ rest) ≡ map said_length (map (λ (l : LiteralTree). []) ls ++ others)
 literal_lengths [] rest others same = same
@@ -86,7 +86,7 @@ literal_lengths (l ∷ ls) rest others same = ap (λ l. 0 ∷ l) (literal_length
 
 automatic_lengths : (xs : List AutomaticTree) → map shape_length (map automatic_shape xs) ≡ map said_length (map (λ (a : AutomaticTree). a.name) xs)
 automatic_lengths [] = refl
-automatic_lengths (a ∷ xs) = ap (λ l. counted (length a.name) ∷ l) (automatic_lengths xs)
+automatic_lengths (a ∷ xs) = ap (λ l. bounded_count (length a.name) ∷ l) (automatic_lengths xs)
 
 no_names : (ls : List LiteralTree) → flat_map {A = ℕ} (λ (n : List ℕ). n) (map (λ (l : LiteralTree). []) ls) ≡ []
 no_names [] = refl
@@ -151,11 +151,11 @@ module _ (p : ProgramTree) (m : Form) (functions : map name_length m.functions �
       ap (λ l. name_at l k (drop (sum (function_name_lengths m)) m.names)) lengths_are ∙ ap (name_at (map length (variable_names p)) k) bytes_are ∙ name_found (variable_names p) more k n is
 
   -- a variable by the shape that the program gives it
-  is_named : (k : ℕ) (n : List ℕ) (of : ObjectType) (q : Shape) → slice_get (shapes_of p) k ≡ Some q → q.name_length ≡ counted (length n) → q.element ≡ element_of of → q.count ≡ count_of of → slice_get (variable_names p) k ≡ Some n → n ≢ [] → HasElements of → IsNamed m k n of
+  is_named : (k : ℕ) (n : List ℕ) (of : ObjectType) (q : Shape) → slice_get (shapes_of p) k ≡ Some q → q.name_length ≡ bounded_count (length n) → q.element ≡ element_of_object of → q.count ≡ element_count of → slice_get (variable_names p) k ≡ Some n → n ≢ [] → HasElements of → IsNamed m k n of
   is_named k n of q is length_is element_is count_is name_is some elements =
       let v = from_map shape m.variables k q (ap (λ l. slice_get l k) variables ∙ is) in
       let long = some_length n some in
-      let said : v.0.name_length ≡ counted (length n) = ap shape_length v.2 ∙ length_is in
+      let said : v.0.name_length ≡ bounded_count (length n) = ap shape_length v.2 ∙ length_is in
       record {
         variable = v.0;
         is = v.1;
@@ -240,7 +240,7 @@ module _ (p : ProgramTree) (m : Form) (functions : map name_length m.functions �
   }
 
   -- a literal is an array of bytes, as many as it has as far as numbers of 32 bits go
-  pub literal_sized : (n : ℕ) (l : LiteralTree) (v : Variable) → slice_get p.literals n ≡ Some l → slice_get m.variables (length p.statics + n) ≡ Some v → (v.element ≡ U8) × (v.count ≡ counted (length l.bytes))
+  pub literal_sized : (n : ℕ) (l : LiteralTree) (v : Variable) → slice_get p.literals n ≡ Some l → slice_get m.variables (length p.statics + n) ≡ Some v → (v.element ≡ U8) × (v.count ≡ bounded_count (length l.bytes))
   literal_sized n l v is at =
       let there_is = past_statics static_shape (map literal_shape p.literals ++ map automatic_shape p.automatics) n ∙ front_at (map literal_shape p.literals) (map automatic_shape p.automatics) n (literal_shape l) (map_at literal_shape p.literals n l is) in
       let same : shape v ≡ literal_shape l = same_Some (shape v) (literal_shape l) (sym (map_at shape m.variables (length p.statics + n) v at) ∙ ap (λ l. slice_get l (length p.statics + n)) variables ∙ there_is) in

@@ -18,7 +18,7 @@ use Rattle.image_form.specs.declared.verdicts.Verdict.TheVariants.{Home}
 use Rattle.image_build_tables.specs.Spans.{span, code_span}
 use Rattle.image_build_tables.specs.Storages.{storages_of}
 use Rattle.image_build_tables.specs.Variables.{shape, shapes_of, owner, owners_of, declared_names, name_length, length_of_name, storage}
-use Rattle.rv_machine.specs.State.{State, reg}
+use Rattle.rv_machine.specs.State.{MachineState, reg}
 use Rattle.stop_engine_view.specs.Values.{held_text}
 use Rattle.graph_core.specs.Runs.{Configuration}
 use Rattle.graph_core.specs.Validity.{IsValid}
@@ -48,7 +48,7 @@ module _ (p : ProgramTree) (m : Form) (functions : map name_length m.functions �
     (literal_law : (n : ℕ) (l : LiteralTree) → slice_get p.literals n ≡ Some l → (1 ≤ length l.bytes) × (length l.bytes ≤ 4294967295))
     (h : HomedForm) (valid : IsValid h.unit) (homed : HaveHomes h) (a : Arrangement) (e : EmittedForm) (storages : map storage m.variables ≡ storages_of h e (length m.variables)) (spans : map span m.functions ≡ map code_span e.functions) (words : m.owners ≡ e.owners) (outermost : slice_index e.owners 2 ≡ 0)
     (unit : HasVariablesIn p h.unit) (has : HasPlacesOf h.unit m) (tells : Tells h a e)
-    (c : Configuration) (s : State) (regions : e.map ≡ map_of_unit h.unit) (short : length s.code ≤ most_words s.map) (stands : StandsAt h e a c s) (running : IsRunning (over_homes h) c)
+    (c : Configuration) (s : MachineState) (regions : e.map ≡ map_of_unit h.unit) (short : length s.code ≤ most_words s.map) (stands : StandsAt h e a c s) (running : IsRunning (over_homes h) c)
     (memory : source-memory.Memory) (same : SameMemory p memory c.memory) (typed : AreTyped memory) (differ : OwnersDiffer memory) (declared : (n : ℕ) (o : source-memory.Object) → slice_get memory n ≡ Some o → IsDeclared p o.owner o) where
   -- the variables of the image are the program's
   pub tables : HasVariablesOf p m

@@ -13,7 +13,7 @@ use Rattle.c_type_rules.specs.ValueTypes.{type_of, given_by, is_void, is_pointer
 use Rattle.word_base.specs.declared.operation.Operation.TheVariants as operation
 use Rattle.graph_core.specs.Graphs as unit
 use Rattle.graph_core.specs.Graphs.{Operand, Instruction, Operate, Truncate, Same, Jump}
-use Rattle.graph_build_names.specs.Conversions.{word_of, keeps_bits, is_kept_constant}
+use Rattle.graph_build_names.specs.Conversions.{unsigned_bits, keeps_bits, is_kept_constant}
 use Rattle.graph_build_names.specs.Operands.{held, operand_at}
 use Rattle.graph_build_layout.specs.declared.laid.Use.TheVariants.{Anywhere, Nothing, Tested}
 use Rattle.graph_build_names.specs.Names.{Names, scalar_named, pick}
@@ -21,7 +21,7 @@ use Rattle.graph_build_names.specs.Writes.{writes, writes_any, is_moved, is_loca
 use Rattle.graph_build_layout.specs.Laid.{Pair, PlaceLaid, pair, behind_move, behind_own, use_for}
 use Rattle.graph_build_layout.specs.Layout.{laid, place_laid, passed_laid}
 use Rattle.graph_build_steps.specs.Rules.{element_of, truncation_to, callee_for, steps_by}
-use Rattle.graph_build_steps.specs.Drafts.{Made, Goal, To, Unused, Either, use_of, ending, leaf, label_of, closed, forked, valued, used, operated, move_if, hold_location, held_location, stored, noted, called_by}
+use Rattle.graph_build_steps.specs.Drafts.{Made, Goal, To, Unused, Either, use_of, ending, leaf, label_of, with_inner_block, forked, valued, used, operated, move_if, hold_location, held_location, stored, noted, called_by}
 use Rattle.graph_build_steps.specs.Drafts as drafts
 use Rattle.graph_build_steps.specs.declared.site.Two as declared-two
 use Rattle.graph_build_steps.specs.declared.site.Two.TheVariants as two
@@ -92,14 +92,14 @@ module _ (Own : ℕ → Type 0) (place top : ℕ) (own : Own place) (n : Names) 
       let at = behind_own (use_of g) t in let way = forked place top g t in
       let later = pick n at (laid n a Tested at).top in
       let m = code n place top b later (Either way.one way.other way.inner) in
-      ha at (Either (label_of top m) way.other (closed place m)) (closed_fine Own place own m (hb later (Either way.one way.other way.inner) (forked_fine Own place top own g t h)))
+      ha at (Either (label_of top m) way.other (with_inner_block place m)) (closed_fine Own place own m (hb later (Either way.one way.other way.inner) (forked_fine Own place top own g t h)))
 
   or_fine : (a b : RvalueTree) → IsOf a → IsOf b → IsOf (Or a b)
   or_fine a b ha hb t g h =
       let at = behind_own (use_of g) t in let way = forked place top g t in
       let later = pick n at (laid n a Tested at).top in
       let m = code n place top b later (Either way.one way.other way.inner) in
-      ha at (Either way.one (label_of top m) (closed place m)) (closed_fine Own place own m (hb later (Either way.one way.other way.inner) (forked_fine Own place top own g t h)))
+      ha at (Either way.one (label_of top m) (with_inner_block place m)) (closed_fine Own place own m (hb later (Either way.one way.other way.inner) (forked_fine Own place top own g t h)))
 
   arm_fine : (void : Bool) (e : RvalueTree) → IsOf e → (t at : ℕ) (m : Made) → Is m → Is (code n place top e at (arm_goal void t m))
   arm_fine true e he t at m h = he at (Unused m) h
@@ -110,13 +110,13 @@ module _ (Own : ℕ → Type 0) (place top : ℕ) (own : Own place) (n : Names) 
       let void = is_void (type_of n.results a) in let at = behind_move (not void) t in
       let at_a = pick n at (laid n c Tested at).top in let at_b = pick n at (laid n a (arm_use void t) at_a).top in
       let m = leaf g (arm_value void t) in
-      let join = ending (Jump (label_of top m)) (closed place m) in
+      let join = ending (Jump (label_of top m)) (with_inner_block place m) in
       let y = code n place top b at_b (arm_goal void t join) in
-      let join_a = ending (Jump (label_of top m)) (closed place y) in
+      let join_a = ending (Jump (label_of top m)) (with_inner_block place y) in
       let x = code n place top a at_a (arm_goal void t join_a) in
       let fine_y = arm_fine void b hb t at_b join (tt, closed_fine Own place own m (leaf_fine Own g (arm_value void t) h)) in
       let fine_x = arm_fine void a ha t at_a join_a (tt, closed_fine Own place own y fine_y) in
-      hc at (Either (label_of top x) (label_of top y) (closed place x)) (closed_fine Own place own x fine_x)
+      hc at (Either (label_of top x) (label_of top y) (with_inner_block place x)) (closed_fine Own place own x fine_x)
 
   comma_fine : (a b : RvalueTree) → IsOf a → IsOf b → IsOf (Comma a b)
   comma_fine a b ha hb t g h =
@@ -174,7 +174,7 @@ module _ (Own : ℕ → Type 0) (place top : ℕ) (own : Own place) (n : Names) 
   mutual
     -- The code of an expression.
     pub code_fine : (e : RvalueTree) → (t : ℕ) (g : Goal) → FineGoal Own g → Fine Own (code n place top e t g)
-    code_fine (Constant z ty) t g h = leaf_fine Own g (unit.Constant (word_of z)) h
+    code_fine (Constant z ty) t g h = leaf_fine Own g (unit.Constant (unsigned_bits z)) h
     code_fine Null t g h = leaf_fine Own g (drafts.zero) h
     code_fine (Load s l) t g h = load_fine s l (place_fine l) t g h (scalar_named n l)
     code_fine (Decay l) t g h = (place_fine l).address t g h

@@ -21,13 +21,13 @@ use Rattle.graph_build_layout.specs.declared.laid.Use.TheVariants.{Anywhere, In,
 use Rattle.graph_build_names.specs.Names.{Names, pick, object_of}
 use Rattle.graph_build_layout.specs.Laid.{Laid, Pair, PlaceLaid, behind_move}
 use Rattle.graph_build_steps.specs.Rules.{truncation_to, operation_for, move_by}
-use Rattle.graph_build_steps.specs.Drafts.{Made, Goal, To, Unused, Either, use_of, before, leaf, target, follow, tested, scale, scaling, unscaling, move_if, note, noted, compare_by, compare_pointers_by, closed, arm, forked, valued, used, stored, keep_old, use_old, behind_old, left_free, called_by, renew, operated, code_scaled_pair, compared, compared_value, compared_pointers, compared_pointers_value, label_of, held_location}
+use Rattle.graph_build_steps.specs.Drafts.{Made, Goal, To, Unused, Either, use_of, instruction_before, leaf, target, follow, tested, scale, scaling, unscaling, move_if, note, noted, compare_by, compare_pointers_by, with_inner_block, arm, forked, valued, used, stored, keep_old, use_old, behind_old, left_free, called_by, renew, operated, code_scaled_pair, compared, compared_value, compared_pointers, compared_pointers_value, label_of, held_location}
 use Rattle.graph_build_steps.specs.Drafts as drafts
 use Rattle.graph_build_steps.specs.declared.site.Two as declared-two
 use Rattle.graph_build_steps.specs.declared.site.Two.TheVariants as two
 use Rattle.graph_build_steps.specs.declared.change.Change as declared-change
 use Rattle.graph_build_steps.specs.declared.change.Change.TheVariants as change
-use Rattle.graph_build_steps.specs.Steps.{signed, finished, distance, changed, changed_element, takes_more, renewed_scalar, loaded_first, renewed_memory, left_scalar, left_memory, object_address, or_zero}
+use Rattle.graph_build_steps.specs.Steps.{signed, finished, element_distance, changed, changed_element, takes_more, renewed_scalar, loaded_first, renewed_memory, left_scalar, left_memory, object_address, or_zero}
 use Rattle.image_truth_units.proofs.Ordinary.{is_ordinary, AreInner, Fine, FineGoal, closed_fine}
 
 module _ (Own : ℕ → Type 0) where
@@ -37,7 +37,7 @@ module _ (Own : ℕ → Type 0) where
   abbrev For : Goal → Type 0
   For g = FineGoal Own g
 
-  pub before_fine : (i : Instruction) (m : Made) → is_ordinary i ≡ true → Is m → Is (before i m)
+  pub before_fine : (i : Instruction) (m : Made) → is_ordinary i ≡ true → Is m → Is (instruction_before i m)
   before_fine i m h k = ((h, k.0), k.1)
 
   pub leaf_fine : (g : Goal) (a : Operand) → For g → Is (leaf g a)
@@ -79,21 +79,21 @@ module _ (Own : ℕ → Type 0) where
   scale_fine : (size : ℕ) (a : Operand) (t : ℕ) (m : Made) → Is m → Is (scale size a t m)
   scale_fine size a t m h = go (is_scaled size a)
     where
-      go : (b : Bool) → Is (if b then before (scaling (shift_of size) size t a) m else m)
+      go : (b : Bool) → Is (if b then instruction_before (scaling (shift_of size) size t a) m else m)
       go true = before_fine (scaling (shift_of size) size t a) m (scaling_is (shift_of size) size t a) h
       go false = h
 
   renew_fine : (ty : IntegerType) (x t : ℕ) (i : ℕ → Instruction) (m : Made) → ((y : ℕ) → is_ordinary (i y) ≡ true) → Is m → Is (renew ty x t i m)
   renew_fine ty x t i m k h = go (is_narrow ty)
     where
-      go : (b : Bool) → Is (if b then before (i t) (before (Truncate x (truncation_to ty) (unit.Name t)) m) else before (i x) m)
-      go true = before_fine (i t) (before (Truncate x (truncation_to ty) (unit.Name t)) m) (k t) (before_fine (Truncate x (truncation_to ty) (unit.Name t)) m refl h)
+      go : (b : Bool) → Is (if b then instruction_before (i t) (instruction_before (Truncate x (truncation_to ty) (unit.Name t)) m) else instruction_before (i x) m)
+      go true = before_fine (i t) (instruction_before (Truncate x (truncation_to ty) (unit.Name t)) m) (k t) (before_fine (Truncate x (truncation_to ty) (unit.Name t)) m refl h)
       go false = before_fine (i x) m (k x) h
 
   changed_fine : (c : declared-change.Change) (x t free : ℕ) (old by : Operand) (m : Made) → Is m → Is (changed c x t free old by m)
   changed_fine (change.Integer o ty v) x t free old by m h = renew_fine ty x t (λ y. Operate y (operation_for o v) old by) m (λ y. refl) h
   changed_fine (change.Pointer d bytes) x t free old by m h =
-      let next = before (Operate x (move_by d) old (scaled bytes by free)) m in scale_fine bytes by free next (before_fine (Operate x (move_by d) old (scaled bytes by free)) m refl h)
+      let next = instruction_before (Operate x (move_by d) old (scaled bytes by free)) m in scale_fine bytes by free next (before_fine (Operate x (move_by d) old (scaled bytes by free)) m refl h)
 
   pub stored_fine : (e : declared-element.Element) (l : Location) (a : Operand) (g : Goal) → For g → Is (stored e l a g)
   stored_fine e l a (To want m) h = before_fine (Store e l a) m refl h
@@ -122,7 +122,7 @@ module _ (Own : ℕ → Type 0) where
   keep_fine Tested x t m h = ((refl, h.0), h.1)
   keep_fine (In y) x t m h = go (y == x)
     where
-      go : (b : Bool) → Is (if b then before (unit.Move t (unit.Name x)) m else before (unit.Move y (unit.Name x)) m)
+      go : (b : Bool) → Is (if b then instruction_before (unit.Move t (unit.Name x)) m else instruction_before (unit.Move y (unit.Name x)) m)
       go true = ((refl, h.0), h.1)
       go false = ((refl, h.0), h.1)
 
@@ -132,7 +132,7 @@ module _ (Own : ℕ → Type 0) where
   use_fine (Either one other inner) x t h = (tt, h)
   use_fine (To (Some y) k) x t h = go (y == x)
     where
-      go : (b : Bool) → Is (if b then before (unit.Move x (unit.Name t)) k else k)
+      go : (b : Bool) → Is (if b then instruction_before (unit.Move x (unit.Name t)) k else k)
       go true = ((refl, h.0), h.1)
       go false = h
 
@@ -149,11 +149,11 @@ module _ (Own : ℕ → Type 0) where
   pub forked_fine : (place top : ℕ) → Own place → (g : Goal) (own : ℕ) → For g → AreInner Own (forked place top g own).inner
   forked_fine place top mine (Either one other inner) own h = h
   forked_fine place top mine (Unused m) own h =
-      let join = closed place m in
+      let join = with_inner_block place m in
       let zeroed = arm place own 0 (label_of top m) join in arm_fine place mine own 1 (label_of top m) zeroed (arm_fine place mine own 0 (label_of top m) join (closed_fine Own place mine m h))
   forked_fine place top mine (To want k) own h =
       let m = leaf (To want k) (unit.Name own) in
-      let join = closed place m in
+      let join = with_inner_block place m in
       let zeroed = arm place own 0 (label_of top m) join in
       arm_fine place mine own 1 (label_of top m) zeroed (arm_fine place mine own 0 (label_of top m) join (closed_fine Own place mine m (leaf_fine (To want k) (unit.Name own) h)))
 
@@ -184,10 +184,10 @@ module _ (Own : ℕ → Type 0) where
     compared_pointers_fine (To want m) o begun q h = pointers_value_fine (To want m) o begun q h
     compared_pointers_fine (Unused m) o begun q h = pointers_value_fine (Unused m) o begun q h
 
-    distance_fine : (bytes : ℕ) (g : Goal) (begun : ℕ) (q : Pair) → For g → Is (distance n bytes g begun q)
+    distance_fine : (bytes : ℕ) (g : Goal) (begun : ℕ) (q : Pair) → For g → Is (element_distance n bytes g begun q)
     distance_fine bytes g begun q h = go (bytes == 1)
       where
-        go : (b : Bool) → Is (if b then operated n g begun q.next (λ x. Operate x operation.Sub q.left q.right) else before (Operate (pick n begun q.next) operation.Sub q.left q.right) (operated n g begun (q.next + 1) (λ x. unscaling (shift_of bytes) bytes x (pick n begun q.next))))
+        go : (b : Bool) → Is (if b then operated n g begun q.next (λ x. Operate x operation.Sub q.left q.right) else instruction_before (Operate (pick n begun q.next) operation.Sub q.left q.right) (operated n g begun (q.next + 1) (λ x. unscaling (shift_of bytes) bytes x (pick n begun q.next))))
         go true = operated_fine g begun q.next (λ x. Operate x operation.Sub q.left q.right) (λ x. refl) h
         go false =
             let next = operated n g begun (q.next + 1) (λ x. unscaling (shift_of bytes) bytes x (pick n begun q.next)) in
@@ -225,7 +225,7 @@ module _ (Own : ℕ → Type 0) where
     pub left_memory_fine : (c : declared-change.Change) (q : PlaceLaid) (g : Goal) → For g → Is (left_memory c q g)
     left_memory_fine c q g h =
         let old = target g q.next in let free = left_free (use_of g) q.next in let own = behind_move (takes_more c (unit.Constant 1)) free in
-        let last = before (Store (changed_element c) q.location (unit.Name own)) (follow g old) in
+        let last = instruction_before (Store (changed_element c) q.location (unit.Name own)) (follow g old) in
         let mid = changed c own free free (unit.Name old) (unit.Constant 1) last in
         before_fine (unit.Load old (changed_element c) q.location) mid refl (changed_fine c own free free (unit.Name old) (unit.Constant 1) last (before_fine (Store (changed_element c) q.location (unit.Name own)) (follow g old) refl (follow_fine g old h)))
 

@@ -10,7 +10,7 @@ use Rattle.c_tree.specs.TypedStatements as statement
 use Rattle.c_tree.specs.TypedStatements.{InitialTree, Zero, Scalar as scalar-initial, Elements, Literal, DeclaredTree, TypedStartTree, Nothing, Value, Declares, StepTree, TypedStatementTree, Block, Declaration, Empty, Run, If, IfElse, While, DoWhile, For, Switch, Break, Continue, Return, TypedStatementTrees, case, default}
 use Rattle.c_type_rules.specs.Integers.{scalar_size}
 use Rattle.c_flow.specs.declared.edge.Ways.{Ways}
-use Rattle.c_flow.specs.Flow.{start, start_of_all, start_of_declarators, round_of, within_loop, within_switch, before as with_rest}
+use Rattle.c_flow.specs.Flow.{start_place, start_of_all, start_of_declarators, round_of, within_loop, within_switch, ways_before as with_rest}
 use Rattle.graph_core.specs.Graphs as unit
 use Rattle.graph_core.specs.Graphs.{Operand, Automatic, Store, CopyWords}
 use Rattle.graph_core.specs.Bounds.{most_words}
@@ -19,7 +19,7 @@ use Rattle.graph_build_layout.specs.declared.laid.Use.TheVariants.{Anywhere, Tes
 use Rattle.graph_build_names.specs.Names.{scalar_of, object_of, pick}
 use Rattle.graph_build_layout.specs.Layout.{laid}
 use Rattle.graph_build_steps.specs.Rules.{element_of}
-use Rattle.graph_build_steps.specs.Drafts.{Made, Goal, To, Unused, Either, before, ending, note}
+use Rattle.graph_build_steps.specs.Drafts.{Made, Goal, To, Unused, Either, instruction_before, ending, note}
 use Rattle.graph_build_steps.specs.Steps.{or_zero}
 use Rattle.graph_build_code.specs.Code.{code}
 use Rattle.graph_build_statements.specs.Coding.{Coding, Part, place_of, begun, going, label_for, with_end, placed_at, coded}
@@ -104,7 +104,7 @@ module _ (Own : ℕ → Type 0) (c : Coding) (few : (x : ℕ) → HasFew (object
   cleared_begun : (object bytes covered : ℕ) (m : Made) → words_of bytes ≤ most_words → IsBegun m → IsBegun (cleared object bytes covered m)
   cleared_begun object bytes covered m le h = go (nat_le (words_of bytes) covered)
     where
-      go : (b : Bool) → IsBegun (if b then m else before (unit.Zero object (words_of bytes)) m)
+      go : (b : Bool) → IsBegun (if b then m else instruction_before (unit.Zero object (words_of bytes)) m)
       go true = h
       go false = (sets le h.0, h.1)
 
@@ -113,13 +113,13 @@ module _ (Own : ℕ → Type 0) (c : Coding) (few : (x : ℕ) → HasFew (object
   elements_fine at own s object index (e ∷ more) t m h =
       let r = laid c.names (bare e) Anywhere t in
       let rest = store_elements c at s object (index + 1) more (pick c.names t r.top) m in
-      let last = before (Store (element_of s) (Automatic object (index * scalar_size s)) r.value) rest in
+      let last = instruction_before (Store (element_of s) (Automatic object (index * scalar_size s)) r.value) rest in
       code_at at own (bare e) t (To None last) (before_fine Own (Store (element_of s) (Automatic object (index * scalar_size s)) r.value) rest refl (elements_fine at own s object (index + 1) more (pick c.names t r.top) m h))
 
   single_begun : (at : ℕ) → Own (P at) → (object : ℕ) (s : Scalar) (i : InitialTree) (t : ℕ) (m : Made) → Is m → IsBegun (declare_single c at object s i t m)
   single_begun at own object s Zero t m h = (ordinary (refl, h.0), h.1)
   single_begun at own object s (scalar-initial e) t m h =
-      let last = before (Store (element_of s) (Automatic object 0) (laid c.names e Anywhere (begun c t)).value) m in
+      let last = instruction_before (Store (element_of s) (Automatic object 0) (laid c.names e Anywhere (begun c t)).value) m in
       begun_fine (coded c at e t (To None last)) (coded_at at own e t (To None last) (before_fine Own (Store (element_of s) (Automatic object 0) (laid c.names e Anywhere (begun c t)).value) m refl h))
   single_begun at own object s (Elements all) t m h = cleared_begun object (scalar_size s) 0 m (few_of_scalar s) (begun_fine m h)
   single_begun at own object s (Literal k) t m h = cleared_begun object (scalar_size s) 0 m (few_of_scalar s) (begun_fine m h)
@@ -130,7 +130,7 @@ module _ (Own : ℕ → Type 0) (c : Coding) (few : (x : ℕ) → HasFew (object
       cleared_begun object bytes 0 rest le (begun_fine rest (elements_fine at own s object 0 all (begun c t) m h))
   array_begun at own object s bytes le (Literal k) t m h =
       let copy = copied_few c k bytes in
-      let rest = before (CopyWords object k (copied_words c k bytes)) m in
+      let rest = instruction_before (CopyWords object k (copied_words c k bytes)) m in
       cleared_begun object bytes (copied_words c k bytes) rest le (copies (most (words_of bytes) (copied_words c k bytes) copy le) (ordinary h.0), h.1)
     where
       most : (a b : ℕ) → b ≤ a → a ≤ most_words → b ≤ most_words
@@ -145,7 +145,7 @@ module _ (Own : ℕ → Type 0) (c : Coding) (few : (x : ℕ) → HasFew (object
   note_fine : (x : ℕ) (m : Made) → Is m → Is (note x m)
   note_fine x m h = before_fine Own (unit.Note x (unit.Is (unit.Of (unit.Name x)))) m refl h
 
-  moved_fine : (x : ℕ) (m : Made) → Is m → Is (before (unit.Move x (unit.Constant 0)) (note x m))
+  moved_fine : (x : ℕ) (m : Made) → Is m → Is (instruction_before (unit.Move x (unit.Constant 0)) (note x m))
   moved_fine x m h = before_fine Own (unit.Move x (unit.Constant 0)) (note x m) refl (note_fine x m h)
 
   scalar_fine : (at : ℕ) → Own (P at) → (x : ℕ) (i : InitialTree) (t : ℕ) (m : Made) → Is m → Is (declare_scalar c at x i t m)
@@ -213,21 +213,21 @@ module _ (Own : ℕ → Type 0) (c : Coding) (few : (x : ℕ) → HasFew (object
     statement_adds (Run spot e) t w part = run_adds spot.at e t w.next part
     statement_adds (If spot e s) t w part = (
         let later = add c s (reached c e Tested t) w part in
-        adds_on (add c (If spot e s) t w part) later part (branching_adds spot.at e t (start s w.next) w.next later) (statement_adds s (reached c e Tested t) w part))
+        adds_on (add c (If spot e s) t w part) later part (branching_adds spot.at e t (start_place s w.next) w.next later) (statement_adds s (reached c e Tested t) w part))
     statement_adds (IfElse spot e s r) t w part = (
         let behind_s = statement_reached c s (reached c e Tested t) in
         let last = add c r behind_s w part in
         let later = add c s (reached c e Tested t) w last in
-        adds_on (add c (IfElse spot e s r) t w part) later part (branching_adds spot.at e t (start s w.next) (start r w.next) later) (adds_on later last part (statement_adds s (reached c e Tested t) w last) (statement_adds r behind_s w part)))
+        adds_on (add c (IfElse spot e s r) t w part) later part (branching_adds spot.at e t (start_place s w.next) (start_place r w.next) later) (adds_on later last part (statement_adds s (reached c e Tested t) w last) (statement_adds r behind_s w part)))
     statement_adds (While spot e s) t w part = (
         let later = add c s (reached c e Tested t) (within_loop spot.at w) part in
-        adds_on (add c (While spot e s) t w part) later part (branching_adds spot.at e t (start s (Some spot.at)) w.next later) (statement_adds s (reached c e Tested t) (within_loop spot.at w) part))
+        adds_on (add c (While spot e s) t w part) later part (branching_adds spot.at e t (start_place s (Some spot.at)) w.next later) (statement_adds s (reached c e Tested t) (within_loop spot.at w) part))
     statement_adds (DoWhile s spot e) t w part = (
-        let later = add_branching c spot.at e (statement_reached c s t) (start s (Some spot.at)) w.next part in
-        adds_on (add c (DoWhile s spot e) t w part) later part (statement_adds s t (within_loop spot.at w) later) (branching_adds spot.at e (statement_reached c s t) (start s (Some spot.at)) w.next part))
+        let later = add_branching c spot.at e (statement_reached c s t) (start_place s (Some spot.at)) w.next part in
+        adds_on (add c (DoWhile s spot e) t w part) later part (statement_adds s t (within_loop spot.at w) later) (branching_adds spot.at e (statement_reached c s t) (start_place s (Some spot.at)) w.next part))
     statement_adds (For begin spot e step s) t w part = (
         let round = round_of step spot.at in
-        let inside = start s (Some round) in
+        let inside = start_place s (Some round) in
         let behind_head = condition_reached c e (start_reached c begin t) in
         let body = add c s behind_head (within_loop round w) part in
         let later = add_step c step (statement_reached c s behind_head) spot.at body in

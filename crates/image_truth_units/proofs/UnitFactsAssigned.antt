@@ -4,7 +4,7 @@ use Rattle.std.specs.Prelude.{◌||◌}
 use Rattle.c_tree.specs.declared.object_type.Object.TheVariants as object
 use Rattle.c_tree.specs.TypedExpressions.{RvalueTree, LvalueTree, ArgumentTrees, Constant, Null, Load, Decay, AddressOf, Convert, Discard, Signed, Not, Arithmetic, Compare, ComparePointers, Move, MoveFrom, Difference, And, Or, Conditional, Comma, Assign, Update, UpdatePointer, Step, StepPointer, Call, Named, Target, Element, ElementFrom, none, first}
 use Rattle.c_flow.specs.declared.assigned.Assigned.{Assigned}
-use Rattle.c_flow.specs.Assigns.{assigns_object, named, assigned, assigned_within, assigned_by_all}
+use Rattle.c_flow.specs.Assigns.{assigns_object, named_object, assigned_objects, assigned_within, assigned_by_all}
 use Rattle.graph_core.specs.Paths.{Among, front}
 use Rattle.graph_build_names.specs.Names.{Names, scalar_of}
 use Rattle.graph_build_names.specs.Writes.{writes, writes_within, writes_any, names_it, is_that}
@@ -42,7 +42,7 @@ module _ (n : Names) (at y : ℕ) where
   three : (a b c : Bool) (xs ys zs : List Assigned) → (a ≡ true → Is xs) → (b ≡ true → Is ys) → (c ≡ true → Is zs) → a || b || c ≡ true → Is (xs ++ ys ++ zs)
   three a b c xs ys zs h k l e = two (a || b) c (xs ++ ys) zs (two a b xs ys h k) l e
 
-  named_is : (l : LvalueTree) → names_it n y l ≡ true → Is (named at l)
+  named_is : (l : LvalueTree) → names_it n y l ≡ true → Is (named_object at l)
   named_is (Named (object.Automatic v) of) h = record { variable = v; name = that_is y (scalar_of n v) h; among = front }
   named_is (Named (object.Static i) of) h = absurd (false_true h)
   named_is (Named (object.Literal i) of) h = absurd (false_true h)
@@ -52,7 +52,7 @@ module _ (n : Names) (at y : ℕ) where
 
   mutual
     -- What an expression writes its place assigns.
-    pub writes_is : (e : RvalueTree) → writes n y e ≡ true → IsAssigned n at y (assigned at e)
+    pub writes_is : (e : RvalueTree) → writes n y e ≡ true → IsAssigned n at y (assigned_objects at e)
     writes_is (Constant z t) h = absurd (false_true h)
     writes_is Null h = absurd (false_true h)
     writes_is (Load s l) h = within_is l h
@@ -62,29 +62,29 @@ module _ (n : Names) (at y : ℕ) where
     writes_is (Discard e) h = writes_is e h
     writes_is (Signed o t e) h = writes_is e h
     writes_is (Not e) h = writes_is e h
-    writes_is (Arithmetic o t a b) h = two (writes n y a) (writes n y b) (assigned at a) (assigned at b) (writes_is a) (writes_is b) h
-    writes_is (Compare o t a b) h = two (writes n y a) (writes n y b) (assigned at a) (assigned at b) (writes_is a) (writes_is b) h
-    writes_is (ComparePointers o a b) h = two (writes n y a) (writes n y b) (assigned at a) (assigned at b) (writes_is a) (writes_is b) h
-    writes_is (Move d of a b) h = two (writes n y a) (writes n y b) (assigned at a) (assigned at b) (writes_is a) (writes_is b) h
-    writes_is (MoveFrom a of b) h = two (writes n y a) (writes n y b) (assigned at a) (assigned at b) (writes_is a) (writes_is b) h
-    writes_is (Difference of a b) h = two (writes n y a) (writes n y b) (assigned at a) (assigned at b) (writes_is a) (writes_is b) h
-    writes_is (And a b) h = two (writes n y a) (writes n y b) (assigned at a) (assigned at b) (writes_is a) (writes_is b) h
-    writes_is (Or a b) h = two (writes n y a) (writes n y b) (assigned at a) (assigned at b) (writes_is a) (writes_is b) h
-    writes_is (Conditional c a b) h = three (writes n y c) (writes n y a) (writes n y b) (assigned at c) (assigned at a) (assigned at b) (writes_is c) (writes_is a) (writes_is b) h
-    writes_is (Comma a b) h = two (writes n y a) (writes n y b) (assigned at a) (assigned at b) (writes_is a) (writes_is b) h
-    writes_is (Assign s l e) h = three (names_it n y l) (writes_within n y l) (writes n y e) (named at l) (assigned_within at l) (assigned at e) (named_is l) (within_is l) (writes_is e) h
-    writes_is (Update o t u l e) h = three (names_it n y l) (writes_within n y l) (writes n y e) (named at l) (assigned_within at l) (assigned at e) (named_is l) (within_is l) (writes_is e) h
-    writes_is (UpdatePointer d of l e) h = three (names_it n y l) (writes_within n y l) (writes n y e) (named at l) (assigned_within at l) (assigned at e) (named_is l) (within_is l) (writes_is e) h
-    writes_is (Step d g t u l) h = two (names_it n y l) (writes_within n y l) (named at l) (assigned_within at l) (named_is l) (within_is l) h
-    writes_is (StepPointer d g of l) h = two (names_it n y l) (writes_within n y l) (named at l) (assigned_within at l) (named_is l) (within_is l) h
+    writes_is (Arithmetic o t a b) h = two (writes n y a) (writes n y b) (assigned_objects at a) (assigned_objects at b) (writes_is a) (writes_is b) h
+    writes_is (Compare o t a b) h = two (writes n y a) (writes n y b) (assigned_objects at a) (assigned_objects at b) (writes_is a) (writes_is b) h
+    writes_is (ComparePointers o a b) h = two (writes n y a) (writes n y b) (assigned_objects at a) (assigned_objects at b) (writes_is a) (writes_is b) h
+    writes_is (Move d of a b) h = two (writes n y a) (writes n y b) (assigned_objects at a) (assigned_objects at b) (writes_is a) (writes_is b) h
+    writes_is (MoveFrom a of b) h = two (writes n y a) (writes n y b) (assigned_objects at a) (assigned_objects at b) (writes_is a) (writes_is b) h
+    writes_is (Difference of a b) h = two (writes n y a) (writes n y b) (assigned_objects at a) (assigned_objects at b) (writes_is a) (writes_is b) h
+    writes_is (And a b) h = two (writes n y a) (writes n y b) (assigned_objects at a) (assigned_objects at b) (writes_is a) (writes_is b) h
+    writes_is (Or a b) h = two (writes n y a) (writes n y b) (assigned_objects at a) (assigned_objects at b) (writes_is a) (writes_is b) h
+    writes_is (Conditional c a b) h = three (writes n y c) (writes n y a) (writes n y b) (assigned_objects at c) (assigned_objects at a) (assigned_objects at b) (writes_is c) (writes_is a) (writes_is b) h
+    writes_is (Comma a b) h = two (writes n y a) (writes n y b) (assigned_objects at a) (assigned_objects at b) (writes_is a) (writes_is b) h
+    writes_is (Assign s l e) h = three (names_it n y l) (writes_within n y l) (writes n y e) (named_object at l) (assigned_within at l) (assigned_objects at e) (named_is l) (within_is l) (writes_is e) h
+    writes_is (Update o t u l e) h = three (names_it n y l) (writes_within n y l) (writes n y e) (named_object at l) (assigned_within at l) (assigned_objects at e) (named_is l) (within_is l) (writes_is e) h
+    writes_is (UpdatePointer d of l e) h = three (names_it n y l) (writes_within n y l) (writes n y e) (named_object at l) (assigned_within at l) (assigned_objects at e) (named_is l) (within_is l) (writes_is e) h
+    writes_is (Step d g t u l) h = two (names_it n y l) (writes_within n y l) (named_object at l) (assigned_within at l) (named_is l) (within_is l) h
+    writes_is (StepPointer d g of l) h = two (names_it n y l) (writes_within n y l) (named_object at l) (assigned_within at l) (named_is l) (within_is l) h
     writes_is (Call c all) h = all_are all h
 
     pub within_is : (l : LvalueTree) → writes_within n y l ≡ true → IsAssigned n at y (assigned_within at l)
     within_is (Named o of) h = absurd (false_true h)
     within_is (Target of e) h = writes_is e h
-    within_is (Element of a b) h = two (writes n y a) (writes n y b) (assigned at a) (assigned at b) (writes_is a) (writes_is b) h
-    within_is (ElementFrom of a b) h = two (writes n y a) (writes n y b) (assigned at a) (assigned at b) (writes_is a) (writes_is b) h
+    within_is (Element of a b) h = two (writes n y a) (writes n y b) (assigned_objects at a) (assigned_objects at b) (writes_is a) (writes_is b) h
+    within_is (ElementFrom of a b) h = two (writes n y a) (writes n y b) (assigned_objects at a) (assigned_objects at b) (writes_is a) (writes_is b) h
 
     pub all_are : (all : ArgumentTrees) → writes_any n y all ≡ true → IsAssigned n at y (assigned_by_all at all)
     all_are none h = absurd (false_true h)
-    all_are (first e rest) h = two (writes n y e) (writes_any n y rest) (assigned at e) (assigned_by_all at rest) (writes_is e) (all_are rest) h
+    all_are (first e rest) h = two (writes n y e) (writes_any n y rest) (assigned_objects at e) (assigned_by_all at rest) (writes_is e) (all_are rest) h

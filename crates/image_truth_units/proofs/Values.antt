@@ -13,7 +13,7 @@ use Rattle.image_build_tables.specs.Variables.{element_of_integer, element_by_st
 use Rattle.image_form.specs.Form.{Form}
 use Rattle.line_form.specs.Decimal.{decimal, signed_decimal}
 use Rattle.line_form.specs.Values.{null_text}
-use Rattle.rv_machine.specs.State.{State}
+use Rattle.rv_machine.specs.State.{MachineState}
 use Rattle.stop_engine_view.specs.Pointers.{pointer_text}
 use Rattle.stop_engine_view.specs.Values.{word_text}
 use Rattle.stop_engine_view.specs.Words.{element_size}
@@ -23,12 +23,12 @@ use Rattle.image_truth_units.specs.Standing.{Standing, IsWordOf, AreBitsOf, IsOf
 use Rattle.image_truth_units.proofs.Numbers.{number_shown}
 use Rattle.image_truth_units.proofs.Pointing.{pointer_shown}
 
-null_shown : (m : Form) (s : State) (place : ℕ) → pointer_text m s place 0 ≡ null_text
+null_shown : (m : Form) (s : MachineState) (place : ℕ) → pointer_text m s place 0 ≡ null_text
 unfolding pointer_text
 null_shown m s place = refl
 
 -- the bits that are kept of a word have its text
-bits_shown : (m : Form) (s : State) (place : ℕ) (base : IntegerType) (stars w : ℕ) → word_text m s place (element_by_stars base stars) (kept_bits (size_by_stars base stars) w) ≡ word_text m s place (element_by_stars base stars) w
+bits_shown : (m : Form) (s : MachineState) (place : ℕ) (base : IntegerType) (stars w : ℕ) → word_text m s place (element_by_stars base stars) (kept_bits (size_by_stars base stars) w) ≡ word_text m s place (element_by_stars base stars) w
 bits_shown m s place Char zero w = let same : w % 256 % 256 ≡ w % 256 = omega arith in ap decimal same
 bits_shown m s place UnsignedChar zero w = let same : w % 256 % 256 ≡ w % 256 = omega arith in ap decimal same
 bits_shown m s place SignedChar zero w = let same : w % 256 % 256 ≡ w % 256 = omega arith in ap (λ k. signed_decimal (cast_signed w8 k)) same
@@ -53,7 +53,7 @@ size_same Long zero = refl
 size_same UnsignedLong zero = refl
 size_same base (suc stars) = refl
 
-module _ (p : ProgramTree) (m : Form) (tables : HasVariablesOf p m) (memory : Memory) (here : Standing) (waiting : List Standing) (s : State) (h : HoldsMemory p m memory here waiting s) where
+module _ (p : ProgramTree) (m : Form) (tables : HasVariablesOf p m) (memory : Memory) (here : Standing) (waiting : List Standing) (s : MachineState) (h : HoldsMemory p m memory here waiting s) where
   -- The text of a value's word is that of the value.
   pub word_shown : (base : IntegerType) (stars : ℕ) (v : source.Value) (w : ℕ) → IsOfType base stars v → IsWordOf p m (here ∷ waiting) memory v w → IsText p memory v (word_text m s here.place (element_by_stars base stars) w)
   word_shown base zero (Number z) w of means = ap (word_text m s here.place (element_of_integer base)) means ∙ number_shown m s here.place base z of

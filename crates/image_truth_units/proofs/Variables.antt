@@ -35,7 +35,7 @@ use Rattle.image_form.specs.declared.tables.Function.{Function}
 use Rattle.image_form.specs.declared.variables.Storage.TheVariants as storage
 use Rattle.image_form.specs.declared.variables.Variable.{Variable}
 use Rattle.image_build_tables.specs.Storages.{keepings_of, storage_of, storages_of}
-use Rattle.image_build_tables.specs.Variables.{Shape, automatic_shape, count_of, counted, entry, literal_shape, owned_from, owner, owners_of, shape, shapes_of, static_shape}
+use Rattle.image_build_tables.specs.Variables.{Shape, automatic_shape, element_count, bounded_count as counted, entry, literal_shape, owned_from, owner, owners_of, shape, shapes_of, static_shape}
 use Rattle.image_build_tables.specs.Variables as declarations
 use Rattle.image_truth_units.specs.Units.{HasVariablesIn, IsVariableOf}
 use Rattle.image_truth_units.specs.Variables.{automatic_number}
@@ -105,7 +105,7 @@ data IsDeclaredAs (p : ProgramTree) (k : ℕ) (v : Variable) : Type 0 where
   of_automatic : (x f : ℕ) (a : AutomaticTree) → k ≡ automatic_number p x → slice_get p.automatics x ≡ Some a → shape v ≡ automatic_shape a → slice_get (owned_from 0 p.functions) x ≡ Some (Some f) → v.function ≡ Some f → IsDeclaredAs p k v
 
 -- a scalar has no count
-no_count : (of : ObjectType) → IsSingle of → count_of of ≡ 0
+no_count : (of : ObjectType) → IsSingle of → element_count of ≡ 0
 no_count (type.Scalar s) single = refl
 no_count (type.Array s count) single = absurd single
 

@@ -6,7 +6,7 @@ use Rattle.std.proofs.lemmas.Bool.{eq-eqb}
 use Rattle.std.proofs.lemmas.Option.{slice_get_within}
 use Rattle.word_base.specs.Owners.{Owner, Static, Literal, Variable as OfVariable}
 use Rattle.c_tree.specs.Programs.{ProgramTree}
-use Rattle.c_type_rules.specs.Types.{loaded}
+use Rattle.c_type_rules.specs.Types.{loaded_type}
 use Rattle.c_meaning_values.specs.Types.{scalar_size}
 use Rattle.c_meaning_values.specs.Memory as source-memory
 use Rattle.image_build_tables.specs.Variables.{element_by_stars}
@@ -16,8 +16,8 @@ use Rattle.memory_map.proofs.Facts.{map_facts}
 use Rattle.rv_emit_storage.specs.UnitMaps.{map_of_unit}
 use Rattle.image_form.specs.Form.{Form}
 use Rattle.image_form.specs.declared.variables.Storage.TheVariants as kept
-use Rattle.rv_machine.specs.State.{State, reg}
-use Rattle.stop_engine_view.specs.Pointers.{is_of}
+use Rattle.rv_machine.specs.State.{MachineState, reg}
+use Rattle.stop_engine_view.specs.Pointers.{is_variable_of}
 use Rattle.stop_engine_view.specs.Words.{element_word}
 use Rattle.graph_core.specs.declared.value.Owner.TheVariants as unit-owner
 use Rattle.graph_core.specs.Memory as unit-memory
@@ -53,7 +53,7 @@ times_within (suc i) zero size lt = absurd (omega (arith, lt))
 times_within (suc i) (suc count) size lt = let rest = times_within i count size (omega (arith, lt)) in omega (arith, rest)
 
 module _ (p : ProgramTree) (h : HomedForm) (valid : IsValid h.unit) (homed : HaveHomes h) (a : Arrangement) (e : EmittedForm) (m : Form) (count : length h.unit.statics ≡ static_count p) (keeps : KeepsObjectsOf h a m) (owners : m.owners ≡ e.owners) (outermost : slice_index e.owners 2 ≡ 0)
-    (c : Configuration) (s : State) (regions : e.map ≡ map_of_unit h.unit) (short : length s.code ≤ most_words s.map) (stands : StandsAt h e a c s) (running : IsRunning (over_homes h) c) (places : KeepsPlacesOf h a m)
+    (c : Configuration) (s : MachineState) (regions : e.map ≡ map_of_unit h.unit) (short : length s.code ≤ most_words s.map) (stands : StandsAt h e a c s) (running : IsRunning (over_homes h) c) (places : KeepsPlacesOf h a m)
     (memory : source-memory.Memory) (same : SameMemory p memory c.memory) (typed : AreTyped memory) (declared : (n : ℕ) (o : source-memory.Object) → slice_get memory n ≡ Some o → IsDeclared p o.owner o) where
   -- ---- Where objects are
 
@@ -80,7 +80,7 @@ module _ (p : ProgramTree) (h : HomedForm) (valid : IsValid h.unit) (homed : Hav
         deep = omega (arith, many, deep_is);
         variable = there.variable;
         is = ap (slice_get m.variables) (sym its.var) ∙ there.is;
-        own = ap (λ f. is_of f there.variable) place.function ∙ ap (λ o. option_map_or (λ g. g == its.activation.function) o false) there.owner ∙ eq-eqb its.activation.function its.activation.function refl;
+        own = ap (λ f. is_variable_of f there.variable) place.function ∙ ap (λ o. option_map_or (λ g. g == its.activation.function) o false) there.owner ∙ eq-eqb its.activation.function its.activation.function refl;
         offset = object_at (code_of h a its.activation.function).storage its.number;
         storage = there.there;
         starts = ap stands.addresses its.at ∙ frame.objects its.number (slice_get_within (code_of h a its.activation.function).graph.objects its.number its.object its.is);
@@ -110,7 +110,7 @@ module _ (p : ProgramTree) (h : HomedForm) (valid : IsValid h.unit) (homed : Hav
     values = λ i v at.
         let w = value_at p memory c.memory o.values held_there.object.values i v held_there.values at in
         let holds = stands.objects held_there.number held_there.object held_there.is held_there.same.lives i w.0 w.1 in
-        let of = values.typed memory o.element v (all_at (IsOf memory (loaded o.element)) o.values i v (typed k o is) at) in
+        let of = values.typed memory o.element v (all_at (IsOf memory (loaded_type o.element)) o.values i v (typed k o is) at) in
         let wide = times_within i (length held_there.object.values) (scalar_size o.element) (slice_get_within held_there.object.values i w.0 w.1) in
         let whole : unit-memory.bytes_of held_there.object ≡ length held_there.object.values * scalar_size o.element = ap (λ z. length held_there.object.values * z) size in
         let inside = inside_element s.map (stands.addresses held_there.number) (unit-memory.bytes_of held_there.object) (i * scalar_size o.element) (scalar_size o.element) (omega (arith, wide, whole)) region in
@@ -154,7 +154,7 @@ module _ (p : ProgramTree) (h : HomedForm) (valid : IsValid h.unit) (homed : Hav
         callers = callers_found h a e stands.addresses m s stands.map owners outermost (reg s 2) c.here c.waiting stands.stack (placed_all h a m places c running);
         inside = λ o start bytes area. bounded e.map start bytes (area_inside p h valid homed a m e regions stands.addresses (memory_of s.map s.bytes s.stack) count keeps (reg s 2) c.here c.waiting stands.stack (placed_all h a m places c running) o start bytes area);
         apart = λ o q start other bytes its differ first second. areas_apart p h valid homed a m e regions stands.addresses (memory_of s.map s.bytes s.stack) count keeps (reg s 2) c.here c.waiting stands.stack (placed_all h a m places c running) o q start other bytes its differ first second;
-        typed = λ n i o v is at. values.typed memory o.element v (all_at (IsOf memory (loaded o.element)) o.values i v (typed n o is) at);
+        typed = λ n i o v is at. values.typed memory o.element v (all_at (IsOf memory (loaded_type o.element)) o.values i v (typed n o is) at);
         declared = declared;
         objects = λ n o is live inside. object_stands n o is (same n o is live (kept_in_memory o.owner inside));
       }

@@ -6,8 +6,8 @@ use Rattle.std.proofs.lemmas.List.{length-replicate, length-set}
 use Rattle.std.proofs.lemmas.Option.{none-some, same_Some, slice_get_within, get_or_from_slice_get}
 use Rattle.places.specs.declared.table.PlaceRow.{PlaceRow}
 use Rattle.c_tree.specs.Programs.{ProgramTree, TypedFunctionTree}
-use Rattle.c_places.specs.Places.{Place, entry_of, number_at, places_of_program}
-use Rattle.c_flow.specs.Rows.{Row, row_of, row_view}
+use Rattle.c_places.specs.Places.{Place, entry_of, place_number_at, places_of_program}
+use Rattle.c_flow.specs.Rows.{Row, flow_row, row_view}
 use Rattle.graph_core.specs.Graphs.{Graph}
 use Rattle.graph_core.specs.Paths.{Among, front, behind}
 use Rattle.graph_core.specs.Validity.{AreAllDifferent}
@@ -143,7 +143,7 @@ module _ (p : ProgramTree) (h : HomedForm) (e : EmittedForm) (rows : List PlaceR
   has_row : (i : ℕ) (q : Place) (x : ImagePlace) → slice_get (places_of_program p) i ≡ Some q → slice_get m.places i ≡ Some x → HasRow i q x
   has_row i q x is at =
       let r = across spot spot_of_row m.places rows i x given.tables.places at in
-      let same : row_view r.0 ≡ row_of p q = same_Some (row_view r.0) (row_of p q) (sym (map_at row_view rows i r.0 r.1) ∙ ap (λ l. slice_get l i) given.tables.rows_are ∙ map_at (row_of p) (places_of_program p) i q is) in
+      let same : row_view r.0 ≡ flow_row p q = same_Some (row_view r.0) (flow_row p q) (sym (map_at row_view rows i r.0 r.1) ∙ ap (λ l. slice_get l i) given.tables.rows_are ∙ map_at (flow_row p) (places_of_program p) i q is) in
       record {
         row = r.0;
         row_is = r.1;
@@ -170,7 +170,7 @@ module _ (p : ProgramTree) (h : HomedForm) (e : EmittedForm) (rows : List PlaceR
           record {
             word = lies.from;
             address_is = first ∙ lies.begins;
-            owner = given.lie.entries of.index lies.from parts.graph parts.code parts.graph_is parts.code_is lies.begins ∙ parts.entry_is ∙ ap (λ (y : Place). number_at (places_of_program p) y.spot.at) of.same ∙ number;
+            owner = given.lie.entries of.index lies.from parts.graph parts.code parts.graph_is parts.code_is lies.begins ∙ parts.entry_is ∙ ap (λ (y : Place). place_number_at (places_of_program p) y.spot.at) of.same ∙ number;
           }
 
   stop_word : (i : ℕ) (q : Place) (x : ImagePlace) → slice_get (places_of_program p) i ≡ Some q → slice_get m.places i ≡ Some x → q.is_entry ≡ false → HasWord e i x

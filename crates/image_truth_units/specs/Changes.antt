@@ -8,7 +8,8 @@ use Rattle.debug_records.specs.declared.change.Kind.TheVariants.{Sunk}
 use Rattle.graph_core.specs.Graphs.{Logged}
 use Rattle.image_truth_units.specs.Tables.{variables_in}
 
--- An image can tell of a change: its pass has a name of 1 to 16 lower-case letters, it was made at a place of the program and concerns a variable of it, and it is none by which an assignment sank.
+-- An image can tell of a change: its pass has a name of 1 to 16 lower-case letters, it was made at a place of the
+-- program and concerns a variable of it, and it is none by which an assignment sank.
 pub record CanBeTold (p : ProgramTree) (c : Logged) : Type 0 where
   pub called : IsPassName (letters c.pass)
   pub place_some : 1 ≤ c.place

@@ -19,10 +19,13 @@ pub record IsPlaceIn (p : ProgramTree) (function number : ℕ) : Type 0 where
   pub number_is : number ≡ index + 1
   pub function_is : at.function ≡ function
 
--- THE MARKERS OF A UNIT ARE ITS PROGRAM'S PLACES: each place has one, in the graph of its function, and each is that of such a place.
+-- THE MARKERS OF A UNIT ARE ITS PROGRAM'S PLACES: each place has one, in the graph of its function, and each is that of
+-- such a place.
 pub record HasOwnPlaces (p : ProgramTree) (u : UnitForm) : Type 0 where
-  pub marked : (i : ℕ) (q : Place) (g : Graph) → slice_get (places_of_program p) i ≡ Some q → slice_get u.graphs q.function ≡ Some g → Among (i + 1) (markers_of_blocks g.blocks)
-  pub own : (f place : ℕ) (g : Graph) → slice_get u.graphs f ≡ Some g → Among place (markers_of_blocks g.blocks) → IsPlaceIn p f place
+  pub marked : (i : ℕ) (q : Place) (g : Graph) → slice_get (places_of_program p) i ≡ Some q
+      → slice_get u.graphs q.function ≡ Some g → Among (i + 1) (markers_of_blocks g.blocks)
+  pub own : (f place : ℕ) (g : Graph) → slice_get u.graphs f ≡ Some g → Among place (markers_of_blocks g.blocks)
+      → IsPlaceIn p f place
 
 -- A graph has a scalar for the variable of this number.
 pub record HasScalarOf (g : Graph) (number : ℕ) : Type 0 where
@@ -43,7 +46,12 @@ abbrev pub IsSingle : ObjectType → Type 0
 IsSingle (type.Scalar s) = Unit {0}
 IsSingle (type.Array element count) = ⊥
 
--- EACH VARIABLE OF A FUNCTION HAS A HOME IN ITS GRAPH: it is one of the graph's scalars or of its objects, and a scalar is no array.
+-- EACH VARIABLE OF A FUNCTION HAS A HOME IN ITS GRAPH: it is one of the graph's scalars or of its objects, and a scalar
+-- is no array.
 pub record HasAllVariables (p : ProgramTree) (u : UnitForm) : Type 0 where
-  pub there : (x f : ℕ) (a : AutomaticTree) (g : Graph) → slice_get p.automatics x ≡ Some a → slice_get (owned_from 0 p.functions) x ≡ Some (Some f) → slice_get u.graphs f ≡ Some g → HasScalarOf g (automatic_number p x) ⊎ HasObjectOf g (automatic_number p x)
-  pub single : (f k x : ℕ) (g : Graph) (s : Scalar) (a : AutomaticTree) → slice_get u.graphs f ≡ Some g → slice_get g.scalars k ≡ Some s → s.variable ≡ automatic_number p x → slice_get p.automatics x ≡ Some a → IsSingle a.of
+  pub there : (x f : ℕ) (a : AutomaticTree) (g : Graph) → slice_get p.automatics x ≡ Some a
+      → slice_get (owned_from 0 p.functions) x ≡ Some (Some f) → slice_get u.graphs f ≡ Some g
+      → HasScalarOf g (automatic_number p x) ⊎ HasObjectOf g (automatic_number p x)
+  pub single : (f k x : ℕ) (g : Graph) (s : Scalar) (a : AutomaticTree) → slice_get u.graphs f ≡ Some g
+      → slice_get g.scalars k ≡ Some s → s.variable ≡ automatic_number p x → slice_get p.automatics x ≡ Some a
+      → IsSingle a.of

@@ -20,9 +20,12 @@ pub record IsWordOf (e : EmittedForm) (index : ℕ) : Type 0 where
   pub low : code.first ≤ address_of_word index
   pub high : address_of_word index < code.end
 
--- THE CODE OF FUNCTIONS LIES IN THEIR ORDER: each within the code of the unit and behind those before it, and its first word belongs to the place at which the function begins; a word that belongs to a place is one of a function.
+-- THE CODE OF FUNCTIONS LIES IN THEIR ORDER: each within the code of the unit and behind those before it, and its first
+-- word belongs to the place at which the function begins; a word that belongs to a place is one of a function.
 pub record LieInOrder (u : UnitForm) (e : EmittedForm) : Type 0 where
   pub lying : (f : ℕ) (c : FunctionCode) → slice_get e.functions f ≡ Some c → IsLying e c
-  pub order : (f g : ℕ) (c d : FunctionCode) → f < g → slice_get e.functions f ≡ Some c → slice_get e.functions g ≡ Some d → c.end ≤ d.first
-  pub entries : (f i : ℕ) (g : Graph) (c : FunctionCode) → slice_get u.graphs f ≡ Some g → slice_get e.functions f ≡ Some c → c.first ≡ address_of_word i → slice_index e.owners i ≡ g.entry
+  pub order : (f g : ℕ) (c d : FunctionCode) → f < g → slice_get e.functions f ≡ Some c
+      → slice_get e.functions g ≡ Some d → c.end ≤ d.first
+  pub entries : (f i : ℕ) (g : Graph) (c : FunctionCode) → slice_get u.graphs f ≡ Some g
+      → slice_get e.functions f ≡ Some c → c.first ≡ address_of_word i → slice_index e.owners i ≡ g.entry
   pub outside : (i : ℕ) → slice_index e.owners i ≢ 0 → IsWordOf e i

@@ -11,6 +11,7 @@ use Rattle.c_meaning_values.specs.declared.value.Value.{Value}
 use Rattle.c_meaning_values.specs.declared.value.Value.TheVariants.{Number, Null, Pointer}
 use Rattle.c_meaning_values.specs.Memory.{Memory, Object, is_over}
 use Rattle.event_runs.specs.Agreement.{Pairs}
+pub use Rattle.stop_engine_view.specs.Values.{most_elements}
 
 -- the name of a static object, and of an automatic one
 abbrev pub static_name : ProgramTree → ℕ → List ℕ
@@ -30,11 +31,8 @@ owner_text p (Variable x depth) offset = frame_pointer (automatic_name p x) dept
 abbrev pub IsText : ProgramTree → Memory → Value → (text : List ℕ) → Type 0
 IsText p memory (Number z) text = text ≡ signed_decimal z
 IsText p memory Null text = text ≡ null_text
-IsText p memory (Pointer n offset) text = (o : Object) → slice_get memory n ≡ Some o → is_over o.phase ≡ false → text ≡ owner_text p o.owner offset
-
--- how many elements of an array are shown at most
-unfoldable pub most_elements : ℕ
-most_elements = 64
+IsText p memory (Pointer n offset) text =
+    (o : Object) → slice_get memory n ≡ Some o → is_over o.phase ≡ false → text ≡ owner_text p o.owner offset
 
 -- this is the text of an array: of its elements one by one
 pub record IsArrayText (p : ProgramTree) (memory : Memory) (values : List Value) (text : List ℕ) : Type 0 where

@@ -15,12 +15,16 @@ kind_word Sunk = codes "sunk"
 
 -- NUMBER PASS KIND PLACE, of a change
 unfoldable pub change_text : (number : ℕ) → (pass : List ℕ) → Kind → (place : ℕ) → List ℕ
-change_text number pass kind place = decimal number ++ (codes " " ++ (pass ++ (codes " " ++ (kind_word kind ++ (codes " " ++ decimal place)))))
+change_text number pass kind place =
+    decimal number ++ (codes " " ++ (pass ++ (codes " " ++ (kind_word kind ++ (codes " " ++ decimal place)))))
 
 -- NUMBER PASS KIND NAME PLACE, of a change of the variable of this name
 unfoldable pub change_line : (number : ℕ) → (pass : List ℕ) → Kind → (name : List ℕ) → (place : ℕ) → List ℕ
 change_line number pass kind name place =
-    decimal number ++ (codes " " ++ (pass ++ (codes " " ++ (kind_word kind ++ (codes " " ++ (name ++ (codes " " ++ decimal place)))))))
+    decimal number
+    ++
+    (codes " "
+    ++ (pass ++ (codes " " ++ (kind_word kind ++ (codes " " ++ (name ++ (codes " " ++ decimal place)))))))
 
 -- NAME = VALUE (recovered: CHANGE), for a value that is computed anew
 unfoldable pub recovered_line : (name value change : List ℕ) → List ℕ
@@ -43,7 +47,8 @@ noncurrent_line name change places = hidden_value name (codes " noncurrent: ") c
 unfoldable pub nonresident_line : (name change : List ℕ) → (places : List ℕ) → List ℕ
 nonresident_line name change places = hidden_value name (codes " nonresident: ") change ++ path_text places
 
--- NAME suspect: CHANGE, PATH, current PATH, for a value that its home holds on the second path and does not hold on the first
+-- NAME suspect: CHANGE, PATH, current PATH, for a value that its home holds on the second path and does not hold on the
+-- first
 unfoldable pub suspect_line : (name change : List ℕ) → (places current : List ℕ) → List ℕ
 suspect_line name change places current =
     hidden_value name (codes " suspect: ") change ++ (path_text places ++ (codes ", current " ++ path_text current))

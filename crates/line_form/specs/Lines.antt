@@ -7,8 +7,8 @@ use Rattle.line_form.specs.Hexadecimal.{hexadecimal}
 abbrev pub line : List ℕ → List ℕ
 line text = text ++ 10 ∷ []
 
--- A byte of the program's output between quotes: a backslash stands before a quote and a backslash, any other byte from 32 to
--- 126 stands for itself, and the rest are \x and two hexadecimal digits.
+-- A byte of the program's output between quotes: a backslash stands before a quote and a backslash, any other byte from
+-- 32 to 126 stands for itself, and the rest are \x and two hexadecimal digits.
 unfoldable pub quoted_byte : ℕ → List ℕ
 quoted_byte b =
     if b == 34 || b == 92 then 92 ∷ b ∷ []
@@ -31,7 +31,12 @@ out_lines output = map out_line (pieces ((length output + 63) / 64) output)
 -- at PLACE line LINE FUNCTION depth DEPTH, for a stop
 unfoldable pub stop_line : ℕ → ℕ → List ℕ → ℕ → List ℕ
 stop_line place source_line function depth =
-    codes "at " ++ (decimal place ++ (codes " line " ++ (decimal source_line ++ (codes " " ++ (function ++ (codes " depth " ++ decimal depth))))))
+    codes "at "
+    ++
+    (decimal place
+    ++
+    (codes " line "
+    ++ (decimal source_line ++ (codes " " ++ (function ++ (codes " depth " ++ decimal depth))))))
 
 -- exit VALUE, where the program has ended with that value
 unfoldable pub exit_line : ℤ → List ℕ
@@ -92,4 +97,11 @@ no_function_line name = codes "no function " ++ name
 -- #NUMBER FUNCTION line LINE place PLACE, for an activation, the innermost one with number 0
 unfoldable pub frame_line : ℕ → List ℕ → ℕ → ℕ → List ℕ
 frame_line number function source_line place =
-    codes "#" ++ (decimal number ++ (codes " " ++ (function ++ (codes " line " ++ (decimal source_line ++ (codes " place " ++ decimal place))))))
+    codes "#"
+    ++
+    (decimal number
+    ++
+    (codes " "
+    ++
+    (function
+    ++ (codes " line " ++ (decimal source_line ++ (codes " place " ++ decimal place))))))

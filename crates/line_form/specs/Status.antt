@@ -21,7 +21,8 @@ status_number (AuditFailed rule line) = 10
 
 -- what was refused, the code, and where, as `cdbg: source refused E29 line 1`
 abbrev pub refusal_text : (what : List ℕ) → Code → (kind : List ℕ) → ℕ → List ℕ
-refusal_text what code kind at = codes "cdbg: " ++ (what ++ (codes " refused " ++ (code_text code ++ (kind ++ decimal at))))
+refusal_text what code kind at =
+    codes "cdbg: " ++ (what ++ (codes " refused " ++ (code_text code ++ (kind ++ decimal at))))
 
 -- the message without its line end; none for a job that was done
 abbrev pub fault_text : Status → List ℕ

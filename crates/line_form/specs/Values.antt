@@ -9,13 +9,13 @@ abbrev pub next_value : List ℕ → List ℕ
 next_value value = codes ", " ++ value
 
 -- texts with a comma and a space between each and the next one
-abbrev pub listed : List (List ℕ) → List ℕ
-listed [] = []
-listed (value ∷ values) = value ++ flat_map next_value values
+abbrev pub comma_separated : List (List ℕ) → List ℕ
+comma_separated [] = []
+comma_separated (value ∷ values) = value ++ flat_map next_value values
 
 -- {VALUE, VALUE}, or {VALUE, VALUE, ...} where there are more elements
 unfoldable pub array_text : List (List ℕ) → (more : Bool) → List ℕ
-array_text values more = codes "{" ++ (listed values ++ ((if more then codes ", ..." else []) ++ codes "}"))
+array_text values more = codes "{" ++ (comma_separated values ++ ((if more then codes ", ..." else []) ++ codes "}"))
 
 -- NAME = VALUE, of a member of a structure
 unfoldable pub member_text : (name value : List ℕ) → List ℕ
@@ -23,7 +23,7 @@ member_text name value = value_line name value
 
 -- {NAME = VALUE, NAME = VALUE}, of these members
 unfoldable pub structure_text : (members : List (List ℕ)) → List ℕ
-structure_text members = codes "{" ++ (listed members ++ codes "}")
+structure_text members = codes "{" ++ (comma_separated members ++ codes "}")
 
 -- null, the pointer to nothing
 unfoldable pub null_text : List ℕ

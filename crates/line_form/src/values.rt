@@ -1,7 +1,7 @@
 //! The texts of arrays, structures and pointers.
 
 ghost use Rattle.std.specs.Prelude.{◌≡◌, ◌++◌, [], map, flat_map, codes, if◌then◌else◌, IfOk, OnOk};
-ghost use Rattle.line_form.specs.Values.{array_text, frame_pointer, listed, literal_pointer, member_text, next_value, null_text, static_pointer, structure_text, unknown_pointer};
+ghost use Rattle.line_form.specs.Values.{array_text, frame_pointer, comma_separated, literal_pointer, member_text, next_value, null_text, static_pointer, structure_text, unknown_pointer};
 
 use crate::shown::value_line;
 use std::alloc::{AllocError, Global};
@@ -26,7 +26,7 @@ fn push_rest(text: &mut Vec<u8>, values: &[Vec<u8>]) -> Result<(), AllocError>
 
 /// Appends texts, with a comma and a space between each and the next one.
 fn push_listed(text: &mut Vec<u8>, values: &[Vec<u8>]) -> Result<(), AllocError>
-    ensures { OnOk result (text.new.items ≡ text.old.items ++ listed (map (λ v. v.items) values.now)) }
+    ensures { OnOk result (text.new.items ≡ text.old.items ++ comma_separated (map (λ v. v.items) values.now)) }
 {
     match values {
         [first, rest @ ..] => {

@@ -45,7 +45,8 @@ stack_size = 16777216
 abbrev pub stack_end : Map → ℕ
 stack_end m = stack_start m + stack_size
 
--- How many words stand before all functions: two that set the stack pointer and the thread pointer, the call of `main`, which is one word or two, and two that end the run.
+-- How many words stand before all functions: two that set the stack pointer and the thread pointer, the call of `main`,
+-- which is one word or two, and two that end the run.
 abbrev pub stub_words : Map → ℕ
 stub_words One = 5
 stub_words Two = 6

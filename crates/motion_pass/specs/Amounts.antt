@@ -13,7 +13,8 @@ pub record IsAmount (a : Amount) (all : List Graph) : Type 0 where
   pub instructions : a.instructions ≡ total instructions_of all
   pub blocks : a.blocks ≡ total (λ (g : Graph). length g.blocks) all
 
--- The graphs of a valid unit of either room: they have no more than it may, each is within the bounds of a function, and their edges lead to blocks.
+-- The graphs of a valid unit of either room: they have no more than it may, each is within the bounds of a function,
+-- and their edges lead to blocks.
 pub record AreBounded (all : List Graph) : Type 0 where
   pub instructions : total instructions_of all ≤ most_instructions Large
   pub blocks : total (λ (g : Graph). length g.blocks) all ≤ most_blocks Large

@@ -29,14 +29,17 @@ is_label n label = label.0 == n
 abbrev pub LeadsTo : List Block → (from to : ℕ) → Type 0
 LeadsTo blocks from to = (b : Block) × (slice_get blocks from ≡ Some b) × Among to (targets_of b.end)
 
--- A LIST OF BLOCKS IS A PATH FROM THE ENTRY: it begins with the first block, each number is that of a block, and each end leads to the block behind.
+-- A LIST OF BLOCKS IS A PATH FROM THE ENTRY: it begins with the first block, each number is that of a block, and each
+-- end leads to the block behind.
 pub record IsPath (blocks : List Block) (path : List ℕ) : Type 0 where
   pub begins : slice_get path 0 ≡ Some 0
   pub blocks_all : (k n : ℕ) → slice_get path k ≡ Some n → n < length blocks
   pub leads : (k from to : ℕ) → slice_get path k ≡ Some from → slice_get path (k + 1) ≡ Some to → LeadsTo blocks from to
 
--- So far as the number at an index tells, a list may be such a path: it is that of a block, of the first one at the beginning, and the end of the one before leads to it.
+-- So far as the number at an index tells, a list may be such a path: it is that of a block, of the first one at the
+-- beginning, and the end of the one before leads to it.
 pub record IsEntered (blocks : List Block) (path : List ℕ) (index : ℕ) : Type 0 where
   pub is_block : (n : ℕ) → slice_get path index ≡ Some n → n < length blocks
   pub begins : index ≡ 0 → slice_get path 0 ≡ Some 0
-  pub leads : (k from to : ℕ) → k + 1 ≡ index → slice_get path k ≡ Some from → slice_get path index ≡ Some to → LeadsTo blocks from to
+  pub leads : (k from to : ℕ) → k + 1 ≡ index → slice_get path k ≡ Some from → slice_get path index ≡ Some to
+      → LeadsTo blocks from to

@@ -1,4 +1,5 @@
--- Graphs with more computations than others: they stand between the instructions before, or in place of computations, or in blocks of their own on edges.
+-- Graphs with more computations than others: they stand between the instructions before, or in place of computations,
+-- or in blocks of their own on edges.
 use Rattle.std.specs.Prelude.{◌≡◌, ℕ, ◌≤◌, true, Option, Some, List, [], ◌∷◌, ◌++◌, slice_get, ⊤}
 use Rattle.std.specs.List.{AllByRecursion}
 use Rattle.event_runs.specs.Agreement.{Pairs}
@@ -30,10 +31,13 @@ module _ (May : Instruction → Type 0) where
   -- The instructions before become those after, in order, and computations are added between them.
   pub data AreGrown : (before after : List Instruction) → Type 0 where
     ends : AreGrown [] []
-    adds : {i : Instruction} {before after : List Instruction} → IsAdded before i → AreGrown before after → AreGrown before (i ∷ after)
-    turns : {i j : Instruction} {before after : List Instruction} → Turns i j → AreGrown before after → AreGrown (i ∷ before) (j ∷ after)
+    adds : {i : Instruction} {before after : List Instruction} → IsAdded before i → AreGrown before after
+        → AreGrown before (i ∷ after)
+    turns : {i j : Instruction} {before after : List Instruction} → Turns i j → AreGrown before after
+        → AreGrown (i ∷ before) (j ∷ after)
 
-  -- A block stands between another, at whose end this place is in force, and the one to which that led: it keeps the place, and only computes.
+  -- A block stands between another, at whose end this place is in force, and the one to which that led: it keeps the
+  -- place, and only computes.
   pub record IsBetween (in_force : Option ℕ) (to : ℕ) (c : Block) : Type 0 where
     pub place : c.place ≡ in_force
     pub instructions : AreGrown [] c.instructions
@@ -57,7 +61,8 @@ module _ (May : Instruction → Type 0) where
     pub data IsGrownEnd (place : Option ℕ) : (before after : End) → Type 0 where
       returns : {a : Option Operand} → IsGrownEnd place (Return a) (Return a)
       jumps : {to : ℕ} → IsGrownEnd place (Jump to) (Jump to)
-      branches : {k : Comparison} {a b : Operand} {to else label other : ℕ} → IsLedTo place to label → IsLedTo place else other → IsGrownEnd place (Branch k a b to else) (Branch k a b label other)
+      branches : {k : Comparison} {a b : Operand} {to else label other : ℕ} → IsLedTo place to label
+          → IsLedTo place else other → IsGrownEnd place (Branch k a b to else) (Branch k a b label other)
 
     -- A block keeps its place, and its instructions and its end become those after.
     pub record IsGrownBlock (b c : Block) : Type 0 where
@@ -65,7 +70,8 @@ module _ (May : Instruction → Type 0) where
       pub instructions : AreGrown b.instructions c.instructions
       pub end : IsGrownEnd (place_at_end b) b.end c.end
 
--- A graph has more names and blocks than another, and stays within bounds: its first blocks are those of the other with what they compute more, and behind them come those on edges.
+-- A graph has more names and blocks than another, and stays within bounds: its first blocks are those of the other with
+-- what they compute more, and behind them come those on edges.
 pub record IsGrown (May : Graph → Instruction → Type 0) (g h : Graph) : Type 0 where
   pub rest : h ≡ record g { name_count = h.name_count; blocks = h.blocks }
   pub more : g.name_count ≤ h.name_count

@@ -31,7 +31,9 @@ treated_by p = with_temporaries (all_of p) p.temporaries.items
 
 -- each edge leads to a block
 abbrev pub LeadInside : List Block → Type 0
-LeadInside blocks = (n : ℕ) (b : Block) → slice_get blocks n ≡ Some b → (l : ℕ) → Among l (targets_of b.end) → (c : Block) × (slice_get blocks l ≡ Some c)
+LeadInside blocks =
+    (n : ℕ) (b : Block) → slice_get blocks n ≡ Some b → (l : ℕ) → Among l (targets_of b.end)
+    → (c : Block) × (slice_get blocks l ≡ Some c)
 
 abbrev pub graph_of : Moving → Graph
 graph_of m = graph_view m.graph.now
@@ -45,7 +47,8 @@ first_of m = m.graph.now.name_count
 abbrev pub treated_in : Moving → List Computation
 treated_in m = treated_by m.placement.now
 
--- What is moved is a graph whose computations are placed so, that has no more blocks than a valid unit, and whose edges lead to them.
+-- What is moved is a graph whose computations are placed so, that has no more blocks than a valid unit, and whose edges
+-- lead to them.
 pub record IsMoving (m : Moving) : Type 0 where
   pub are : IsPlaced (graph_of m) m.placement.now
   pub few : length (blocks_of m) ≤ most_blocks Large
@@ -78,10 +81,12 @@ pub record IsLedBehind (m : Moving) (from : ℕ) (place : Option ℕ) (to label 
   pub grown : new ≡ old ++ own
 
 -- what becomes of an end: what is done on its only edge stands behind instructions
-pub record IsEndBehind (m : Moving) (from : ℕ) (place : Option ℕ) (before after : End) (old new : List Instruction) (old_blocks new_blocks : List Block) : Type 0 where
+pub record IsEndBehind (m : Moving) (from : ℕ) (place : Option ℕ) (before after : End) (old new : List Instruction)
+    (old_blocks new_blocks : List Block) : Type 0 where
   pub done : List Instruction
   pub own : List Block
-  pub is : IsEnd (blocks_of m) (first_of m) (treated_in m) from place (length (blocks_of m) + length old_blocks) before done after own
+  pub is : IsEnd (blocks_of m) (first_of m) (treated_in m) from place (length (blocks_of m) + length old_blocks)
+      before done after own
   pub behind : new ≡ old ++ done
   pub grown : new_blocks ≡ old_blocks ++ own
 

@@ -7,7 +7,7 @@ use Rattle.graph_core.specs.declared.value.Value.{Value}
 use Rattle.graph_core.specs.Graphs.{Instruction, End, Graph, UnitForm}
 use Rattle.graph_core.specs.Computations.{Computation}
 use Rattle.graph_core.specs.Validity.{IsInstruction, AreOperandsOfEnd, IsBlock, IsGraph}
-use Rattle.graph_core.specs.Runs.{put}
+use Rattle.graph_core.specs.Runs.{with_value_at}
 use Rattle.motion_pass_points.specs.Ways.{Point, within, along, spoils_at, Leads, IsCome, goes, IsWanted, wanted_here, wanted_later, IsInserted}
 use Rattle.motion_pass_points.proofs.Keys.{it_does}
 use Rattle.motion_pass_placement.specs.Moving.{IsDoneAt}
@@ -51,7 +51,7 @@ module _ (u : UnitForm) (g : Graph) (valid : IsGraph u g) where
     Agree others = (x : ℕ) → x < g.name_count → others x ≡ names x
 
     -- Of several computations the first is done: then it is settled with the others.
-    pub settled_first : (p : Point) (name : ℕ) (e : Computation) (more : List Computation) (before after : ℕ → Value) → IsDoneAt g.blocks e p → IsSettled p (suc name) more (put before name (worth e)) after → IsSettled p name (e ∷ more) before after
+    pub settled_first : (p : Point) (name : ℕ) (e : Computation) (more : List Computation) (before after : ℕ → Value) → IsDoneAt g.blocks e p → IsSettled p (suc name) more (with_value_at before name (worth e)) after → IsSettled p name (e ∷ more) before after
     settled_first p name e more before after is rest = record {
       kept = λ x less. rest.kept x (omega (arith, less)) ∙ put_other before name (worth e) x (λ same. omega (arith, less, same));
       each = each;
@@ -63,7 +63,7 @@ module _ (u : UnitForm) (g : Graph) (valid : IsGraph u g) where
         first_kept : after name ≡ worth e
         first_kept = rest.kept name (omega (arith)) ∙ put_same before name (worth e)
 
-        stays : (k : ℕ) → put before name (worth e) (suc name + k) ≡ before (name + suc k)
+        stays : (k : ℕ) → with_value_at before name (worth e) (suc name + k) ≡ before (name + suc k)
         stays k = put_other before name (worth e) (suc name + k) (λ same. omega (arith, same)) ∙ ap before (next k)
 
         each : (k : ℕ) (d : Computation) → slice_get (e ∷ more) k ≡ Some d → (IsDoneAt g.blocks d p × (after (name + k) ≡ worth d)) ⊎ ((IsDoneAt g.blocks d p → ⊥) × (after (name + k) ≡ before (name + k)))

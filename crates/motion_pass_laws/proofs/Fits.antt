@@ -7,7 +7,7 @@ use Rattle.graph_core.specs.Graphs.{Name, Instruction, Move, End, Block, Graph, 
 use Rattle.graph_core.specs.Computations.{Computation, computed_by}
 use Rattle.graph_core.specs.Uses.{target_of}
 use Rattle.graph_core.specs.Validity.{IsInstruction, AreOperandsOfEnd, IsGraph, place_at_end}
-use Rattle.graph_core.specs.Runs.{put}
+use Rattle.graph_core.specs.Runs.{with_value_at}
 use Rattle.motion_pass_points.specs.Ways.{within, IsCome}
 use Rattle.motion_pass_placement.specs.Moving.{AreMoved, IsEnd, IsMovedBlock, IsMoved}
 use Rattle.motion_pass_laws.proofs.Blocks.{IsFound, found, as_many, at_left, at_right}
@@ -91,7 +91,7 @@ pub data Fits (u : UnitForm) (g : Graph) : (count : ℕ) (blocks : List Block) (
 -- They fit behind an instruction or a call that writes no name, and behind one that writes a value to a name.
 pub record GoesOn (u : UnitForm) (g : Graph) (count : ℕ) (blocks : List Block) (live : ℕ → Bool) (names others : ℕ → Value) (target : Option ℕ) (before after : List Instruction) (end later : End) : Type 0 where
   pub passed : target ≡ None → Fits u g count blocks live names others before after end later
-  pub written : (x : ℕ) (w : Value) → target ≡ Some x → Fits u g count blocks live (put names x w) (put others x w) before after end later
+  pub written : (x : ℕ) (w : Value) → target ≡ Some x → Fits u g count blocks live (with_value_at names x w) (with_value_at others x w) before after end later
 
 -- An instruction after does what one before does: it is the same, or it reads a temporary that has the value of its computation.
 pub data Acts (worth_of : Computation → Value) (others : ℕ → Value) (i : Instruction) : Instruction → Type 0 where

@@ -10,7 +10,7 @@ use Rattle.graph_core.specs.declared.value.Value.TheVariants.{Number, Pointer, O
 use Rattle.graph_core.specs.declared.instruction.Element.{Element}
 use Rattle.graph_core.specs.Graphs.{Binding, ToScalar, ToObject, Graph}
 use Rattle.graph_core.specs.Values.{size_of}
-use Rattle.graph_core.specs.Memory.{Object, Memory, is_live, address_of, index_in, with_value, write, write_in, written_in, filled, with_object, zeroed, copied, elements_from, words_of, bytes_of, ended, ended_from}
+use Rattle.graph_core.specs.Memory.{Object, Memory, is_live, pointer_to_object, index_in, with_value, write, write_in, written_in, filled, with_object, zeroed, copied, elements_from, words_of, bytes_of, ended, ended_from}
 use Rattle.graph_core.specs.Runs.{bind_objects, set_first, with_objects}
 
 -- the same objects live
@@ -78,9 +78,9 @@ set_lives n v memory = by_object (slice_get memory n)
     by_memory None keeps k = refl
     by_memory (Some m) keeps k = keeps k
 
-    by_object : (o : Option Object) → LiveTheSame memory (option_map_or (λ o. option_map_or (λ m. m) (write memory o.element (address_of memory n) v) memory) o memory)
+    by_object : (o : Option Object) → LiveTheSame memory (option_map_or (λ o. option_map_or (λ m. m) (write memory o.element (pointer_to_object memory n) v) memory) o memory)
     by_object None k = refl
-    by_object (Some o) k = by_memory (write memory o.element (address_of memory n) v) (write_lives memory o.element (address_of memory n) v) k
+    by_object (Some o) k = by_memory (write memory o.element (pointer_to_object memory n) v) (write_lives memory o.element (pointer_to_object memory n) v) k
 
 -- so do several
 bound_live : (first : ℕ) (bindings : List Binding) (vs : List Value) (memory : Memory) → LiveTheSame memory (bind_objects first bindings vs memory)

@@ -8,7 +8,7 @@ use Rattle.graph_core.specs.Graphs.{Instruction, Marker, Note, Move, Operate, Tr
 use Rattle.graph_core.specs.Uses.{target_of}
 use Rattle.graph_core.specs.Memory.{is_live}
 use Rattle.graph_core.specs.Validity.{IsInstruction}
-use Rattle.graph_core.specs.Runs.{Activation, Configuration, put}
+use Rattle.graph_core.specs.Runs.{Activation, Configuration, with_value_at}
 use Rattle.motion_pass_points.specs.Ways.{Point, within, passes, goes}
 use Rattle.motion_pass_points.proofs.Keys.{it_does}
 use Rattle.motion_pass_placement.specs.Moving.{Becomes, stays, reads, AreMoved, one_more}
@@ -101,12 +101,12 @@ module _ (u v : UnitForm) (c : Configuration) (count : ℕ) (blocks : List Block
       goes_on : GoesOn u graph count blocks lives c.here.names s.after (target_of i) rest (more ++ m.done) end later
       goes_on = record {
         passed = λ none. fits_with c.here.names s.after (carried_on u graph m.valid lives c.here.names c.here.names m.made.treated point (within m.number rest end) s.after s.after m.come passes held held.agree (λ k. refl) (λ e same. refl));
-        written = λ x w target. fits_with (put c.here.names x w) (put s.after x w)
-            (carried_on u graph m.valid lives c.here.names (put c.here.names x w) m.made.treated point (within m.number rest end) s.after (put s.after x w) m.come passes held
+        written = λ x w target. fits_with (with_value_at c.here.names x w) (with_value_at s.after x w)
+            (carried_on u graph m.valid lives c.here.names (with_value_at c.here.names x w) m.made.treated point (within m.number rest end) s.after (with_value_at s.after x w) m.come passes held
             (λ y less. ap (λ z. if y == x then w else z) (held.agree y less)) (still x w target) (λ e same. computed_kept u.statics lives c.here.names e i x w target same));
       }
         where
-          still : (x : ℕ) (w : Value) → target_of i ≡ Some x → (k : ℕ) → put s.after x w (graph.name_count + k) ≡ s.after (graph.name_count + k)
+          still : (x : ℕ) (w : Value) → target_of i ≡ Some x → (k : ℕ) → with_value_at s.after x w (graph.name_count + k) ≡ s.after (graph.name_count + k)
           still x w target k = (let less = own_target u graph i instruction_valid x target in put_other s.after x w (graph.name_count + k) (λ same. omega (arith, less, same)))
 
       -- All that together: the run after has come before the instruction.

@@ -4,7 +4,7 @@ use Rattle.graph_core.specs.declared.value.Value.{Value}
 use Rattle.graph_core.specs.Graphs.{Instruction, End, Block, Graph, UnitForm}
 use Rattle.graph_core.specs.Computations.{Computation, Operating, Truncating, Comparing}
 use Rattle.graph_core.specs.Memory.{is_live}
-use Rattle.graph_core.specs.Runs.{Activation, Configuration, Goes, after, put, step, run}
+use Rattle.graph_core.specs.Runs.{Activation, Configuration, Goes, events_after, with_value_at, step, run}
 use Rattle.motion_pass_points.specs.MotionPointsComputing.{doing}
 use Rattle.motion_pass_laws.proofs.Values.{computed}
 
@@ -43,7 +43,7 @@ module _ (v : UnitForm) where
 
   -- in one
   pub quiet_step : (c d : Configuration) → step v c ≡ Goes d → IsQuiet c d
-  quiet_step c d goes = record { steps = 1; is = λ n. ap (λ k. run v k c) (one n) ∙ ap (λ s. after s (run v n)) goes }
+  quiet_step c d goes = record { steps = 1; is = λ n. ap (λ k. run v k c) (one n) ∙ ap (λ s. events_after s (run v n)) goes }
     where
       one : (n : ℕ) → 1 + n ≡ suc n
       one n = omega (arith)
@@ -60,7 +60,7 @@ module _ (v : UnitForm) where
 
   -- A computation that is done gives its target its value, and nothing is seen.
   pub done_step : (c : Configuration) (count : ℕ) (blocks : List Block) (others : ℕ → Value) (x : ℕ) (e : Computation) (rest : List Instruction) (end : End) (waiting : List Activation)
-      → step v (moved_configuration c count blocks others (doing x e ∷ rest) end waiting) ≡ Goes (moved_configuration c count blocks (put others x (computed v.statics (is_live c.memory) others e)) rest end waiting)
+      → step v (moved_configuration c count blocks others (doing x e ∷ rest) end waiting) ≡ Goes (moved_configuration c count blocks (with_value_at others x (computed v.statics (is_live c.memory) others e)) rest end waiting)
   done_step c count blocks others x (Operating o a b) rest end waiting = refl
   done_step c count blocks others x (Truncating t a) rest end waiting = refl
   done_step c count blocks others x (Comparing a b) rest end waiting = refl

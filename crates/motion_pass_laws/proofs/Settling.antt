@@ -5,7 +5,7 @@ use Rattle.graph_core.specs.declared.value.Value.{Value}
 use Rattle.graph_core.specs.Graphs.{Instruction, End, Block, Graph, UnitForm}
 use Rattle.graph_core.specs.Computations.{Computation}
 use Rattle.graph_core.specs.Memory.{is_live}
-use Rattle.graph_core.specs.Runs.{Activation, Configuration, Goes, put, step}
+use Rattle.graph_core.specs.Runs.{Activation, Configuration, Goes, with_value_at, step}
 use Rattle.graph_core.specs.Validity.{IsGraph}
 use Rattle.motion_pass_points.specs.Ways.{Point}
 use Rattle.motion_pass_points.specs.MotionPointsComputing.{doing}
@@ -27,12 +27,12 @@ module _ (u v : UnitForm) (g : Graph) (valid : IsGraph u g) (c : Configuration) 
   value e = worth u g valid (is_live c.memory) names e
 
   -- A computation that is done leaves the names of the graph as they were.
-  still : (name : ℕ) (before : ℕ → Value) (w : Value) → g.name_count ≤ name → Agree u g valid (is_live c.memory) names before → Agree u g valid (is_live c.memory) names (put before name w)
+  still : (name : ℕ) (before : ℕ → Value) (w : Value) → g.name_count ≤ name → Agree u g valid (is_live c.memory) names before → Agree u g valid (is_live c.memory) names (with_value_at before name w)
   still name before w most agree x less = put_other before name w x (λ q. omega (arith, less, most, q)) ∙ agree x less
 
   -- One is done, and then the others.
   settles_first : (name : ℕ) (e : Computation) (more : List Computation) (later : List Instruction) → IsDoneAt g.blocks e p → (before : ℕ → Value) → Agree u g valid (is_live c.memory) names before
-      → IsSettling (suc name) more later (put before name (value e)) → IsSettling name (e ∷ more) (doing name e ∷ later) before
+      → IsSettling (suc name) more later (with_value_at before name (value e)) → IsSettling name (e ∷ more) (doing name e ∷ later) before
   settles_first name e more later is before agree next = record {
     after = next.after;
     settled = settled_first u g valid (is_live c.memory) names p name e more before next.after is next.settled;
@@ -47,12 +47,12 @@ module _ (u v : UnitForm) (g : Graph) (valid : IsGraph u g) (c : Configuration) 
       start rest end waiting = moved_configuration c count blocks before (doing name e ∷ (later ++ rest)) end waiting
 
       middle : List Instruction → End → List Activation → Configuration
-      middle rest end waiting = moved_configuration c count blocks (put before name (value e)) (later ++ rest) end waiting
+      middle rest end waiting = moved_configuration c count blocks (with_value_at before name (value e)) (later ++ rest) end waiting
 
       one_step : (rest : List Instruction) (end : End) (waiting : List Activation) → step (after_of u v) (start rest end waiting) ≡ Goes (middle rest end waiting)
       one_step rest end waiting =
           done_step (after_of u v) c count blocks before name e (later ++ rest) end waiting
-          ∙ ap (λ w. Goes (moved_configuration c count blocks (put before name w) (later ++ rest) end waiting)) same
+          ∙ ap (λ w. Goes (moved_configuration c count blocks (with_value_at before name w) (later ++ rest) end waiting)) same
 
   -- By computations, one after the other.
   pub settles : (name : ℕ) (treated : List Computation) (done : List Instruction) → AreDoneAt g.blocks p name treated done → g.name_count ≤ name → (before : ℕ → Value) → Agree u g valid (is_live c.memory) names before
@@ -63,7 +63,7 @@ module _ (u v : UnitForm) (g : Graph) (valid : IsGraph u g) (c : Configuration) 
     quiet = λ rest end waiting. quiet_none (after_of u v) (moved_configuration c count blocks before rest end waiting);
   }
   settles name _ _ (one_done {e = e} {more = more} {rest = later} is are) most before agree =
-      settles_first name e more later is before agree (settles (suc name) more later are (omega (arith, most)) (put before name (value e)) (still name before (value e) most agree))
+      settles_first name e more later is before agree (settles (suc name) more later are (omega (arith, most)) (with_value_at before name (value e)) (still name before (value e) most agree))
   settles name _ _ (one_passed {e = e} {more = more} {rest = later} not are) most before agree = (let next = settles (suc name) more later are (omega (arith, most)) before agree in record {
     after = next.after;
     settled = settled_passed u g valid (is_live c.memory) names p name e more before next.after not next.settled;

@@ -14,8 +14,8 @@ use Rattle.graph_core.specs.Uses.{target_of}
 use Rattle.graph_core.specs.Bounds.{most_activations}
 use Rattle.graph_core.specs.Values.{operate, truncate, same, holds, is_odd}
 use Rattle.graph_core.specs.Validity.{IsInstruction, AreOperandsOfEnd, IsOperand, IsLocation, IsValid}
-use Rattle.graph_core.specs.Memory.{Memory, is_live, address_of, read, write, zeroed, copied}
-use Rattle.graph_core.specs.Runs.{Activation, Configuration, TooDeep, Stop, Goes, Shows, Ends, Wild, frame, put, value, recipe_value, pointed, entered, wrote, wrote_some, with_memory, unless_odd, at_place, go_to, branched, leave, put_out, got, goes_if, first_of, enter, call_function, call, execute, execute_end}
+use Rattle.graph_core.specs.Memory.{Memory, is_live, pointer_to_object, read, write, zeroed, copied}
+use Rattle.graph_core.specs.Runs.{Activation, Configuration, TooDeep, Stop, Goes, Shows, Ends, Wild, frame, with_value_at, value, recipe_value, pointed, entered, wrote, wrote_some, with_memory, unless_odd, at_place, go_to, branched, leave, put_out, got, goes_if, first_argument, enter, call_function, call, execute, execute_end}
 use Rattle.motion_pass_placement.specs.Moves.{AreAllMoved}
 use Rattle.motion_pass_laws.proofs.Values.{computed}
 use Rattle.motion_pass_laws.proofs.Reading.{value_same, two_same, values_same, recipe_same, pointed_same, computes}
@@ -42,7 +42,7 @@ module _ (u v : UnitForm) (valid : IsValid u) (made : AreAllMoved u.room u.graph
     writes_same x w z e on = subst (λ k. DoesSame u v (wrote c x w) (wrote d x k)) (sym e) (comes_now u v _ _ (record {
       count = count;
       blocks = blocks;
-      others = put others x w;
+      others = with_value_at others x w;
       rest = rest;
       end = end;
       waiting = waiting;
@@ -112,8 +112,8 @@ module _ (u v : UnitForm) (valid : IsValid u) (made : AreAllMoved u.room u.graph
     callee_same : (x : Option ℕ) (k : Callee) (vs : List Value) → FitsBehind x → DoesSame u v (call u c x k vs) (call (after_of u v) d x k vs)
     callee_same x (callee.Function n) vs on = function_same x n vs on
     callee_same x callee.Getchar vs on = got_same x c.input on
-    callee_same x callee.Putchar vs on = put_same x (first_of vs) on
-    callee_same x callee.Exit vs on = exited_same u v (first_of vs)
+    callee_same x callee.Putchar vs on = put_same x (first_argument vs) on
+    callee_same x callee.Exit vs on = exited_same u v (first_argument vs)
 
     -- ---- Markers and notes
 
@@ -136,7 +136,7 @@ module _ (u v : UnitForm) (valid : IsValid u) (made : AreAllMoved u.room u.graph
         by_test false = (related, ap (λ fs. Stop (frame before.here ∷ fs) c.memory) (frames_same u c.here.first_object (is_live c.memory) c.waiting waiting waits))
 
     -- a shadow of the activation becomes another
-    shadowed : (x : ℕ) (s : Shadow) → FitsBehind None → Comes u v (record c { here = record c.here { shadows = put c.here.shadows x s } }) (record d { here = record d.here { shadows = put d.here.shadows x s } })
+    shadowed : (x : ℕ) (s : Shadow) → FitsBehind None → Comes u v (record c { here = record c.here { shadows = with_value_at c.here.shadows x s } }) (record d { here = record d.here { shadows = with_value_at d.here.shadows x s } })
     shadowed x s on = comes_now u v _ _ (record { count = count; blocks = blocks; others = others; rest = rest; end = end; waiting = waiting; is = refl; here = on.passed refl; waits = waits })
 
     -- ---- Blocks to which control goes
@@ -176,8 +176,8 @@ module _ (u v : UnitForm) (valid : IsValid u) (made : AreAllMoved u.room u.graph
       note_same : (x : ℕ) (n : NoteValue) → IsInstruction u c.here.graph (Note x n) → FitsBehind None → DoesSame u v (execute u (Note x n) c) (execute (after_of u v) (Note x n) d)
       note_same x (Gone change) is on = shadowed x shadow.Gone on
       note_same x (Is r) is on =
-          subst (λ w. DoesSame u v (execute u (Note x (Is r)) c) (unless_odd w (Goes (record d { here = record d.here { shadows = put d.here.shadows x (shadow.Known w) } })))) (sym (recipe_same u.statics c.here.graph c.here.names others agree r is.1.0))
-          (unless_same u v (is_odd known) (Goes (record c { here = record c.here { shadows = put c.here.shadows x (shadow.Known known) } })) (Goes (record d { here = record d.here { shadows = put d.here.shadows x (shadow.Known known) } }))
+          subst (λ w. DoesSame u v (execute u (Note x (Is r)) c) (unless_odd w (Goes (record d { here = record d.here { shadows = with_value_at d.here.shadows x (shadow.Known w) } })))) (sym (recipe_same u.statics c.here.graph c.here.names others agree r is.1.0))
+          (unless_same u v (is_odd known) (Goes (record c { here = record c.here { shadows = with_value_at c.here.shadows x (shadow.Known known) } })) (Goes (record d { here = record d.here { shadows = with_value_at d.here.shadows x (shadow.Known known) } }))
           (shadowed x (shadow.Known known) on))
         where
           known : Value
@@ -227,7 +227,7 @@ module _ (u v : UnitForm) (valid : IsValid u) (made : AreAllMoved u.room u.graph
       execute_same (Truncate x t a) is on = writes_same x (truncate t (value_before a)) (truncate t (value_after a)) (ap (truncate t) (one_same a is.1)) on
       execute_same (Same x a b) is on =
           writes_same x (same (is_live c.memory) (value_before a) (value_before b)) (same (is_live c.memory) (value_after a) (value_after b)) (two_same u.statics c.here.graph c.here.names others agree (same (is_live c.memory)) a b is.1 is.2) on
-      execute_same (Address x object) is on = (let at : Value = address_of c.memory (c.here.first_object + object) in writes_same x at at refl on)
+      execute_same (Address x object) is on = (let at : Value = pointer_to_object c.memory (c.here.first_object + object) in writes_same x at at refl on)
       execute_same (Load x e l) is on = load_same x e l is.1 on
       execute_same (Store e l a) is on = store_same e l a is.0 is.1 on
       execute_same (Zero object words) is on = memory_same (zeroed c.memory (c.here.first_object + object) words) (zeroed_lives c.memory (c.here.first_object + object) words) on

@@ -14,7 +14,7 @@ use Rattle.graph_core.specs.Paths.{Among, front, behind, writes}
 use Rattle.graph_core.specs.Uses.{names_of, target_of}
 use Rattle.graph_core.specs.Validity.{IsOperand, IsInstruction}
 use Rattle.graph_core.specs.Values.{operate, truncate, same}
-use Rattle.graph_core.specs.Runs.{put, value}
+use Rattle.graph_core.specs.Runs.{with_value_at, value}
 use Rattle.motion_pass_points.specs.Computing.{spoils}
 use Rattle.graph_core.proofs.Among.{among_left, among_right}
 
@@ -74,17 +74,17 @@ none_found f (y ∷ xs) none _ front = (or_parts (f y) (list_any f xs) none).0
 none_found f (y ∷ xs) none x (behind later) = none_found f xs (or_parts (f y) (list_any f xs) none).1 x later
 
 -- a name that is not written keeps its value
-pub put_other : (names : ℕ → Value) (z : ℕ) (w : Value) (x : ℕ) → (z ≡ x → ⊥) → put names z w x ≡ names x
+pub put_other : (names : ℕ → Value) (z : ℕ) (w : Value) (x : ℕ) → (z ≡ x → ⊥) → with_value_at names z w x ≡ names x
 put_other names z w x other = elim (eqb_tells x z) [ inl t ↦ absurd (other (sym t.1)) | inr t ↦ ap (λ b. if b then w else names x) t.0 ]
 
 -- a name that is written has the value
-pub put_same : (names : ℕ → Value) (z : ℕ) (w : Value) → put names z w z ≡ w
+pub put_same : (names : ℕ → Value) (z : ℕ) (w : Value) → with_value_at names z w z ≡ w
 put_same names z w = ap (λ b. if b then w else names z) (eq-eqb z z refl)
 
 -- A computation keeps its value where an instruction writes no operand of it.
 pub computed_kept : (statics : List StaticObject) (live : ℕ → Bool) (names : ℕ → Value) (e : Computation) (i : Instruction) (z : ℕ) (w : Value) → target_of i ≡ Some z → spoils e i ≡ false
-    → computed statics live (put names z w) e ≡ computed statics live names e
-computed_kept statics live names e i z w target unspoiled = computed_same statics names (put names z w) live e (λ x among. put_other names z w x (unlike x among))
+    → computed statics live (with_value_at names z w) e ≡ computed statics live names e
+computed_kept statics live names e i z w target unspoiled = computed_same statics names (with_value_at names z w) live e (λ x among. put_other names z w x (unlike x among))
   where
     unlike : (x : ℕ) → Among x (operands_of e) → z ≡ x → ⊥
     unlike x among same =

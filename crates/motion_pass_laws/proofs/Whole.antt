@@ -5,7 +5,7 @@ use Rattle.graph_core.specs.declared.value.Value.{Value}
 use Rattle.graph_core.specs.Graphs.{Instruction, End, Block, UnitForm}
 use Rattle.graph_core.specs.Memory.{first_memory, is_live}
 use Rattle.graph_core.specs.Validity.{IsValid}
-use Rattle.graph_core.specs.Runs.{Activation, Configuration, Stepped, Goes, Shows, Ends, Wild, after, step_from, step, run, run_some, enter, unit_run}
+use Rattle.graph_core.specs.Runs.{Activation, Configuration, Stepped, Goes, Shows, Ends, Wild, events_after, step_from, step, run, run_some, enter, unit_run}
 use Rattle.pass_law.specs.Kept.{ShareTheSame}
 use Rattle.pass_law.specs.Keeps.{SameEvent}
 use Rattle.pass_law.proofs.Keeping.{reached_itself}
@@ -49,17 +49,17 @@ module _ (u v : UnitForm) (valid : IsValid u) (made : AreAllMoved u.room u.graph
   Shown n c d = (k : ℕ) × (run (after_of u v) k d ≡ run u n c)
 
   -- Behind a step that does the same, where it is so of what it comes to.
-  behind_step : (n : ℕ) → ((c d : Configuration) → Related u c d → Shown n c d) → (to : Configuration) (p q : Stepped) → step (after_of u v) to ≡ q → DoesSame u v p q → (k : ℕ) × (run (after_of u v) k to ≡ after p (run u n))
+  behind_step : (n : ℕ) → ((c d : Configuration) → Related u c d → Shown n c d) → (to : Configuration) (p q : Stepped) → step (after_of u v) to ≡ q → DoesSame u v p q → (k : ℕ) × (run (after_of u v) k to ≡ events_after p (run u n))
   behind_step n later to Wild q is does = (0, refl)
   behind_step n later to (Goes a) (Goes b) is does =
       let more = later a does.to does.related in
-      (suc (does.quiet.steps + more.0), ap (λ s. after s (run (after_of u v) (does.quiet.steps + more.0))) is ∙ does.quiet.is more.0 ∙ more.1)
+      (suc (does.quiet.steps + more.0), ap (λ s. events_after s (run (after_of u v) (does.quiet.steps + more.0))) is ∙ does.quiet.is more.0 ∙ more.1)
   behind_step n later to (Shows e a) (Shows o b) is does =
       let more = later a does.0.to does.0.related in (
         suc (does.0.quiet.steps + more.0),
-        ap (λ s. after s (run (after_of u v) (does.0.quiet.steps + more.0))) is ∙ ap (λ z. z ∷ run (after_of u v) (does.0.quiet.steps + more.0) b) does.1 ∙ ap (λ l. e ∷ l) (does.0.quiet.is more.0 ∙ more.1),
+        ap (λ s. events_after s (run (after_of u v) (does.0.quiet.steps + more.0))) is ∙ ap (λ z. z ∷ run (after_of u v) (does.0.quiet.steps + more.0) b) does.1 ∙ ap (λ l. e ∷ l) (does.0.quiet.is more.0 ∙ more.1),
       )
-  behind_step n later to (Ends e) (Ends o) is does = (1, ap (λ s. after s (run (after_of u v) 0)) is ∙ ap (λ z. z ∷ []) does)
+  behind_step n later to (Ends e) (Ends o) is does = (1, ap (λ s. events_after s (run (after_of u v) 0)) is ∙ ap (λ z. z ∷ []) does)
   behind_step n later to (Goes a) (Shows o b) is does = absurd does
   behind_step n later to (Goes a) (Ends o) is does = absurd does
   behind_step n later to (Goes a) Wild is does = absurd does

@@ -8,7 +8,8 @@ use Rattle.graph_core.specs.Validity.{instructions_of}
 use Rattle.motion_pass_points.specs.MotionPointsComputing.{computed_along}
 use Rattle.motion_pass_points.specs.Named.{AreNamed}
 
--- A GRAPH IS WITHIN BOUNDS: it has no more blocks, instructions and names than a function of a valid unit of either room may have, and computes of its own names and of constants alone.
+-- A GRAPH IS WITHIN BOUNDS: it has no more blocks, instructions and names than a function of a valid unit of either
+-- room may have, and computes of its own names and of constants alone.
 pub record IsBounded (g : Graph) : Type 0 where
   pub blocks : length g.blocks ≤ most_blocks Large
   pub instructions : instructions_of g ≤ most_instructions_of_function

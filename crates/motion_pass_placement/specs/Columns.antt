@@ -30,16 +30,21 @@ fates_of rows n = option_map_or (λ v. v.items) (slice_get rows n) []
 
 -- the words of a column tell just what is so of the computation of a number by the rule
 abbrev pub HasFacts : (blocks : List Block) (reached : ℕ → Bool) (e : Computation) (k : ℕ) → Facts → Type 0
-HasFacts blocks reached e k f = AreFacts blocks reached e (is_at f.unsafe_starts.items k) (is_at f.past_starts.items k) (is_at f.past_ends.items k) (is_at f.used_starts.items k) (is_at f.used_ends.items k)
+HasFacts blocks reached e k f =
+    AreFacts blocks reached e (is_at f.unsafe_starts.items k) (is_at f.past_starts.items k) (is_at f.past_ends.items k)
+    (is_at f.used_starts.items k) (is_at f.used_ends.items k)
 
 -- where a block does a computation, it is told just what is so of it by the rule
-pub record AreFated (blocks : List Block) (n : ℕ) (b : Block) (numbers : List (Option ℕ)) (k : ℕ) (e : Computation) (fates : List Fate) : Type 0 where
+pub record AreFated (blocks : List Block) (n : ℕ) (b : Block) (numbers : List (Option ℕ)) (k : ℕ) (e : Computation)
+    (fates : List Fate) : Type 0 where
   pub late : AreLate blocks n b numbers k e fates
   pub used : AreUsed blocks n b numbers k e fates
 
 -- each row has the numbers of what a block computes that paths reach, and no others are there
-pub record AreRows (blocks : List Block) (reached : ℕ → Bool) (all : List Computation) (rows : List (Vec (Option ℕ))) : Type 0 where
-  pub along : (n : ℕ) (b : Block) → slice_get blocks n ≡ Some b → reached n ≡ true → AreNumbersAlong all b.instructions (row_of rows n)
+pub record AreRows (blocks : List Block) (reached : ℕ → Bool) (all : List Computation) (rows : List (Vec (Option ℕ)))
+    : Type 0 where
+  pub along : (n : ℕ) (b : Block) → slice_get blocks n ≡ Some b → reached n ≡ true
+      → AreNumbersAlong all b.instructions (row_of rows n)
   pub none : (n : ℕ) → reached n ≡ false → row_of rows n ≡ []
 
 -- the blocks of a graph, and which of them are told as reached
@@ -52,7 +57,8 @@ reached_in p n = slice_index_or p.reached.now n false
 abbrev pub all_in : Placing → List Computation
 all_in p = views_of p.computations.now
 
--- What is placed is a graph, with just the blocks told that paths reach, none of which leads to the first, and with the numbers of its computations, which are few and made of its names.
+-- What is placed is a graph, with just the blocks told that paths reach, none of which leads to the first, and with the
+-- numbers of its computations, which are few and made of its names.
 pub record IsPlacing (p : Placing) : Type 0 where
   pub few : length (blocks_in p) < 2 ^ 32
   pub reached : AreReached (blocks_in p) (reached_in p)
@@ -64,14 +70,18 @@ pub record IsPlacing (p : Placing) : Type 0 where
 
 -- words for blocks tell what they do to the computations of a column
 abbrev pub AreLocalsOf : Placing → Column → List Local → Type 0
-AreLocalsOf p column locals = IsColumn (all_in p) column.index column.spoiled.items → (k : ℕ) (e : Computation) → k / 64 ≡ column.index → slice_get (all_in p) k ≡ Some e
-    → (n : ℕ) (b : Block) → slice_get (blocks_in p) n ≡ Some b → reached_in p n ≡ true → told_in (local_of locals n) k ≡ told_along e b.instructions nothing
+AreLocalsOf p column locals =
+    IsColumn (all_in p) column.index column.spoiled.items → (k : ℕ) (e : Computation) → k / 64 ≡ column.index
+    → slice_get (all_in p) k ≡ Some e
+    → (n : ℕ) (b : Block) → slice_get (blocks_in p) n ≡ Some b → reached_in p n ≡ true
+    → told_in (local_of locals n) k ≡ told_along e b.instructions nothing
 
 -- A COLUMN IS SOLVED: it is told just what is so of its computations.
 pub record IsSolved (p : Placing) (index : ℕ) (s : Solved) : Type 0 where
   pub of : s.column.index ≡ index
   pub marked : IsColumn (all_in p) s.column.index s.column.spoiled.items
-  pub facts : (k : ℕ) (e : Computation) → k / 64 ≡ index → slice_get (all_in p) k ≡ Some e → HasFacts (blocks_in p) (reached_in p) e k s.facts
+  pub facts : (k : ℕ) (e : Computation) → k / 64 ≡ index → slice_get (all_in p) k ≡ Some e
+      → HasFacts (blocks_in p) (reached_in p) e k s.facts
 
 -- All are.
 pub record AreSolved (p : Placing) (columns : List Solved) : Type 0 where
@@ -81,7 +91,9 @@ pub record AreSolved (p : Placing) (columns : List Solved) : Type 0 where
 
 -- what is so where a block that paths reach does computations
 abbrev pub AreRowFates : Placing → (n : ℕ) → List Fate → Type 0
-AreRowFates p n fates = (b : Block) → slice_get (blocks_in p) n ≡ Some b → reached_in p n ≡ true → (k : ℕ) (e : Computation) → slice_get (all_in p) k ≡ Some e → AreFated (blocks_in p) n b (row_of p.numbers.now n) k e fates
+AreRowFates p n fates =
+    (b : Block) → slice_get (blocks_in p) n ≡ Some b → reached_in p n ≡ true → (k : ℕ) (e : Computation)
+    → slice_get (all_in p) k ≡ Some e → AreFated (blocks_in p) n b (row_of p.numbers.now n) k e fates
 
 abbrev pub AreAllFates : Placing → List (Vec Fate) → Type 0
 AreAllFates p rows = (n : ℕ) → AreRowFates p n (fates_of rows n)

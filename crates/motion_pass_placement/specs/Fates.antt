@@ -16,9 +16,17 @@ abbrev pub fate_of : List Fate → ℕ → Fate
 fate_of fates index = slice_index_or fates index no_fate
 
 -- Where a block does a computation, it is told whether it can be delayed to there.
-abbrev pub AreLate : (blocks : List Block) (n : ℕ) (b : Block) (numbers : List (Option ℕ)) (k : ℕ) (e : Computation) (fates : List Fate) → Type 0
-AreLate blocks n b numbers k e fates = (index : ℕ) → index < length b.instructions → number_at numbers index ≡ Some k → ((fate_of fates index).is_late ≡ false) ↔ IsPast blocks e (point_at n b index)
+abbrev pub AreLate : (blocks : List Block) (n : ℕ) (b : Block) (numbers : List (Option ℕ)) (k : ℕ) (e : Computation)
+    (fates : List Fate)
+    → Type 0
+AreLate blocks n b numbers k e fates =
+    (index : ℕ) → index < length b.instructions → number_at numbers index ≡ Some k
+    → ((fate_of fates index).is_late ≡ false) ↔ IsPast blocks e (point_at n b index)
 
 -- And whether its value is used behind.
-abbrev pub AreUsed : (blocks : List Block) (n : ℕ) (b : Block) (numbers : List (Option ℕ)) (k : ℕ) (e : Computation) (fates : List Fate) → Type 0
-AreUsed blocks n b numbers k e fates = (index : ℕ) → index < length b.instructions → number_at numbers index ≡ Some k → ((fate_of fates index).is_used ≡ true) ↔ IsUsed blocks e (point_at n b index)
+abbrev pub AreUsed : (blocks : List Block) (n : ℕ) (b : Block) (numbers : List (Option ℕ)) (k : ℕ) (e : Computation)
+    (fates : List Fate)
+    → Type 0
+AreUsed blocks n b numbers k e fates =
+    (index : ℕ) → index < length b.instructions → number_at numbers index ≡ Some k
+    → ((fate_of fates index).is_used ≡ true) ↔ IsUsed blocks e (point_at n b index)

@@ -28,7 +28,9 @@ stays_by f = f.is_late && not f.is_used
 
 -- A computation is done on an edge: it can be delayed to it and not to the block to which it leads, and is used there.
 abbrev pub is_on_edge : Facts → (from to k : ℕ) → Bool
-is_on_edge f m n k = (is_at f.past_starts.items k n && is_at f.used_starts.items k n) && not (is_at f.past_ends.items k m || is_at f.unsafe_starts.items k n)
+is_on_edge f m n k =
+    (is_at f.past_starts.items k n && is_at f.used_starts.items k n)
+    && not (is_at f.past_ends.items k m || is_at f.unsafe_starts.items k n)
 
 -- one that does not stay does its computation into its temporary, if this can be delayed to it, and reads that
 abbrev pub moved_by : Option declared-computation.Computation → Option declared-name.Name → (is_late : Bool) → Action
@@ -57,8 +59,10 @@ temporary_of temporaries k = slice_index_or temporaries k None
 -- Temporaries are numbered from a name on, in the order of those that have one; the other name comes behind them.
 pub data AreNumbered (first : ℕ) : List (Option declared-name.Name) → (end : ℕ) → Type 0 where
   nothing_yet : AreNumbered first [] first
-  and_none : {names : List (Option declared-name.Name)} {end : ℕ} → AreNumbered first names end → AreNumbered first (names ++ None ∷ []) end
-  and_one : {names : List (Option declared-name.Name)} {end : ℕ} {x : declared-name.Name} → AreNumbered first names end → x.0 ≡ end → AreNumbered first (names ++ Some x ∷ []) (suc end)
+  and_none : {names : List (Option declared-name.Name)} {end : ℕ} → AreNumbered first names end
+      → AreNumbered first (names ++ None ∷ []) end
+  and_one : {names : List (Option declared-name.Name)} {end : ℕ} {x : declared-name.Name} → AreNumbered first names end
+      → x.0 ≡ end → AreNumbered first (names ++ Some x ∷ []) (suc end)
 
 -- which blocks are told as reached
 abbrev pub reached_by : Placement → ℕ → Bool
@@ -77,18 +81,22 @@ pub record IsInColumn (g : Graph) (p : Placement) (k : ℕ) (e : Computation) : 
   pub is : slice_get p.columns.items (k / 64) ≡ Some solved
   pub facts : HasFacts g.blocks (reached_by p) e k solved.facts
 
--- WHAT IS PLACED, by the rule: each computation of reached code once, in the order in which they come first; what is so of them at blocks and instructions; and a temporary for just those that some
--- instruction reads, numbered on from the names of the graph.
+-- WHAT IS PLACED, by the rule: each computation of reached code once, in the order in which they come first; what is so
+-- of them at blocks and instructions; and a temporary for just those that some instruction reads, numbered on from the
+-- names of the graph.
 pub record IsPlaced (g : Graph) (p : Placement) : Type 0 where
   pub reached : AreReached g.blocks (reached_by p)
   pub known : AreNumbers p.computations
   pub once : AreOnce (computed_in (reached_by p) 0 g.blocks) (all_of p)
   pub rows : AreRows g.blocks (reached_by p) (all_of p) p.numbers.items
-  pub fates : (n : ℕ) (b : Block) → slice_get g.blocks n ≡ Some b → reached_by p n ≡ true → (k : ℕ) (e : Computation) → slice_get (all_of p) k ≡ Some e → AreFated g.blocks n b (row_of p.numbers.items n) k e (fates_of p.fates.items n)
+  pub fates : (n : ℕ) (b : Block) → slice_get g.blocks n ≡ Some b → reached_by p n ≡ true → (k : ℕ) (e : Computation)
+      → slice_get (all_of p) k ≡ Some e
+      → AreFated g.blocks n b (row_of p.numbers.items n) k e (fates_of p.fates.items n)
   pub columns : (k : ℕ) (e : Computation) → slice_get (all_of p) k ≡ Some e → IsInColumn g p k e
   pub few : length p.columns.items < 4294967296
   pub as_many : length p.temporaries.items ≡ length (all_of p)
-  pub named : (k : ℕ) (e : Computation) → slice_get (all_of p) k ≡ Some e → ((t : declared-name.Name) × (temporary_of p.temporaries.items k ≡ Some t)) ↔ IsReadSomewhere g.blocks e
+  pub named : (k : ℕ) (e : Computation) → slice_get (all_of p) k ≡ Some e
+      → ((t : declared-name.Name) × (temporary_of p.temporaries.items k ≡ Some t)) ↔ IsReadSomewhere g.blocks e
   pub numbered : AreNumbered g.name_count p.temporaries.items p.end_name
 
 -- some path comes to an edge into the first block
@@ -106,15 +114,23 @@ pub record HasTemporary (p : Placement) (e : Computation) (t : declared-name.Nam
   pub is : slice_get (all_of p) number ≡ Some e
   pub named : temporary_of p.temporaries.items number ≡ Some t
 
--- WHAT BECOMES OF AN INSTRUCTION, by the rule: it stays where it reads no temporary; it reads that of its computation; and the computation is done before it where it is inserted there.
+-- WHAT BECOMES OF AN INSTRUCTION, by the rule: it stays where it reads no temporary; it reads that of its computation;
+-- and the computation is done before it where it is inserted there.
 abbrev pub IsActed : List Block → Placement → Point → Action → Type 0
 IsActed blocks p at Keep = (e : Computation) → IsRead blocks e at → ⊥
-IsActed blocks p at (Read t) = (e : Computation) × (HasTemporary p e t × (IsRead blocks e at × (IsInserted blocks e at → ⊥)))
-IsActed blocks p at (Compute c t) = HasTemporary p (computation_view c) t × (IsRead blocks (computation_view c) at × IsInserted blocks (computation_view c) at)
+IsActed blocks p at (Read t) =
+    (e : Computation) × (HasTemporary p e t × (IsRead blocks e at × (IsInserted blocks e at → ⊥)))
+IsActed blocks p at (Compute c t) =
+    HasTemporary p (computation_view c) t
+    × (IsRead blocks (computation_view c) at × IsInserted blocks (computation_view c) at)
 
--- WHAT IS DONE AT A POINT: of the first computations, in order, just those that the rule inserts there, each into its temporary.
+-- WHAT IS DONE AT A POINT: of the first computations, in order, just those that the rule inserts there, each into its
+-- temporary.
 pub data AreDone (blocks : List Block) (p : Placement) (at : Point) : (count : ℕ) → List Instruction → Type 0 where
   none_done : AreDone blocks p at 0 []
-  one_done : {k : ℕ} {done : List Instruction} {e : Computation} {t : declared-name.Name} → AreDone blocks p at k done → slice_get (all_of p) k ≡ Some e → temporary_of p.temporaries.items k ≡ Some t → IsInserted blocks e at
+  one_done : {k : ℕ} {done : List Instruction} {e : Computation} {t : declared-name.Name} → AreDone blocks p at k done
+      → slice_get (all_of p) k ≡ Some e → temporary_of p.temporaries.items k ≡ Some t → IsInserted blocks e at
       → AreDone blocks p at (suc k) (done ++ doing t.0 e ∷ [])
-  one_passed : {k : ℕ} {done : List Instruction} → AreDone blocks p at k done → ((e : Computation) → slice_get (all_of p) k ≡ Some e → IsInserted blocks e at → ⊥) → AreDone blocks p at (suc k) done
+  one_passed : {k : ℕ} {done : List Instruction} → AreDone blocks p at k done
+      → ((e : Computation) → slice_get (all_of p) k ≡ Some e → IsInserted blocks e at → ⊥)
+      → AreDone blocks p at (suc k) done

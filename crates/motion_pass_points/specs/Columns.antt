@@ -43,4 +43,6 @@ number_at numbers index = slice_index_or numbers index None
 
 -- instructions with the numbers of what they compute
 abbrev pub AreNumbersAlong : List Computation → List Instruction → List (Option ℕ) → Type 0
-AreNumbersAlong all instructions numbers = (index : ℕ) (i : Instruction) → slice_get instructions index ≡ Some i → IsNumberOf all (computed_by i) (number_at numbers index)
+AreNumbersAlong all instructions numbers =
+    (index : ℕ) (i : Instruction) → slice_get instructions index ≡ Some i
+    → IsNumberOf all (computed_by i) (number_at numbers index)

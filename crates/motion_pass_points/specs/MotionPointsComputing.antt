@@ -28,8 +28,8 @@ abbrev pub computed_along : List Instruction → List Computation
 computed_along [] = []
 computed_along (i ∷ rest) = with_some (computed_by i) (computed_along rest)
 
--- What a block does to a computation, as far as it was gone through: it is done with no operand written before; it is done with no operand written behind; it is done; an operand is
--- written.
+-- What a block does to a computation, as far as it was gone through: it is done with no operand written before; it is
+-- done with no operand written behind; it is done; an operand is written.
 pub record Told : Type 0 where
   pub first : Bool
   pub last : Bool

@@ -17,8 +17,10 @@ computed_in told n (b ∷ more) = (if told n then computed_along b.instructions 
 -- Each of a list once, in the order in which they come in it first.
 pub data AreOnce {A : Type 0} : (list once : List A) → Type 0 where
   none : AreOnce [] []
-  again : {list once : List A} {a : A} (k : ℕ) → AreOnce list once → slice_get once k ≡ Some a → AreOnce (list ++ a ∷ []) once
-  first : {list once : List A} {a : A} → AreOnce list once → ((k : ℕ) → slice_get once k ≡ Some a → ⊥) → AreOnce (list ++ a ∷ []) (once ++ a ∷ [])
+  again : {list once : List A} {a : A} (k : ℕ) → AreOnce list once → slice_get once k ≡ Some a
+      → AreOnce (list ++ a ∷ []) once
+  first : {list once : List A} {a : A} → AreOnce list once → ((k : ℕ) → slice_get once k ≡ Some a → ⊥)
+      → AreOnce (list ++ a ∷ []) (once ++ a ∷ [])
 
 -- the computations of a list of them
 abbrev pub views_of : Computations → List Computation

@@ -7,11 +7,13 @@ use Rattle.motion_pass_problems.specs.declared.flow.Passage.{Passage}
 use Rattle.motion_pass_problems.specs.declared.flow.Flow.{Flow}
 pub use Rattle.graph_paths.specs.Flood.{HasEdge, FlowsBy}
 
--- Some way brings a fact to a block: it begins there, or flows there from a block that makes it, or that lets it pass and to which some way brings it.
+-- Some way brings a fact to a block: it begins there, or flows there from a block that makes it, or that lets it pass
+-- and to which some way brings it.
 pub data IsBrought (Flows : (from to : ℕ) → Type 0) (made passed begins : ℕ → Bool) : ℕ → Type 0 where
   begin : {n : ℕ} → begins n ≡ true → IsBrought Flows made passed begins n
   made_by : {m n : ℕ} → Flows m n → made m ≡ true → IsBrought Flows made passed begins n
-  passed_by : {m n : ℕ} → Flows m n → passed m ≡ true → IsBrought Flows made passed begins m → IsBrought Flows made passed begins n
+  passed_by : {m n : ℕ} → Flows m n → passed m ≡ true → IsBrought Flows made passed begins m
+      → IsBrought Flows made passed begins n
 
 -- of no block
 abbrev pub no_passage : Passage
@@ -43,4 +45,6 @@ course_of flow = record {
 -- WHAT SOME WAY BRINGS. To each block of a graph come just the facts that some way brings to it, where these begin.
 abbrev pub AreBroughtThere : Flow → (begins words : List ℕ) → Type 0
 AreBroughtThere flow begins words =
-    (k n : ℕ) → n < length words → (is_at words k n ≡ true) ↔ IsBrought (Flows flow) (makes flow.passages.now k) (lets_pass flow.passages.now k) (is_at begins k) n
+    (k n : ℕ) → n < length words
+    → (is_at words k n ≡ true) ↔ IsBrought (Flows flow) (makes flow.passages.now k) (lets_pass flow.passages.now k)
+    (is_at begins k) n

@@ -21,9 +21,15 @@ pub record MemoryShelf : Type 0 where
 abbrev pub memory_shelf_code : Coded MemoryShelf
 memory_shelf_code =
     code_by (Files × ((List ℕ × ℕ) × (ℕ × ℕ)))
-    (coded× (code (coded_list coded_ℕ) (coded_list coded_ℕ)) (coded× (coded× (coded_list coded_ℕ) coded_ℕ) (coded× coded_ℕ coded_ℕ)))
+    (coded× (code (coded_list coded_ℕ) (coded_list coded_ℕ))
+    (coded× (coded× (coded_list coded_ℕ) coded_ℕ) (coded× coded_ℕ coded_ℕ)))
     (λ shelf. (shelf.files, ((shelf.calls.failing, shelf.calls.made), (shelf.load_count, shelf.save_count))))
-    (λ t. record { files = t.0; calls = record { failing = t.1.0.0; made = t.1.0.1 }; load_count = t.1.1.0; save_count = t.1.1.1 })
+    (λ t. record {
+      files = t.0;
+      calls = record { failing = t.1.0.0; made = t.1.0.1 };
+      load_count = t.1.1.0;
+      save_count = t.1.1.1;
+    })
     (λ _. refl)
 
 -- a shelf that holds nothing and was not called
@@ -54,4 +60,7 @@ files_after files name bytes (Err error) = files
 -- the shelf after a save: it has set the name or counts the fault, and counts the call
 abbrev pub after_save : {A : Type 0} → MemoryShelf → List ℕ → List ℕ → Result A ShelfErr → MemoryShelf
 after_save shelf name bytes outcome =
-    record (called shelf) { files = files_after shelf.files name bytes outcome; save_count = count_after shelf.save_count outcome }
+    record (called shelf) {
+      files = files_after shelf.files name bytes outcome;
+      save_count = count_after shelf.save_count outcome;
+    }

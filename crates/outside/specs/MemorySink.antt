@@ -28,4 +28,7 @@ bytes_after bytes piece (Err error) = bytes
 -- the sink after a piece: it took the piece or counts the fault, and counts the call
 abbrev pub after_put : {A : Type 0} → MemorySink → List ℕ → Result A PutErr → MemorySink
 after_put sink piece outcome =
-    record (called sink) { bytes = bytes_after sink.bytes piece outcome; fault_count = count_after_put sink.fault_count outcome }
+    record (called sink) {
+      bytes = bytes_after sink.bytes piece outcome;
+      fault_count = count_after_put sink.fault_count outcome;
+    }

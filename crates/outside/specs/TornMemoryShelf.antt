@@ -23,13 +23,15 @@ torn_shelf_code =
     (λ t. record { shelf = t.0; keep = t.1 })
     (λ _. refl)
 
--- the files after a save: one that fails leaves the first bytes under its name, one that wants memory leaves them all as they are
+-- the files after a save: one that fails leaves the first bytes under its name, one that wants memory leaves them all
+-- as they are
 abbrev pub files_after_torn : {A : Type 0} → ℕ → Files → List ℕ → List ℕ → Result A ShelfErr → Files
 files_after_torn keep files name bytes (Ok x) = insert files name bytes
 files_after_torn keep files name bytes (Err Failed) = insert files name (take keep bytes)
 files_after_torn keep files name bytes (Err NoMemory) = files
 
--- the shelf after a save: it has set the name, whole or torn, counts the fault of a save that failed, and counts the call
+-- the shelf after a save: it has set the name, whole or torn, counts the fault of a save that failed, and counts the
+-- call
 abbrev pub after_torn_save : {A : Type 0} → TornMemoryShelf → List ℕ → List ℕ → Result A ShelfErr → TornMemoryShelf
 after_torn_save torn name bytes outcome =
     record torn {

@@ -11,7 +11,7 @@ use Rattle.graph_core.specs.Validity.{IsNoteValue, IsInstruction, IsBlock, IsGra
 use Rattle.graph_core.specs.WellMarked.{WasTaken, WasSunk, MayStand, ReadsAcross, moved, sunk, IsRightNote, IsWellMarked, AreWellMarked}
 use Rattle.graph_core.specs.Memory.{first_memory}
 use Rattle.graph_core.specs.Values.{is_odd}
-use Rattle.graph_core.specs.Runs.{Configuration, Wild, value, enter, call, execute, execute_end, step_from, step, after, run, run_some, unit_run}
+use Rattle.graph_core.specs.Runs.{Configuration, Wild, value, enter, call, execute, execute_end, step_from, step, events_after, run, run_some, unit_run}
 use Rattle.pass_law.specs.Keeps.{SameFunction, Keeps}
 use Rattle.pass_law.proofs.Keeping.{pairs_itself, function_itself, reached_itself}
 use Rattle.graph_core.proofs.Among.{among_longer}
@@ -164,7 +164,7 @@ module _ (u : UnitForm) (added : List Logged) where
   run_same : (n : ℕ) (c : Configuration) → run longer n c ≡ run u n c
   run_same zero c = refl
   run_same (suc n) c =
-      ap (after (step longer c)) (fun_ext (run_same n)) ∙ ap (λ s. after s (run u n)) (from_same c.here.rest c)
+      ap (events_after (step longer c)) (fun_ext (run_same n)) ∙ ap (λ s. events_after s (run u n)) (from_same c.here.rest c)
 
   some_same_run : (n : ℕ) (o : Option Configuration) → run_some longer n o ≡ run_some u n o
   some_same_run n None = refl

@@ -10,7 +10,11 @@ use Rattle.pass_law.specs.declared.cases.Case.{Case}
 abbrev pub IsBefore : Case → Case → Type 0
 IsBefore a b =
     (a.place.0 < b.place.0)
-    ⊎ ((a.place.0 ≡ b.place.0) × ((a.block < b.block) ⊎ ((a.block ≡ b.block) × ((a.index < b.index) ⊎ ((a.index ≡ b.index) × (a.operand < b.operand))))))
+    ⊎
+    ((a.place.0 ≡ b.place.0)
+    ×
+    ((a.block < b.block)
+    ⊎ ((a.block ≡ b.block) × ((a.index < b.index) ⊎ ((a.index ≡ b.index) × (a.operand < b.operand))))))
 
 -- Cases are in order: none stands behind one that it comes before.
 abbrev pub AreInOrder : List Case → Type 0
@@ -55,8 +59,10 @@ module _ (IsCase : (before after : Graph) → Case → Type 0) where
 abbrev pub logged_as : PassName → declared-kind.Kind → Case → Logged
 logged_as pass kind c = record { pass = pass; kind = kind; place = c.place.0; variable = c.var.0 }
 
--- The log is the old one, and behind it one change for each case of a function and no other: at the place of the case and of its variable, in order of the cases.
-pub record AddsChangesOf (pass : PassName) (kind : declared-kind.Kind) (IsCase : (before after : Graph) → Case → Type 0) (u v : UnitForm) : Type 0 where
+-- The log is the old one, and behind it one change for each case of a function and no other: at the place of the case
+-- and of its variable, in order of the cases.
+pub record AddsChangesOf (pass : PassName) (kind : declared-kind.Kind) (IsCase : (before after : Graph) → Case → Type 0)
+    (u v : UnitForm) : Type 0 where
   pub cases : List Case
   pub all : AreCasesOf IsCase u.graphs v.graphs cases
   pub in_order : AreInOrder cases

@@ -27,7 +27,8 @@ pub data SameEvent : Event → Event → Type 0 where
   byte : {n : ℕ} → SameEvent (Put n) (Put n)
   exited : {status : ℕ} → SameEvent (Exited status) (Exited status)
   deep : SameEvent TooDeep TooDeep
-  stop : {frames others : List Frame} {memory : Memory} → Pairs SameFrame frames others → SameEvent (Stop frames memory) (Stop others memory)
+  stop : {frames others : List Frame} {memory : Memory} → Pairs SameFrame frames others
+      → SameEvent (Stop frames memory) (Stop others memory)
 
 -- Two graphs are of one function: its entry, parameters, scalars and objects, and markers of the same places.
 pub record SameFunction (g h : Graph) : Type 0 where
@@ -49,8 +50,9 @@ pub record SameProgram (u v : UnitForm) : Type 0 where
   pub log : v.log ≡ u.log ++ added
   pub functions : Pairs SameFunction u.graphs v.graphs
 
--- The second unit keeps what the first one does. Both are well marked units of one program, and on every input whatever can be seen of the first, before a step of it
--- is wild, can be seen of the second. The second may show more behind that.
+-- The second unit keeps what the first one does. Both are well marked units of one program, and on every input whatever
+-- can be seen of the first, before a step of it is wild, can be seen of the second. The second may show more behind
+-- that.
 pub record Keeps (u v : UnitForm) : Type 0 where
   pub marked : AreWellMarked u
   pub still_marked : AreWellMarked v

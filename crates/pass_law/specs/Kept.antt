@@ -5,7 +5,8 @@ use Rattle.debug_records.specs.declared.change.PassName.{PassName}
 use Rattle.debug_records.specs.declared.change.Kind as declared-kind
 use Rattle.graph_core.specs.Graphs.{Graph, Logged, UnitForm}
 
--- A function keeps its entry, its parameters, its variables, and the number from which on temporaries are those of code motion.
+-- A function keeps its entry, its parameters, its variables, and the number from which on temporaries are those of code
+-- motion.
 pub record KeepsFunction (g h : Graph) : Type 0 where
   pub entry : h.entry ≡ g.entry
   pub parameters : h.parameters ≡ g.parameters
@@ -46,8 +47,8 @@ pub record AddsChanges (pass : PassName) (kind : declared-kind.Kind) (u v : Unit
   pub log : v.log ≡ u.log ++ added
   pub changes : AllByRecursion (IsChangeOf pass kind) added
 
--- There are the same functions, each with its entry, its parameters and its variables, and what functions share is the same: `main`, static storage, the steps of the program's flow,
--- which place assigns which variable, and the room.
+-- There are the same functions, each with its entry, its parameters and its variables, and what functions share is the
+-- same: `main`, static storage, the steps of the program's flow, which place assigns which variable, and the room.
 pub record KeepsShape (u v : UnitForm) : Type 0 where
   pub shared : ShareTheSame u v
   pub functions : EachFunction KeepsFunction u.graphs v.graphs

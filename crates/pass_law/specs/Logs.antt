@@ -23,8 +23,9 @@ pub record IsScalarIn (u : UnitForm) (variable : ℕ) : Type 0 where
   pub is : slice_get u.graphs function ≡ Some graph
   pub of : IsVariable graph x variable
 
--- What a pass logs: behind the changes of the unit before it not too many, each by its name, at a place that a marker of that unit begins, of a variable that is a scalar there.
--- None of them is of the kind Sunk: an image has no such change.
+-- What a pass logs: behind the changes of the unit before it not too many, each by its name, at a place that a marker
+-- of that unit begins, of a variable that is a scalar there. None of them is of the kind Sunk: an image has no such
+-- change.
 pub record LogsWell (pass : PassName) (u v : UnitForm) : Type 0 where
   pub added : List Logged
   pub log : v.log ≡ u.log ++ added

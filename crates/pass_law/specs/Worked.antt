@@ -1,5 +1,6 @@
--- The unit of a small program, and what a pass makes of it: by them the definitions are seen to be met, and to refuse what they should.
--- The program is `int main(void) { int x = 2; return x; }`. Place 1 is the entry, 2 the declarator and 3 the return.
+-- The unit of a small program, and what a pass makes of it: by them the definitions are seen to be met, and to refuse
+-- what they should. The program is `int main(void) { int x = 2; return x; }`. Place 1 is the entry, 2 the declarator
+-- and 3 the return.
 use Rattle.std.specs.Prelude.{◌≢◌, ℕ, ◌<◌, List, [], ◌∷◌, length, Option, Some, None}
 use Rattle.debug_records.specs.declared.change.PassName.{PassName}
 use Rattle.debug_records.specs.declared.change.Kind.TheVariants.{Removed, Sunk}
@@ -38,7 +39,8 @@ entry_block = block None (Marker 1 ∷ []) (Jump 1)
 abbrev pub return_block : Operand → Block
 return_block returned = block (Some 2) (Marker 3 ∷ []) (Return (Some returned))
 
--- The graph of `main`: its entry, the block of the declarator, that of the return, with what is returned, and blocks behind them.
+-- The graph of `main`: its entry, the block of the declarator, that of the return, with what is returned, and blocks
+-- behind them.
 abbrev pub main_with : List Instruction → Operand → (behind : List Block) → Graph
 main_with assigns returned behind = record {
   entry = 1;
@@ -54,7 +56,8 @@ main_with assigns returned behind = record {
 abbrev pub main_of : List Instruction → Operand → Graph
 main_of assigns returned = main_with assigns returned []
 
--- A block to which nothing leads. It keeps the place of the declarator, notes x to be x, whatever the other block of that place says, and puts it out.
+-- A block to which nothing leads. It keeps the place of the declarator, notes x to be x, whatever the other block of
+-- that place says, and puts it out.
 abbrev pub unreached : List Instruction
 unreached = Note 0 (Is (Of (Name 0))) ∷ Call None Putchar (Name 0 ∷ []) ∷ []
 
@@ -115,13 +118,15 @@ sinking pass = record { pass = pass; kind = Sunk; place = 2; variable = 0 }
 abbrev pub reduced : PassName → UnitForm
 reduced pass = unit_of noting (removal pass ∷ [])
 
--- Both units are well marked, the second keeps what the first does, its change is one that a pass may log, and it is earned wherever the names of each function are kept.
+-- Both units are well marked, the second keeps what the first does, its change is one that a pass may log, and it is
+-- earned wherever the names of each function are kept.
 pub record AreWorked (pass : PassName) : Type 0 where
   pub marked : AreWellMarked built
   pub still_marked : AreWellMarked (reduced pass)
   pub keeps : Keeps built (reduced pass)
   pub logs : LogsWell pass built (reduced pass)
-  pub earned : (homes : (function : ℕ) → ℕ → Home) → IsEarned (removal pass) (removal pass ∷ []) homes built (reduced pass)
+  pub earned : (homes : (function : ℕ) → ℕ → Home)
+      → IsEarned (removal pass) (removal pass ∷ []) homes built (reduced pass)
 
 -- The graph without the assignment, in which x is noted to be x all the same.
 abbrev pub notes_itself : List Instruction
@@ -135,8 +140,9 @@ noting_itself = main_with notes_itself (Constant 2) (unreached_block ∷ [])
 abbrev pub logging : List Logged → UnitForm
 logging log = unit_of assigning log
 
--- What no pass of a name logs, though the graphs stay as they are: a change of the place 0, which no marker begins; a change of a variable that is no scalar; one by
--- another name; one of the kind Sunk; and more changes than a unit of the smaller room may get.
+-- What no pass of a name logs, though the graphs stay as they are: a change of the place 0, which no marker begins; a
+-- change of a variable that is no scalar; one by another name; one of the kind Sunk; and more changes than a unit of
+-- the smaller room may get.
 pub record NoPassLogs (pass : PassName) : Type 0 where
   pub placeless : LogsWell pass built (logging (removal_in pass 0 0 ∷ [])) → ⊥
   pub no_scalar : LogsWell pass built (logging (removal_in pass 2 1 ∷ [])) → ⊥
@@ -144,8 +150,9 @@ pub record NoPassLogs (pass : PassName) : Type 0 where
   pub sunk : LogsWell pass built (logging (sinking pass ∷ [])) → ⊥
   pub too_many : (log : List Logged) → most_changes Small < length log → LogsWell pass built (logging log) → ⊥
 
--- What is no such pass. A removal that is not logged leaves a unit that is not well marked, and is not earned. Nor is a unit well marked where a note is of the scalar itself
--- and a path comes to it with no write of the scalar. And where another value is returned, the unit does not keep what the first one does.
+-- What is no such pass. A removal that is not logged leaves a unit that is not well marked, and is not earned. Nor is a
+-- unit well marked where a note is of the scalar itself and a path comes to it with no write of the scalar. And where
+-- another value is returned, the unit does not keep what the first one does.
 pub record AreNotWorked (pass : PassName) : Type 0 where
   pub unlogged : AreWellMarked (unit_of noting []) → ⊥
   pub not_earned : (homes : (function : ℕ) → ℕ → Home) → IsEarned (removal pass) [] homes built (unit_of noting []) → ⊥

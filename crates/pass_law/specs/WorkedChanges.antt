@@ -12,7 +12,8 @@ use Rattle.pass_law.specs.Worked.{scalar, block, entry_block, main_of}
 use Rattle.graph_homes.specs.Reused.{IsReused}
 use Rattle.pass_law.specs.Earned.{IsRemoved, IsMoved, IsReplaced}
 
--- The scalars x, y and z are the names 0, 1 and 2; the names from 3 on, so many in all, are temporaries that code motion made.
+-- The scalars x, y and z are the names 0, 1 and 2; the names from 3 on, so many in all, are temporaries that code
+-- motion made.
 abbrev pub of_three : (names : ℕ) → Graph → Graph
 of_three names g = record g { scalars = scalar 0 ∷ scalar 1 ∷ scalar 2 ∷ []; name_count = names; first_moved = 3 }
 
@@ -44,21 +45,25 @@ adds_another = Marker 2 ∷ Operate 3 Add (Name 1) (Name 1) ∷ Move 0 (Name 3) 
 abbrev pub adding_another : Graph
 adding_another = of_three 4 (main_of adds_another (Name 0))
 
--- `if (y < z) x = y + z; return x`: the block 1 has the condition in place 2, the block 2 the assignment in place 3, and the block 3 the return in place 4.
+-- `if (y < z) x = y + z; return x`: the block 1 has the condition in place 2, the block 2 the assignment in place 3,
+-- and the block 3 the return in place 4.
 abbrev pub adds_in_three : List Instruction
 adds_in_three = Marker 3 ∷ Operate 0 Add (Name 1) (Name 2) ∷ Note 0 (Is (Of (Name 0))) ∷ []
 
 -- the graph with these instructions at the condition and at the assignment
 abbrev pub choosing : (at_condition at_assignment : List Instruction) → Graph
 choosing at_condition at_assignment = record (main_of [] (Name 0)) {
-  blocks = entry_block ∷ block (Some 1) at_condition (Branch Less (Name 1) (Name 2) 2 3) ∷ block (Some 2) at_assignment (Jump 3) ∷ block None (Marker 4 ∷ []) (Return (Some (Name 0))) ∷ [];
+  blocks =
+      entry_block ∷ block (Some 1) at_condition (Branch Less (Name 1) (Name 2) 2 3)
+      ∷ block (Some 2) at_assignment (Jump 3) ∷ block None (Marker 4 ∷ []) (Return (Some (Name 0))) ∷ [];
 }
 
 -- the graph before
 abbrev pub adding_on_one_way : Graph
 adding_on_one_way = of_three 3 (choosing (Marker 2 ∷ []) adds_in_three)
 
--- The sum is computed at the condition, so on the way without the assignment too. That it is copied there, to a name that nothing reads, makes it no better.
+-- The sum is computed at the condition, so on the way without the assignment too. That it is copied there, to a name
+-- that nothing reads, makes it no better.
 abbrev pub adds_at_condition : List Instruction
 adds_at_condition = Marker 2 ∷ Operate 3 Add (Name 1) (Name 2) ∷ Move 4 (Name 3) ∷ []
 
@@ -70,7 +75,8 @@ copies_in_three = Marker 3 ∷ Move 0 (Name 3) ∷ Note 0 (Is (Of (Name 0))) ∷
 abbrev pub adding_on_each_way : Graph
 adding_on_each_way = of_three 5 (choosing adds_at_condition copies_in_three)
 
--- `x = y; putchar(x); x = y; return 0` in the places 2 to 5, where the first assignment was removed before, so that another value of x is put out.
+-- `x = y; putchar(x); x = y; return 0` in the places 2 to 5, where the first assignment was removed before, so that
+-- another value of x is put out.
 abbrev pub notes_y_in : (place : ℕ) → List Instruction
 notes_y_in place = Marker place ∷ Note 0 (Is (Of (Name 1))) ∷ []
 
@@ -81,14 +87,17 @@ prints_x = Marker 3 ∷ Call None Putchar (Name 0 ∷ []) ∷ []
 -- the graph with these instructions in place 4
 abbrev pub printing : (in_four : List Instruction) → Graph
 printing in_four = record (main_of [] (Constant 0)) {
-  blocks = entry_block ∷ block (Some 1) (notes_y_in 2) (Jump 2) ∷ block (Some 2) prints_x (Jump 3) ∷ block (Some 3) in_four (Jump 4) ∷ block (Some 4) (Marker 5 ∷ []) (Return (Some (Constant 0))) ∷ [];
+  blocks =
+      entry_block ∷ block (Some 1) (notes_y_in 2) (Jump 2) ∷ block (Some 2) prints_x (Jump 3)
+      ∷ block (Some 3) in_four (Jump 4) ∷ block (Some 4) (Marker 5 ∷ []) (Return (Some (Constant 0))) ∷ [];
 }
 
 -- the graph before
 abbrev pub assigning_again : Graph
 assigning_again = of_three 3 (printing (Marker 4 ∷ Move 0 (Name 1) ∷ Note 0 (Is (Of (Name 0))) ∷ []))
 
--- The second assignment is removed too. Its note is the first one's, behind which x is read; behind its own nothing reads x.
+-- The second assignment is removed too. Its note is the first one's, behind which x is read; behind its own nothing
+-- reads x.
 abbrev pub noting_again : Graph
 noting_again = of_three 3 (printing (notes_y_in 4))
 
@@ -118,7 +127,12 @@ one_register x = Register 9
 
 -- `x = 5, putchar(x), x = y + z` in one place: the constant is moved to x first, and the sum from the temporary.
 abbrev pub assigning_twice : Graph
-assigning_twice = of_three 4 (main_of (Marker 2 ∷ Move 0 (Constant 5) ∷ Note 0 (Is (Of (Name 0))) ∷ Call None Putchar (Name 0 ∷ []) ∷ by_temporary) (Name 0))
+assigning_twice =
+    of_three 4
+    (main_of
+    (Marker 2 ∷ Move 0 (Constant 5) ∷ Note 0 (Is (Of (Name 0))) ∷ Call None Putchar (Name 0 ∷ [])
+    ∷ by_temporary)
+    (Name 0))
 
 -- the change by which code motion moved the sum
 abbrev pub motion : PassName → Logged
@@ -135,8 +149,9 @@ pub record AreBorneOut : Type 0 where
   pub replaced : IsReplaced copying passing_by 3 0
   pub reused : IsReused [] one_register copying 0 0
 
--- What bears no change out. A removal, where x is read behind its note; a move, where another sum is computed, or where the sum is computed on a way that did not compute it; a
--- replaced read, where what is read was not copied; a shared register, where x has one of its own, or shares it with the temporary of its moved sum alone.
+-- What bears no change out. A removal, where x is read behind its note; a move, where another sum is computed, or where
+-- the sum is computed on a way that did not compute it; a replaced read, where what is read was not copied; a shared
+-- register, where x has one of its own, or shares it with the temporary of its moved sum alone.
 pub record AreNotBorneOut : Type 0 where
   pub removed : IsRemoved adding noting_sum 2 0 → ⊥
   pub another : IsMoved adding adding_another 2 0 → ⊥

@@ -9,7 +9,7 @@ use Rattle.std.proofs.lemmas.Option.{none-some, same_Some, slice_get_within}
 use Rattle.places.specs.declared.flow.FlowStep.{FlowStep}
 use Rattle.places.specs.Flow.{can_go, AreInOrder}
 use Rattle.places.specs.Path.{Quest, LeadOn, IsRoute, IsLess, IsBefore, IsNotBehind, IsLeastRoute}
-use Rattle.places.specs.Route.{after, goes_in, first_of, least_on, fewest, most_steps, route_of}
+use Rattle.places.specs.Route.{places_after, goes_in, first_that, least_on, fewest, most_steps, route_of}
 use Rattle.places.proofs.Searched.{step_order}
 use Rattle.base_laws.proofs.Booleans.{and_left as both_left, and_right as both_right}
 
@@ -35,18 +35,18 @@ any_among test q _ (later r qs h) t = let rest = any_among test q qs h t in rw r
     or_true false = refl
 
 -- a place that can be gone to comes after
-goes_among : (steps : List FlowStep) (p q : ℕ) → list_any (λ (s : FlowStep). s.from.0 == p && s.to.0 == q) steps ≡ true → Among q (after steps p)
+goes_among : (steps : List FlowStep) (p q : ℕ) → list_any (λ (s : FlowStep). s.from.0 == p && s.to.0 == q) steps ≡ true → Among q (places_after steps p)
 goes_among [] p q e = absurd cc
 goes_among (s ∷ steps) p q e = by_test (s.from.0 == p) refl (goes_among steps p q)
   where
-    by_test : (b : Bool) → (s.from.0 == p) ≡ b → (list_any (λ (u : FlowStep). u.from.0 == p && u.to.0 == q) steps ≡ true → Among q (after steps p)) → Among q (after (s ∷ steps) p)
+    by_test : (b : Bool) → (s.from.0 == p) ≡ b → (list_any (λ (u : FlowStep). u.from.0 == p && u.to.0 == q) steps ≡ true → Among q (places_after steps p)) → Among q (places_after (s ∷ steps) p)
     by_test true t rest = rw t (elim (cases_eq s.to.0 q) [
-      | inl same ↦ subst (λ r. Among q (r ∷ after steps p)) (sym same) (here (after steps p))
-      | inr other ↦ later s.to.0 (after steps p) (rest (let none : (s.to.0 == q) ≡ false = grind (arith, nat_tests, other) in rw (t, none) at e))
+      | inl same ↦ subst (λ r. Among q (r ∷ places_after steps p)) (sym same) (here (places_after steps p))
+      | inr other ↦ later s.to.0 (places_after steps p) (rest (let none : (s.to.0 == q) ≡ false = grind (arith, nat_tests, other) in rw (t, none) at e))
     ])
     by_test false t rest = rw t (rest (rw t at e))
 
-among_goes : (steps : List FlowStep) (p q : ℕ) → Among q (after steps p) → list_any (λ (s : FlowStep). s.from.0 == p && s.to.0 == q) steps ≡ true
+among_goes : (steps : List FlowStep) (p q : ℕ) → Among q (places_after steps p) → list_any (λ (s : FlowStep). s.from.0 == p && s.to.0 == q) steps ≡ true
 among_goes [] p q h = none q h
   where
     none : (q : ℕ) → Among q [] → list_any (λ (s : FlowStep). s.from.0 == p && s.to.0 == q) [] ≡ true
@@ -57,8 +57,8 @@ among_goes (s ∷ steps) p q h = by_test (s.from.0 == p) refl (among_goes steps 
     or_true true = refl
     or_true false = refl
 
-    by_test : (b : Bool) → (s.from.0 == p) ≡ b → (Among q (after steps p) → list_any (λ (u : FlowStep). u.from.0 == p && u.to.0 == q) steps ≡ true) → list_any (λ (u : FlowStep). u.from.0 == p && u.to.0 == q) (s ∷ steps) ≡ true
-    by_test true t rest = elim (at_front q s.to.0 (after steps p) (rw t at h)) [
+    by_test : (b : Bool) → (s.from.0 == p) ≡ b → (Among q (places_after steps p) → list_any (λ (u : FlowStep). u.from.0 == p && u.to.0 == q) steps ≡ true) → list_any (λ (u : FlowStep). u.from.0 == p && u.to.0 == q) (s ∷ steps) ≡ true
+    by_test true t rest = elim (at_front q s.to.0 (places_after steps p) (rw t at h)) [
       | inl same ↦ let one : (s.from.0 == p && s.to.0 == q) ≡ true = grind (arith, nat_tests, t, same) in rw one refl
       | inr behind ↦ let there = rest behind in rw there (or_true _)
     ]
@@ -71,7 +71,7 @@ data Ascends : List ℕ → Type 0 where
 
 record First (test : ℕ → Bool) (qs : List ℕ) (q : ℕ) : Type 0 where
   pub first : ℕ
-  pub is : first_of test qs ≡ Some first
+  pub is : first_that test qs ≡ Some first
   pub passes : test first ≡ true
   pub there : Among first qs
   pub least : first ≤ q
@@ -101,15 +101,15 @@ record ComesBy (steps : List FlowStep) (p q : ℕ) : Type 0 where
   pub from : step.from.0 ≡ p
   pub to : step.to.0 ≡ q
 
-comes_by : (steps : List FlowStep) (p q : ℕ) → Among q (after steps p) → ComesBy steps p q
+comes_by : (steps : List FlowStep) (p q : ℕ) → Among q (places_after steps p) → ComesBy steps p q
 comes_by [] p q h = elim h [ ]
 comes_by (s ∷ steps) p q h = by_test (s.from.0 == p) refl (comes_by steps p q)
   where
     further : ComesBy steps p q → ComesBy (s ∷ steps) p q
     further c = record { index = suc c.index; step = c.step; is = c.is; from = c.from; to = c.to }
 
-    by_test : (b : Bool) → (s.from.0 == p) ≡ b → (Among q (after steps p) → ComesBy steps p q) → ComesBy (s ∷ steps) p q
-    by_test true t rest = elim (at_front q s.to.0 (after steps p) (rw t at h)) [
+    by_test : (b : Bool) → (s.from.0 == p) ≡ b → (Among q (places_after steps p) → ComesBy steps p q) → ComesBy (s ∷ steps) p q
+    by_test true t rest = elim (at_front q s.to.0 (places_after steps p) (rw t at h)) [
       | inl same ↦ record { index = 0; step = s; is = refl; from = grind (arith, nat_tests, t); to = sym same }
       | inr behind ↦ further (rest behind)
     ]
@@ -119,12 +119,12 @@ tail_in_order : (s : FlowStep) (steps : List FlowStep) → AreInOrder (s ∷ ste
 tail_in_order s steps order i j d lt within = order (suc i) (suc j) d (omega arith) (omega arith)
 
 -- the places after one ascend
-after_ascends : (steps : List FlowStep) (p : ℕ) → AreInOrder steps → Ascends (after steps p)
+after_ascends : (steps : List FlowStep) (p : ℕ) → AreInOrder steps → Ascends (places_after steps p)
 after_ascends [] p order = none
 after_ascends (s ∷ steps) p order = by_test (s.from.0 == p) refl (after_ascends steps p (tail_in_order s steps order))
   where
-    by_test : (b : Bool) → (s.from.0 == p) ≡ b → Ascends (after steps p) → Ascends (after (s ∷ steps) p)
-    by_test true t up = rw t (more s.to.0 (after steps p) (λ r h.
+    by_test : (b : Bool) → (s.from.0 == p) ≡ b → Ascends (places_after steps p) → Ascends (places_after (s ∷ steps) p)
+    by_test true t up = rw t (more s.to.0 (places_after steps p) (λ r h.
         let c = comes_by steps p r h in
         let from : s.from.0 ≡ p = grind (arith, nat_tests, t) in
         let lt = step_order (s ∷ steps) 0 (suc c.index) s c.step order refl c.is (omega arith) (from ∙ sym c.from) in
@@ -134,7 +134,7 @@ after_ascends (s ∷ steps) p order = by_test (s.from.0 == p) refl (after_ascend
 -- a test that holds of some place holds of a first one
 record FirstOf (test : ℕ → Bool) (qs : List ℕ) : Type 0 where
   pub first : ℕ
-  pub is : first_of test qs ≡ Some first
+  pub is : first_that test qs ≡ Some first
   pub passes : test first ≡ true
   pub there : Among first qs
 
@@ -169,10 +169,10 @@ least_leads : (quest : Quest) (n : ℕ) (passed : Bool) (p : ℕ) → goes_in qu
 least_leads quest zero passed p e = absurd cc
 least_leads quest (suc zero) passed p e = ((both_right passed (can_go quest.steps p quest.stop) e, refl, both_left passed (can_go quest.steps p quest.stop) e), refl)
 least_leads quest (suc (suc n)) passed p e =
-    let f = first_any (next_test quest n passed) (after quest.steps p) e in
+    let f = first_any (next_test quest n passed) (places_after quest.steps p) e in
     step f (least_leads quest (suc n) (passed || f.first == quest.via) f.first (test_goes (quest.blocked f.first) _ f.passes))
   where
-    step : (f : FirstOf (next_test quest n passed) (after quest.steps p))
+    step : (f : FirstOf (next_test quest n passed) (places_after quest.steps p))
         → LeadOn quest (passed || f.first == quest.via) f.first (least_on quest (suc n) (passed || f.first == quest.via) f.first) × (length (least_on quest (suc n) (passed || f.first == quest.via) f.first) ≡ suc n)
         → LeadOn quest passed p (least_on quest (suc (suc n)) passed p) × (length (least_on quest (suc (suc n)) passed p) ≡ suc (suc n))
     step f rest =
@@ -189,7 +189,7 @@ goes_leads quest passed p (q ∷ []) lead =
     let go : can_go quest.steps p quest.stop ≡ true = subst (λ r. can_go quest.steps p r ≡ true) lead.1 lead.0 in
     rw (lead.2, go) refl
 goes_leads quest passed p (q ∷ r ∷ rest) lead =
-    any_among (next_test quest (length rest) passed) q (after quest.steps p) (goes_among quest.steps p q lead.0)
+    any_among (next_test quest (length rest) passed) q (places_after quest.steps p) (goes_among quest.steps p q lead.0)
     (test_holds (quest.blocked q) _ lead.1 (goes_leads quest (passed || q == quest.via) q (r ∷ rest) lead.2))
 
 -- They are the least of those that lead on in as many steps.
@@ -203,11 +203,11 @@ least_least quest order (suc (suc n)) passed p (q ∷ []) lead size = absurd (om
 least_least quest order (suc (suc n)) passed p (q ∷ r ∷ rest) lead size =
     let shorter : length rest ≡ n = omega arith in
     let goes : goes_in quest (suc n) (passed || q == quest.via) q ≡ true = subst (λ k. goes_in quest (suc k) (passed || q == quest.via) q ≡ true) shorter (goes_leads quest (passed || q == quest.via) q (r ∷ rest) lead.2) in
-    step (first_before (next_test quest n passed) (after quest.steps p) q (after_ascends quest.steps p order) (goes_among quest.steps p q lead.0)
+    step (first_before (next_test quest n passed) (places_after quest.steps p) q (after_ascends quest.steps p order) (goes_among quest.steps p q lead.0)
     (test_holds (quest.blocked q) _ lead.1 goes))
     (least_least quest order (suc n) (passed || q == quest.via) q (r ∷ rest) lead.2 (omega arith))
   where
-    step : First (next_test quest n passed) (after quest.steps p) q
+    step : First (next_test quest n passed) (places_after quest.steps p) q
         → (least_on quest (suc n) (passed || q == quest.via) q ≡ r ∷ rest) ⊎ IsLess (least_on quest (suc n) (passed || q == quest.via) q) (r ∷ rest)
         → (least_on quest (suc (suc n)) passed p ≡ q ∷ r ∷ rest) ⊎ IsLess (least_on quest (suc (suc n)) passed p) (q ∷ r ∷ rest)
     step f again =
@@ -345,7 +345,7 @@ record Comes (quest : Quest) (n : ℕ) : Type 0 where
 
 comes_next : (quest : Quest) (k : ℕ) (passed : Bool) (p : ℕ) → IsFewest quest (suc (suc k)) passed p → Comes quest (suc k)
 comes_next quest k passed p few =
-    let f = first_any (next_test quest k passed) (after quest.steps p) few.goes in
+    let f = first_any (next_test quest k passed) (places_after quest.steps p) few.goes in
     let c = comes_by quest.steps p f.first f.there in
     let free = test_free (quest.blocked f.first) _ f.passes in
     record {
@@ -358,10 +358,10 @@ comes_next quest k passed p few =
       few = record { goes = test_goes (quest.blocked f.first) _ f.passes; fewest = no_fewer f free };
     }
   where
-    no_fewer : (f : FirstOf (next_test quest k passed) (after quest.steps p)) → quest.blocked f.first ≡ false → (j : ℕ) → 1 ≤ j → goes_in quest j (passed || f.first == quest.via) f.first ≡ true → suc k ≤ j
+    no_fewer : (f : FirstOf (next_test quest k passed) (places_after quest.steps p)) → quest.blocked f.first ≡ false → (j : ℕ) → 1 ≤ j → goes_in quest j (passed || f.first == quest.via) f.first ≡ true → suc k ≤ j
     no_fewer f free zero some goes = absurd (omega arith)
     no_fewer f free (suc j) some goes =
-        let all = few.fewest (suc (suc j)) (omega arith) (any_among (next_test quest j passed) f.first (after quest.steps p) f.there (test_holds (quest.blocked f.first) _ free goes)) in
+        let all = few.fewest (suc (suc j)) (omega arith) (any_among (next_test quest j passed) f.first (places_after quest.steps p) f.there (test_holds (quest.blocked f.first) _ free goes)) in
         omega (arith, all)
 
 comes_at : (quest : Quest) (m : ℕ) (passed : Bool) (p : ℕ) → IsFewest quest (suc m) passed p → (k : ℕ) → k < m → Comes quest (suc k)

@@ -32,7 +32,13 @@ pub record Quest : Type 0 where
 -- It is asked for by the flow of a program, while a variable is not assigned.
 abbrev pub quest_by : FlowTable → (variable start via stop : ℕ) → Quest
 quest_by table variable start via stop =
-    record { steps = table.steps.items; blocked = λ p. assigns table.assignments.items p variable; start = start; via = via; stop = stop }
+    record {
+      steps = table.steps.items;
+      blocked = λ p. assigns table.assignments.items p variable;
+      start = start;
+      via = via;
+      stop = stop;
+    }
 
 -- what a route is asked for that assigns no variable on its way
 abbrev pub quest : FlowTable → Var → (start via stop : Place) → Quest
@@ -43,8 +49,8 @@ abbrev pub quest_past : List FlowStep → List Bool → (start via stop : Place)
 quest_past steps flags start via stop =
     record { steps = steps; blocked = λ p. slice_index_or flags p false; start = start.0; via = via.0; stop = stop.0 }
 
--- These places lead on from a place p to the stop. To each of them execution may go directly from the one before. Those before the last
--- are not blocked, the last is the stop, and the place to go by was passed before it.
+-- These places lead on from a place p to the stop. To each of them execution may go directly from the one before. Those
+-- before the last are not blocked, the last is the stop, and the place to go by was passed before it.
 abbrev pub LeadOn : Quest → (passed : Bool) → (p : ℕ) → List ℕ → Type 0
 LeadOn quest passed p [] = ⊥
 LeadOn quest passed p (q ∷ []) = (can_go quest.steps p q ≡ true) × (q ≡ quest.stop) × (passed ≡ true)

@@ -5,7 +5,9 @@ use Rattle.recovery.specs.declared.home.FrameHome.TheVariants.{Register, Slot}
 
 -- the word of the four bytes from an offset on, the lowest first
 abbrev pub word_from : List ℕ → ℕ → ℕ
-word_from bytes i = slice_index bytes i + slice_index bytes (i + 1) * 256 + slice_index bytes (i + 2) * 65536 + slice_index bytes (i + 3) * 16777216
+word_from bytes i =
+    slice_index bytes i + slice_index bytes (i + 1) * 256 + slice_index bytes (i + 2) * 65536
+    + slice_index bytes (i + 3) * 16777216
 
 -- the word in a slot, of the stack from the frame on; 0 where the slot does not lie wholly in it
 unfoldable pub slot_value : (ram : List ℕ) → (offset : ℕ) → ℕ

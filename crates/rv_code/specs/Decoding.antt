@@ -26,11 +26,16 @@ decoded w =
     else if opcode w == 23 then Some (Auipc (rd w) (upper w))
     else if opcode w == 111 then Some (Jal (rd w) (jump_distance w))
     else if opcode w == 103 then (if funct3 w == 0 then Some (Jalr (rd w) (rs1 w) (immediate w)) else None)
-    else if opcode w == 99 then option_map (λ op. Branch op (rs1 w) (rs2 w) (branch_distance w)) (branch_operation (funct3 w))
+    else if opcode w == 99
+    then option_map (λ op. Branch op (rs1 w) (rs2 w) (branch_distance w)) (branch_operation (funct3 w))
     else if opcode w == 3 then option_map (λ op. Load op (rd w) (rs1 w) (immediate w)) (load_operation (funct3 w))
-    else if opcode w == 35 then option_map (λ op. Store op (rs2 w) (rs1 w) (store_offset w)) (store_operation (funct3 w))
-    else if opcode w == 19 then option_map (λ op. Immediate op (rd w) (rs1 w) (immediate_of op w)) (immediate_operation (funct3 w) (funct7 w))
-    else if opcode w == 51 then option_map (λ op. Register op (rd w) (rs1 w) (rs2 w)) (register_operation (funct3 w) (funct7 w))
+    else if opcode w == 35
+    then option_map (λ op. Store op (rs2 w) (rs1 w) (store_offset w)) (store_operation (funct3 w))
+    else if opcode w == 19
+    then option_map (λ op. Immediate op (rd w) (rs1 w) (immediate_of op w))
+    (immediate_operation (funct3 w) (funct7 w))
+    else if opcode w == 51
+    then option_map (λ op. Register op (rd w) (rs1 w) (rs2 w)) (register_operation (funct3 w) (funct7 w))
     else if opcode w == 15 then (if funct3 w == 0 then Some (Fence (rd w) (rs1 w) (immediate w)) else None)
     else if w == 115 then Some Ecall
     else if w == 1048691 then Some Ebreak

@@ -18,9 +18,12 @@ immediate_word n a f r o = n % 4096 * 1048576 + a * 32768 + f * 4096 + r * 128 +
 abbrev pub store_word : ℕ → ℕ → ℕ → ℕ → ℕ
 store_word n b a f = n / 32 % 128 * 33554432 + b * 1048576 + a * 32768 + f * 4096 + n % 32 * 128 + 35
 
--- The B format: bit 12 and bits 5 to 10 of a distance, rs2, rs1, funct3, bits 1 to 4 and bit 11 of the distance, the opcode of branches.
+-- The B format: bit 12 and bits 5 to 10 of a distance, rs2, rs1, funct3, bits 1 to 4 and bit 11 of the distance, the
+-- opcode of branches.
 abbrev pub branch_word : ℕ → ℕ → ℕ → ℕ → ℕ
-branch_word n b a f = n / 4096 % 2 * 2147483648 + n / 32 % 64 * 33554432 + b * 1048576 + a * 32768 + f * 4096 + n / 2 % 16 * 256 + n / 2048 % 2 * 128 + 99
+branch_word n b a f =
+    n / 4096 % 2 * 2147483648 + n / 32 % 64 * 33554432 + b * 1048576 + a * 32768 + f * 4096 + n / 2 % 16 * 256
+    + n / 2048 % 2 * 128 + 99
 
 -- The U format: the upper 20 bits, rd, opcode.
 abbrev pub upper_word : ℕ → ℕ → ℕ → ℕ
@@ -28,9 +31,12 @@ upper_word n r o = n * 4096 + r * 128 + o
 
 -- The J format: bit 20, bits 1 to 10, bit 11 and bits 12 to 19 of a distance, rd, the opcode of JAL.
 abbrev pub jump_word : ℕ → ℕ → ℕ
-jump_word n r = n / 1048576 % 2 * 2147483648 + n / 2 % 1024 * 2097152 + n / 2048 % 2 * 1048576 + n / 4096 % 256 * 4096 + r * 128 + 111
+jump_word n r =
+    n / 1048576 % 2 * 2147483648 + n / 2 % 1024 * 2097152 + n / 2048 % 2 * 1048576 + n / 4096 % 256 * 4096 + r * 128
+    + 111
 
--- The word of an operation on a register and an immediate: a shift has a funct7 and an amount in place of the immediate.
+-- The word of an operation on a register and an immediate: a shift has a funct7 and an amount in place of the
+-- immediate.
 abbrev pub immediate_operation_word : ImmediateOperation → ℕ → ℕ → ℕ → ℕ
 immediate_operation_word Addi r a n = immediate_word n a (immediate_funct3 Addi) r 19
 immediate_operation_word Slti r a n = immediate_word n a (immediate_funct3 Slti) r 19

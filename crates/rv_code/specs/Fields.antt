@@ -1,5 +1,6 @@
--- The fields of a code word, as the RISC-V unprivileged ISA lays them out, chapter "RV32I", "Base Instruction Formats" and "Immediate Encoding Variants".
--- The bits of w from bit i on, n of them, are w / 2^i % 2^n. A code word is below 2^32, so its topmost field needs no remainder.
+-- The fields of a code word, as the RISC-V unprivileged ISA lays them out, chapter "RV32I", "Base Instruction Formats"
+-- and "Immediate Encoding Variants". The bits of w from bit i on, n of them, are w / 2^i % 2^n. A code word is below
+-- 2^32, so its topmost field needs no remainder.
 use Rattle.std.specs.Prelude.{ℕ, ◌+◌, ◌*◌, ◌/◌, ◌%◌, nat_lt, if◌then◌else◌}
 
 -- Bits 0 to 6: which group the instruction belongs to.
@@ -50,10 +51,13 @@ immediate w = signed_12 (w / 1048576)
 abbrev pub store_offset : ℕ → ℕ
 store_offset w = signed_12 (w / 33554432 * 32 + w / 128 % 32)
 
--- The distance of the B format, which is even: bit 12 is bit 31, bit 11 is bit 7, bits 5 to 10 are bits 25 to 30, and bits 1 to 4 are bits 8 to 11.
+-- The distance of the B format, which is even: bit 12 is bit 31, bit 11 is bit 7, bits 5 to 10 are bits 25 to 30, and
+-- bits 1 to 4 are bits 8 to 11.
 abbrev pub branch_distance : ℕ → ℕ
 branch_distance w = signed_13 (w / 2147483648 * 4096 + w / 128 % 2 * 2048 + w / 33554432 % 64 * 32 + w / 256 % 16 * 2)
 
--- The distance of the J format, which is even: bit 20 is bit 31, bits 12 to 19 are bits 12 to 19, bit 11 is bit 20, and bits 1 to 10 are bits 21 to 30.
+-- The distance of the J format, which is even: bit 20 is bit 31, bits 12 to 19 are bits 12 to 19, bit 11 is bit 20, and
+-- bits 1 to 10 are bits 21 to 30.
 abbrev pub jump_distance : ℕ → ℕ
-jump_distance w = signed_21 (w / 2147483648 * 1048576 + w / 4096 % 256 * 4096 + w / 1048576 % 2 * 2048 + w / 2097152 % 1024 * 2)
+jump_distance w =
+    signed_21 (w / 2147483648 * 1048576 + w / 4096 % 256 * 4096 + w / 1048576 % 2 * 2048 + w / 2097152 % 1024 * 2)

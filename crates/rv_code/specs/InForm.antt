@@ -33,7 +33,8 @@ IsImmediateOf Slli n = n < 32
 IsImmediateOf Srli n = n < 32
 IsImmediateOf Srai n = n < 32
 
--- A word can spell the instruction: its registers exist, and its immediate, offset or distance is one that its format holds.
+-- A word can spell the instruction: its registers exist, and its immediate, offset or distance is one that its format
+-- holds.
 abbrev pub IsInForm : Instruction → Type 0
 IsInForm (Lui r n) = IsRegister r × (n < 1048576)
 IsInForm (Auipc r n) = IsRegister r × (n < 1048576)

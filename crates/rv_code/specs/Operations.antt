@@ -1,4 +1,5 @@
--- Which funct3 and funct7 spell which operation, as the RISC-V unprivileged ISA lists them, chapter "RV32/64G Instruction Set Listings".
+-- Which funct3 and funct7 spell which operation, as the RISC-V unprivileged ISA lists them, chapter "RV32/64G
+-- Instruction Set Listings".
 use Rattle.std.specs.Prelude.{ℕ, ◌==◌, Option, Some, None, if◌then◌else◌}
 use Rattle.rv_code.specs.declared.instruction.BranchOperation.{BranchOperation}
 use Rattle.rv_code.specs.declared.instruction.BranchOperation.TheVariants.{Beq, Bne, Blt, Bge, Bltu, Bgeu}

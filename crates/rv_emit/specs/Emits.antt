@@ -16,13 +16,16 @@ use Rattle.rv_emit_runs.specs.Writing.{HaveBinders, HaveWriters, WritesNothingEl
 
 -- The machine over the code does what the unit over homes does.
 pub record Emits (h : HomedForm) (e : EmittedForm) : Type 0 where
-  -- Each part of the unit's code stands in it, each stop is the first word of its place, and static memory begins with the unit's initial bytes.
+  -- Each part of the unit's code stands in it, each stop is the first word of its place, and static memory begins with
+  -- the unit's initial bytes.
   pub code : IsCode h e
-  -- On each input the machine comes by all that is seen of the unit over homes, event by event, and at each stop it holds what the unit's homes and objects hold there.
+  -- On each input the machine comes by all that is seen of the unit over homes, event by event, and at each stop it
+  -- holds what the unit's homes and objects hold there.
   pub comes : ComesByAll h e code.arrangement
   -- On each input the events of both are the same one by one, as far as both go.
   pub agrees : AgreesThroughout h e code.arrangement
-  -- Where the unit's places take bounded time, the machine comes to each event within 1,025 instructions for each word of the code.
+  -- Where the unit's places take bounded time, the machine comes to each event within 1,025 instructions for each word
+  -- of the code.
   pub in_time : AreTimed h.unit → FollowsInTime h e code.arrangement
   -- Each word belongs to a place, or to none.
   pub owners : length e.owners ≡ length e.code
@@ -42,7 +45,8 @@ pub record Emits (h : HomedForm) (e : EmittedForm) : Type 0 where
   pub bindings : TellBinders h code.arrangement e
   -- Each place has an address of its own.
   pub apart : (s t : PlacedStop) → Among s e.stops → Among t e.stops → s.address ≡ t.address → s.place ≡ t.place
-  -- What is told of it is where its parts are: of static objects, and of each function its frame, its slots and its objects.
+  -- What is told of it is where its parts are: of static objects, and of each function its frame, its slots and its
+  -- objects.
   pub told : Tells h code.arrangement e
   -- Each static object has its address.
   pub statics : (n : ℕ) → n < length h.unit.statics → slice_get e.statics n ≡ Some (static_at h.unit n)

@@ -48,11 +48,13 @@ binding_code s g r (ToObject k) = storing (element_of g k) (frame_reach (object_
 -- The parameters, from one of this number on.
 abbrev pub bindings_code : StorageForm → Graph → (number : ℕ) → List Binding → List Instruction
 bindings_code s g n [] = []
-bindings_code s g n (b ∷ more) = binding_code s g (argument_register n) b ++ bindings_code s g ((n + 1) % 4294967296) more
+bindings_code s g n (b ∷ more) =
+    binding_code s g (argument_register n) b ++ bindings_code s g ((n + 1) % 4294967296) more
 
 -- All of it behind the guard, and with it.
 abbrev pub beginning_behind : StorageForm → Graph → (saved : List ℕ) → (size : ℕ) → (is_main : Bool) → List Instruction
-beginning_behind s g saved size is_main = entering_code saved size ++ base_code is_main s.base ++ bindings_code s g 0 g.parameters
+beginning_behind s g saved size is_main =
+    entering_code saved size ++ base_code is_main s.base ++ bindings_code s g 0 g.parameters
 
 abbrev pub beginning_code : StorageForm → Graph → (saved : List ℕ) → (size : ℕ) → (is_main : Bool) → List Instruction
 beginning_code s g saved size is_main = guard_code ++ beginning_behind s g saved size is_main
@@ -66,8 +68,12 @@ with_writer n s = record s { pieces = marked n s.pieces }
 -- The parameters, from one of this number on.
 abbrev pub with_bindings : StorageForm → Graph → (number : ℕ) → List Binding → CodeState → CodeState
 with_bindings g f n [] s = s
-with_bindings g f n (b ∷ more) s = with_bindings g f ((n + 1) % 4294967296) more (with_writer n (with_code (binding_code g f (argument_register n) b) s))
+with_bindings g f n (b ∷ more) s =
+    with_bindings g f ((n + 1) % 4294967296) more
+    (with_writer n (with_code (binding_code g f (argument_register n) b) s))
 
 -- The beginning of a function.
-abbrev pub with_beginning : StorageForm → Graph → (saved : List ℕ) → (size : ℕ) → (is_main : Bool) → CodeState → CodeState
-with_beginning g f saved size is_main s = with_bindings g f 0 f.parameters (with_code (guard_code ++ entering_code saved size ++ base_code is_main g.base) s)
+abbrev pub with_beginning : StorageForm → Graph → (saved : List ℕ) → (size : ℕ) → (is_main : Bool) → CodeState
+    → CodeState
+with_beginning g f saved size is_main s =
+    with_bindings g f 0 f.parameters (with_code (guard_code ++ entering_code saved size ++ base_code is_main g.base) s)

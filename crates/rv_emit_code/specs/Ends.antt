@@ -1,7 +1,7 @@
 -- The code of the ends of blocks. Registers 1, 2, 4, 6, 7 and 10 are ra, sp, tp, t1, t2 and a0.
 use Rattle.std.specs.Prelude.{ℕ, ◌-◌, ◌==◌, not, nat_lt, nat_le, int_lt, Bool, false, if◌then◌else◌, List, [], ◌∷◌, ◌++◌, map}
 use Rattle.std.specs.Option.{option_map_or}
-use Rattle.word_base.specs.Words.{signed}
+use Rattle.word_base.specs.Words.{signed_number}
 use Rattle.rv_code.specs.declared.instruction.Instruction.{Instruction}
 use Rattle.rv_code.specs.declared.instruction.Instruction.TheVariants as instruction
 use Rattle.rv_code.specs.declared.instruction.BranchOperation.{BranchOperation}
@@ -51,7 +51,8 @@ held_with x held = forgotten x.register held ++ x ∷ []
 
 -- What they hold behind those words.
 abbrev pub holding_held : Held → List Held → List Held
-holding_held x held = option_map_or (λ r. if r == x.register then held else held_with x held) (holder_of x.word held) (held_with x held)
+holding_held x held =
+    option_map_or (λ r. if r == x.register then held else held_with x held) (holder_of x.word held) (held_with x held)
 
 -- Constants are loaded, as far as that takes no more than so many words, and what registers hold behind that.
 abbrev pub loading_code : (base room : ℕ) → (loads held : List Held) → List Instruction
@@ -71,11 +72,13 @@ loading_held base room (x ∷ more) held =
 
 -- The words are appended, and those constants are held from then on.
 abbrev pub with_loads : (base room : ℕ) → (loads : List Held) → CodeState → CodeState
-with_loads base room loads s = record (with_code (loading_code base room loads s.held) s) { held = loading_held base room loads s.held }
+with_loads base room loads s =
+    record (with_code (loading_code base room loads s.held) s) { held = loading_held base room loads s.held }
 
 -- ---- Where control goes
 
--- The pieces that go to a label behind which what stands next has another, where a stop that has no word yet is in force or is not.
+-- The pieces that go to a label behind which what stands next has another, where a stop that has no word yet is in
+-- force or is not.
 abbrev pub going : (begins : Bool) → (to next : ℕ) → List Piece
 going b to next =
     if to == next then (if b then piece.Word (instruction.Immediate Addi 0 0 0) ∷ [] else [])
@@ -98,7 +101,8 @@ going_by op l r if_true if_false next =
 
 -- Constants are loaded, and control goes to a label.
 abbrev pub jumping : StorageForm → List Held → (begins : Bool) → (loads : List Held) → (to next : ℕ) → List Piece
-jumping g held b loads to next = words (loading_code g.base 8 loads held) ++ going (begins_behind b (loading_code g.base 8 loads held)) to next
+jumping g held b loads to next =
+    words (loading_code g.base 8 loads held) ++ going (begins_behind b (loading_code g.base 8 loads held)) to next
 
 -- ---- Comparisons
 
@@ -121,8 +125,8 @@ branch_operation AtLeastUnsigned = Bgeu
 abbrev pub word_test : Comparison → (left right : ℕ) → Bool
 word_test Equal a b = a == b
 word_test NotEqual a b = not (a == b)
-word_test Less a b = int_lt (signed a) (signed b)
-word_test AtLeast a b = not (int_lt (signed a) (signed b))
+word_test Less a b = int_lt (signed_number a) (signed_number b)
+word_test AtLeast a b = not (int_lt (signed_number a) (signed_number b))
 word_test LessUnsigned a b = nat_lt a b
 word_test AtLeastUnsigned a b = not (nat_lt a b)
 
@@ -158,21 +162,29 @@ room_of x = 6 - most_words_of_source x.left - most_words_of_source x.right
 abbrev pub comparing_code : StorageForm → List Held → (loads : List Held) → Compared → List Instruction
 comparing_code g held loads x =
     loading_code g.base (room_of x) loads held
-    ++ (fetched_source g (loading_held g.base (room_of x) loads held) x.left 6 ++ fetched_source g (loading_held g.base (room_of x) loads held) x.right 7)
+    ++
+    (fetched_source g (loading_held g.base (room_of x) loads held) x.left 6
+    ++ fetched_source g (loading_held g.base (room_of x) loads held) x.right 7)
 
 -- Constants are loaded, and control goes to one label where a comparison holds, and else to another.
-abbrev pub branching : StorageForm → List Held → (loads : List Held) → Compared → (if_true if_false next : ℕ) → List Piece
+abbrev pub branching : StorageForm → List Held → (loads : List Held) → Compared → (if_true if_false next : ℕ)
+    → List Piece
 branching g held loads x if_true if_false next =
     words (comparing_code g held loads x)
-    ++ going_by (branch_operation x.comparison) (source_register g (loading_held g.base (room_of x) loads held) x.left 6) (source_register g (loading_held g.base (room_of x) loads held) x.right 7) if_true if_false next
+    ++ going_by (branch_operation x.comparison)
+    (source_register g (loading_held g.base (room_of x) loads held) x.left 6)
+    (source_register g (loading_held g.base (room_of x) loads held) x.right 7) if_true if_false next
 
 -- The code of the end of a block that goes on to one of two blocks by a comparison, which may be known.
-abbrev pub choosing : StorageForm → List Held → (begins : Bool) → (loads : List Held) → Comparison → (left right : Source) → (if_true if_false next : ℕ) → List Piece
-choosing g held b loads k (Word x) (Word y) if_true if_false next = jumping g held b loads (if word_test k x y then if_true else if_false) next
+abbrev pub choosing : StorageForm → List Held → (begins : Bool) → (loads : List Held) → Comparison
+    → (left right : Source) → (if_true if_false next : ℕ) → List Piece
+choosing g held b loads k (Word x) (Word y) if_true if_false next =
+    jumping g held b loads (if word_test k x y then if_true else if_false) next
 choosing g held b loads k l r if_true if_false next = branching g held loads (with_zero k l r) if_true if_false next
 
 -- What registers hold behind it.
-abbrev pub choosing_held : StorageForm → List Held → (loads : List Held) → Comparison → (left right : Source) → List Held
+abbrev pub choosing_held : StorageForm → List Held → (loads : List Held) → Comparison → (left right : Source)
+    → List Held
 choosing_held g held loads k (Word x) (Word y) = loading_held g.base 8 loads held
 choosing_held g held loads k l r = loading_held g.base (room_of (with_zero k l r)) loads held
 
@@ -198,14 +210,20 @@ end_held g held loads (Return v) = []
 
 -- Constants are loaded, and control goes to a label.
 abbrev pub with_jump : StorageForm → (loads : List Held) → (to next : ℕ) → CodeState → CodeState
-with_jump g loads to next s = record (with_pieces (jumping g s.held s.begins loads to next) s) { held = loading_held g.base 8 loads s.held }
+with_jump g loads to next s =
+    record (with_pieces (jumping g s.held s.begins loads to next) s) { held = loading_held g.base 8 loads s.held }
 
 -- Constants are loaded, and control goes to one label where a comparison holds, and else to another.
-abbrev pub with_branch : StorageForm → (loads : List Held) → Compared → (if_true if_false next : ℕ) → CodeState → CodeState
-with_branch g loads x if_true if_false next s = record (with_pieces (branching g s.held loads x if_true if_false next) s) { held = loading_held g.base (room_of x) loads s.held }
+abbrev pub with_branch : StorageForm → (loads : List Held) → Compared → (if_true if_false next : ℕ) → CodeState
+    → CodeState
+with_branch g loads x if_true if_false next s =
+    record (with_pieces (branching g s.held loads x if_true if_false next) s)
+    { held = loading_held g.base (room_of x) loads s.held }
 
 -- The same where the labels may be one, and the comparison known.
-abbrev pub with_choice : StorageForm → (loads : List Held) → Comparison → (left right : Source) → (if_true if_false next : ℕ) → CodeState → CodeState
+abbrev pub with_choice : StorageForm → (loads : List Held) → Comparison → (left right : Source)
+    → (if_true if_false next : ℕ) → CodeState → CodeState
 with_choice g loads k l r if_true if_false next s =
     if if_true == if_false then with_jump g loads if_true next s
-    else record (with_pieces (choosing g s.held s.begins loads k l r if_true if_false next) s) { held = choosing_held g s.held loads k l r }
+    else record (with_pieces (choosing g s.held s.begins loads k l r if_true if_false next) s)
+    { held = choosing_held g s.held loads k l r }

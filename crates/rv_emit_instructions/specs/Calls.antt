@@ -21,7 +21,8 @@ forgetting r s = record s { held = forgotten r s.held }
 
 -- An argument is brought into its register, which holds no constant from then on.
 abbrev pub passed : StorageForm → (number : ℕ) → Operand → CodeState → CodeState
-passed g n a s = forgetting (argument_register n) (with_code (bringing g s.held (argument_register n) (source_of g a)) s)
+passed g n a s =
+    forgetting (argument_register n) (with_code (bringing g s.held (argument_register n) (source_of g a)) s)
 
 -- Arguments are passed in order, the first of them by its number.
 abbrev pub passed_from : StorageForm → (number : ℕ) → List Operand → CodeState → CodeState

@@ -49,13 +49,21 @@ upper_of address = high_part address * 4096 % 4294967296
 abbrev pub static_reach : StorageForm → List Held → (address : ℕ) → Reach
 static_reach g held address =
     if is_small (subtracted address g.base) then (record { code = []; base = 3; offset = subtracted address g.base })
-    else (record { code = fetched_constant (upper_of address) g.base 7 held; base = constant_register (upper_of address) g.base 7 held; offset = low_part address })
+    else (record {
+      code = fetched_constant (upper_of address) g.base 7 held;
+      base = constant_register (upper_of address) g.base 7 held;
+      offset = low_part address;
+    })
 
 -- A byte of the frame is reached from sp where it is near, and else from t2.
 abbrev pub frame_reach : (offset : ℕ) → Reach
 frame_reach offset =
     if nat_lt offset 2048 then (record { code = []; base = 2; offset = offset })
-    else (record { code = instruction.Lui 7 (high_part offset) ∷ instruction.Register on.Add 7 7 2 ∷ []; base = 7; offset = low_part offset })
+    else (record {
+      code = instruction.Lui 7 (high_part offset) ∷ instruction.Register on.Add 7 7 2 ∷ [];
+      base = 7;
+      offset = low_part offset;
+    })
 
 -- Where a value points is reached from the register in which it is found.
 abbrev pub pointer_reach : StorageForm → List Held → Source → Reach
@@ -70,7 +78,9 @@ reach_of g held (At a) = pointer_reach g held (source_of g a)
 
 -- The target becomes the element that is reached.
 abbrev pub loading : StorageForm → (target : Home) → Element → Reach → List Instruction
-loading g target e reach = reach.code ++ instruction.Load (load_operation e) (result_register target) reach.base reach.offset ∷ finishing g target (result_register target)
+loading g target e reach =
+    reach.code ++ instruction.Load (load_operation e) (result_register target) reach.base reach.offset
+    ∷ finishing g target (result_register target)
 
 -- the code that loads an element into a home
 abbrev pub load_code : StorageForm → List Held → (target : Home) → Element → Location → List Instruction
@@ -82,8 +92,10 @@ storing e reach r = reach.code ++ instruction.Store (store_operation e) r reach.
 
 -- The element at a location becomes an operand.
 abbrev pub store_code : StorageForm → List Held → Element → Location → Source → List Instruction
-store_code g held e location value = fetched_source g held value 6 ++ storing e (reach_of g held location) (source_register g held value 6)
+store_code g held e location value =
+    fetched_source g held value 6 ++ storing e (reach_of g held location) (source_register g held value 6)
 
 -- The target becomes the address of an automatic object.
 abbrev pub object_address_code : StorageForm → (target : Home) → (object : ℕ) → List Instruction
-object_address_code g target object = address_code (result_register target) 7 (object_at g object) ++ finishing g target (result_register target)
+object_address_code g target object =
+    address_code (result_register target) 7 (object_at g object) ++ finishing g target (result_register target)

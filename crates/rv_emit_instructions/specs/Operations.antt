@@ -2,7 +2,7 @@
 use Rattle.std.specs.Prelude.{ℕ, zero, suc, ◌+◌, ◌-◌, ◌%◌, ◌^◌, ◌==◌, nat_le, Bool, true, false, if◌then◌else◌, Option, Some, None, option_map, List, [], ◌∷◌, ◌++◌}
 use Rattle.std.specs.Option.{option_map_or}
 use Rattle.word_base.specs.Arithmetic.{subtracted}
-use Rattle.word_base.specs.WordOperations.{operated}
+use Rattle.word_base.specs.WordOperations.{word_operation}
 use Rattle.word_base.specs.declared.operation.Operation.{Operation}
 use Rattle.word_base.specs.declared.operation.Operation.TheVariants.{Add, Sub, Mul, Div, Divu, Rem, Remu, Sll, Srl, Sra, And, Or, Xor, Slt, Sltu}
 use Rattle.word_base.specs.declared.operation.Truncation.{Truncation}
@@ -69,9 +69,10 @@ power_from e (suc n) w = if w == 2 ^ e then Some e else power_from (e + 1) n w
 unfoldable pub power_of_two : (word : ℕ) → Option ℕ
 power_of_two w = power_from 0 32 w
 
--- The operation on a register and an immediate that does what an operation does with a word on the right, if there is one:
--- the shift by its low five bits; the sum with a small word, or with the negative of a small one; a bitwise operation or a comparison with a small one;
--- and with a power of two a product or a quotient by a shift, a remainder by the bits below it.
+-- The operation on a register and an immediate that does what an operation does with a word on the right, if there is
+-- one: the shift by its low five bits; the sum with a small word, or with the negative of a small one; a bitwise
+-- operation or a comparison with a small one; and with a power of two a product or a quotient by a shift, a remainder
+-- by the bits below it.
 abbrev pub if_small : ImmediateOperation → (word : ℕ) → Option (ImmediateOperation × ℕ)
 if_small op w = if is_small w then Some (op, w) else None
 
@@ -103,38 +104,46 @@ module _ (g : StorageForm) (held : List Held) (target : Home) where
   -- The target becomes a constant.
   abbrev pub constant_to : Home → (word : ℕ) → List Instruction
   constant_to (Register r) w = set_constant_code r w g.base held
-  constant_to (Slot k) w = fetched_constant w g.base 6 held ++ home_written g (Slot k) (constant_register w g.base 6 held)
+  constant_to (Slot k) w =
+      fetched_constant w g.base 6 held ++ home_written g (Slot k) (constant_register w g.base 6 held)
 
   -- the target becomes a constant
   abbrev pub constant_written : (word : ℕ) → List Instruction
   constant_written w = constant_to target w
 
-  -- The target becomes what an operation makes of two registers: both are fetched, the operation is done in the target's register, and a slot is stored.
+  -- The target becomes what an operation makes of two registers: both are fetched, the operation is done in the
+  -- target's register, and a slot is stored.
   abbrev pub on_registers : RegisterOperation → (left right : Source) → List Instruction
   on_registers op left right =
       fetched_source g held left 6 ++ fetched_source g held right 7
-      ++ OnRegisters op (result_register target) (source_register g held left 6) (source_register g held right 7) ∷ finishing g target (result_register target)
+      ++ OnRegisters op (result_register target) (source_register g held left 6) (source_register g held right 7)
+      ∷ finishing g target (result_register target)
 
   -- The same of a register and an immediate.
   abbrev pub on_immediate : ImmediateOperation → Source → (immediate : ℕ) → List Instruction
-  on_immediate op source n = fetched_source g held source 6 ++ Immediate op (result_register target) (source_register g held source 6) n ∷ finishing g target (result_register target)
+  on_immediate op source n =
+      fetched_source g held source 6 ++ Immediate op (result_register target) (source_register g held source 6) n
+      ∷ finishing g target (result_register target)
 
   -- The same of a register and a word, by an immediate where the operation has that form.
   abbrev pub by_word : Operation → (left : Source) → (right : ℕ) → List Instruction
   by_word op left w =
-      option_map_or (λ (form : ImmediateOperation × ℕ). on_immediate form.0 left form.1) (immediate_form op w) (on_registers (register_operation op) left (Word w))
+      option_map_or (λ (form : ImmediateOperation × ℕ). on_immediate form.0 left form.1) (immediate_form op w)
+      (on_registers (register_operation op) left (Word w))
 
   -- The target becomes what an operation makes of two operands: the result itself where both are known.
   abbrev pub operation_code : Operation → (left right : Source) → List Instruction
-  operation_code op (Word a) (Word b) = constant_written (operated op a b)
+  operation_code op (Word a) (Word b) = constant_written (word_operation op a b)
   operation_code op (OfHome a) (Word b) = by_word op (OfHome a) b
-  operation_code op (Word a) (OfHome b) = if is_commutative op then by_word op (OfHome b) a else on_registers (register_operation op) (Word a) (OfHome b)
+  operation_code op (Word a) (OfHome b) =
+      if is_commutative op then by_word op (OfHome b) a else on_registers (register_operation op) (Word a) (OfHome b)
   operation_code op (OfHome a) (OfHome b) = on_registers (register_operation op) (OfHome a) (OfHome b)
 
   -- The target becomes the low bits of an operand, so many less than 32 of them, by a shift to the left and one back.
   abbrev pub shifted_twice : Source → (by : ℕ) → (back : ImmediateOperation) → List Instruction
   shifted_twice source by back =
-      fetched_source g held source 6 ++ Immediate Slli 6 (source_register g held source 6) by ∷ Immediate back (result_register target) 6 by ∷ finishing g target (result_register target)
+      fetched_source g held source 6 ++ Immediate Slli 6 (source_register g held source 6) by
+      ∷ Immediate back (result_register target) 6 by ∷ finishing g target (result_register target)
 
   -- The target becomes what a truncation leaves of an operand.
   abbrev pub truncation_code : Truncation → Source → List Instruction
@@ -143,15 +152,19 @@ module _ (g : StorageForm) (held : List Held) (target : Home) where
   truncation_code Unsigned16 source = shifted_twice source 16 Srli
   truncation_code Signed16 source = shifted_twice source 16 Srai
 
-  -- The target becomes 1 where two operands are the same, and else 0: their difference bit by bit is less than 1, or one of them is where the other is 0.
+  -- The target becomes 1 where two operands are the same, and else 0: their difference bit by bit is less than 1, or
+  -- one of them is where the other is 0.
   abbrev pub compared : (left right : Source) → List Instruction
   compared left right =
       fetched_source g held left 6 ++ fetched_source g held right 7
-      ++ OnRegisters on.Xor 6 (source_register g held left 6) (source_register g held right 7) ∷ Immediate Sltiu (result_register target) 6 1 ∷ finishing g target (result_register target)
+      ++ OnRegisters on.Xor 6 (source_register g held left 6) (source_register g held right 7)
+      ∷ Immediate Sltiu (result_register target) 6 1 ∷ finishing g target (result_register target)
 
   -- the target becomes whether two words are the same: a comparison with 0 takes one instruction
   abbrev pub comparison_code : (left right : Source) → List Instruction
-  comparison_code (Word a) (Word b) = if a == 0 then on_immediate Sltiu (Word b) 1 else if b == 0 then on_immediate Sltiu (Word a) 1 else compared (Word a) (Word b)
+  comparison_code (Word a) (Word b) =
+      if a == 0 then on_immediate Sltiu (Word b) 1 else if b == 0 then on_immediate Sltiu (Word a) 1
+      else compared (Word a) (Word b)
   comparison_code (Word a) (OfHome b) = if a == 0 then on_immediate Sltiu (OfHome b) 1 else compared (Word a) (OfHome b)
   comparison_code (OfHome a) (Word b) = if b == 0 then on_immediate Sltiu (OfHome a) 1 else compared (OfHome a) (Word b)
   comparison_code (OfHome a) (OfHome b) = compared (OfHome a) (OfHome b)

@@ -22,7 +22,8 @@ use Rattle.rv_emit_layout.specs.Tracing.{stops_of_blocks, with_writers, word_add
 use Rattle.rv_emit_layout.specs.declared.assembling.Coded as declared-coded
 use Rattle.rv_emit_layout.specs.declared.laying.Laid as declared-laid
 
--- A function before it has an address: the registers that its frame keeps, the offset of its slots and of its objects, its size, its pieces, and where they stand.
+-- A function before it has an address: the registers that its frame keeps, the offset of its slots and of its objects,
+-- its size, its pieces, and where they stand.
 pub record LaidForm : Type 0 where
   pub saved : List ℕ
   pub slots : ℕ
@@ -33,7 +34,15 @@ pub record LaidForm : Type 0 where
 
 -- what the code has of it
 abbrev pub laid_view : declared-laid.Laid → LaidForm
-laid_view l = record { saved = l.frame.saved.items; slots = l.frame.slots; objects = l.frame.objects.items; size = l.frame.size; sequence = sequence_view l.sequence; layout = layout_view l.layout }
+laid_view l =
+    record {
+      saved = l.frame.saved.items;
+      slots = l.frame.slots;
+      objects = l.frame.objects.items;
+      size = l.frame.size;
+      sequence = sequence_view l.sequence;
+      layout = layout_view l.layout;
+    }
 
 -- The addresses of static objects and of the bytes that initialise arrays, and the one that gp holds.
 pub record StaticForm : Type 0 where
@@ -49,7 +58,8 @@ static_view s = record { objects = s.objects.items; arrays = s.array_bytes.items
 abbrev pub base_of : Map → ℕ
 base_of m = bytes_start m + 2048
 
--- Addresses are those that a unit's static objects and the bytes that initialise its arrays have, and gp holds its word.
+-- Addresses are those that a unit's static objects and the bytes that initialise its arrays have, and gp holds its
+-- word.
 pub record AreAddressesOf (u : UnitForm) (s : StaticForm) : Type 0 where
   pub objects : s.objects ≡ take (length u.statics) (static_addresses u)
   pub arrays : s.arrays ≡ drop (length u.statics) (static_addresses u)
@@ -58,18 +68,28 @@ pub record AreAddressesOf (u : UnitForm) (s : StaticForm) : Type 0 where
 -- What the code of a function rests on. Its end has the label behind those of its blocks.
 abbrev pub ground_for : StaticForm → Graph → List Home → LaidForm → Ground
 ground_for s g homes l = record {
-  storage = record { homes = homes; slots = l.slots; objects = l.objects; statics = s.objects; arrays = s.arrays; base = s.base };
+  storage =
+      record {
+        homes = homes;
+        slots = l.slots;
+        objects = l.objects;
+        statics = s.objects;
+        arrays = s.arrays;
+        base = s.base;
+      };
   entry = g.entry;
   saved = l.saved;
   size = l.size;
   end = counted (length g.blocks);
 }
 
--- The code of a function before it has an address: its frame is laid out as frames are, its pieces are a sequence of the function, and these stand as a layout has them.
+-- The code of a function before it has an address: its frame is laid out as frames are, its pieces are a sequence of
+-- the function, and these stand as a layout has them.
 pub record IsLaidOf (s : StaticForm) (g : Graph) (homes : List Home) (is_main : Bool) (l : LaidForm) : Type 0 where
   pub saved : l.saved ≡ saved_in homes g
   pub slots : l.slots ≡ slots_start (length l.saved)
-  pub objects : FitsFrame homes g → l.objects ≡ object_offsets (objects_start (length l.saved) (slot_count homes)) g.objects
+  pub objects : FitsFrame homes g
+      → l.objects ≡ object_offsets (objects_start (length l.saved) (slot_count homes)) g.objects
   pub size : FitsFrame homes g → l.size ≡ frame_size (length l.saved) (slot_count homes) g.objects
   pub sequence : length g.blocks < 4294967295 → IsSequenceOf (ground_for s g homes l) g is_main l.sequence
   pub layout : length l.sequence.pieces ≤ most_pieces → IsLayoutOf l.sequence l.layout
@@ -79,16 +99,19 @@ abbrev pub AreLaid : HomedForm → StaticForm → (function : ℕ) → List Grap
 AreLaid h s f [] [] = Unit {0}
 AreLaid h s f [] (l ∷ more) = ⊥
 AreLaid h s f (g ∷ graphs) [] = ⊥
-AreLaid h s f (g ∷ graphs) (l ∷ more) = IsLaidOf s g (homes_in h f) (f == h.unit.main) l × AreLaid h s (counted (f + 1)) graphs more
+AreLaid h s f (g ∷ graphs) (l ∷ more) =
+    IsLaidOf s g (homes_in h f) (f == h.unit.main) l × AreLaid h s (counted (f + 1)) graphs more
 
--- How many words stand before each function, where so many stand before the first, and in all. As far as 32 bits can count.
+-- How many words stand before each function, where so many stand before the first, and in all. As far as 32 bits can
+-- count.
 abbrev pub firsts_from : (words : ℕ) → List LaidForm → List ℕ
 firsts_from n [] = n ∷ []
 firsts_from n (l ∷ more) = n ∷ firsts_from (counted (n + l.layout.words)) more
 
 -- What stands before all functions: its pieces, and where they stand.
 abbrev pub stub_form : Map → (main : ℕ) → SequenceForm
-stub_form m main = record { pieces = (with_stub m main (no_code 0 [])).pieces; begin = 0; labels = []; ends = []; numbers = [] }
+stub_form m main =
+    record { pieces = (with_stub m main (no_code 0 [])).pieces; begin = 0; labels = []; ends = []; numbers = [] }
 
 -- What stands before all functions of a unit.
 abbrev pub stub_of : UnitForm → SequenceForm
@@ -97,12 +120,15 @@ stub_of u = stub_form (map_of_unit u) u.main
 -- The words of functions, from one of this number on.
 abbrev pub words_of_all : (firsts : List ℕ) → (function : ℕ) → List LaidForm → List OwnedWord
 words_of_all firsts f [] = []
-words_of_all firsts f (l ∷ more) = function_words l.sequence l.layout (slice_index firsts f) firsts ++ words_of_all firsts (counted (f + 1)) more
+words_of_all firsts f (l ∷ more) =
+    function_words l.sequence l.layout (slice_index firsts f) firsts ++ words_of_all firsts (counted (f + 1)) more
 
 -- Their stops.
 abbrev pub stops_of_all : (firsts : List ℕ) → (function : ℕ) → List LaidForm → List PlacedStop
 stops_of_all firsts f [] = []
-stops_of_all firsts f (l ∷ more) = stops_of_blocks l.sequence l.layout (slice_index firsts f) 0 (counted (length l.sequence.ends)) ++ stops_of_all firsts (counted (f + 1)) more
+stops_of_all firsts f (l ∷ more) =
+    stops_of_blocks l.sequence l.layout (slice_index firsts f) 0 (counted (length l.sequence.ends))
+    ++ stops_of_all firsts (counted (f + 1)) more
 
 -- What is told of a function before which so many words stand.
 abbrev pub told_by : (first parameters : ℕ) → LaidForm → FunctionCode
@@ -113,7 +139,9 @@ told_by first n l = record {
   slots = l.slots;
   objects = l.objects;
   bindings = with_writers l.layout first (λ i. nat_lt i l.sequence.begin) 0 l.sequence.pieces (replicate n 0);
-  writers = with_writers l.layout first (λ i. nat_le l.sequence.begin i) 0 l.sequence.pieces (replicate (slice_index l.sequence.numbers (counted (length l.sequence.ends))) 0);
+  writers =
+      with_writers l.layout first (λ i. nat_le l.sequence.begin i) 0 l.sequence.pieces
+      (replicate (slice_index l.sequence.numbers (counted (length l.sequence.ends))) 0);
 }
 
 -- How many parameters a function has.
@@ -123,9 +151,11 @@ parameters_in graphs f = option_map_or (λ (g : Graph). length g.parameters) (sl
 -- What is told of functions, from one of this number on.
 abbrev pub told_of_all : List Graph → (firsts : List ℕ) → (function : ℕ) → List LaidForm → List FunctionCode
 told_of_all graphs firsts f [] = []
-told_of_all graphs firsts f (l ∷ more) = told_by (slice_index firsts f) (parameters_in graphs f) l ∷ told_of_all graphs firsts (counted (f + 1)) more
+told_of_all graphs firsts f (l ∷ more) =
+    told_by (slice_index firsts f) (parameters_in graphs f) l ∷ told_of_all graphs firsts (counted (f + 1)) more
 
--- The code of a unit with what stands where: its functions, how many words stand before each of them and in all, and all words.
+-- The code of a unit with what stands where: its functions, how many words stand before each of them and in all, and
+-- all words.
 pub record CodedForm : Type 0 where
   pub all : List LaidForm
   pub firsts : List ℕ
@@ -139,9 +169,12 @@ coded_view c = record { all = map laid_view c.all.items; firsts = c.firsts.items
 pub record IsCodeOf (h : HomedForm) (s : StaticForm) (c : CodedForm) : Type 0 where
   pub laid : AreLaid h s 0 h.unit.graphs c.all
   pub firsts : c.firsts ≡ firsts_from (layout_of (stub_of h.unit)).words c.all
-  pub words : c.words ≡ function_words (stub_of h.unit) (layout_of (stub_of h.unit)) 0 c.firsts ++ words_of_all c.firsts 0 c.all
+  pub words : c.words
+      ≡ function_words (stub_of h.unit) (layout_of (stub_of h.unit)) 0 c.firsts ++ words_of_all c.firsts 0 c.all
 
--- What is emitted is such code: its words, their owners, its stops, and what is told of its functions. Its memory is the unit's. Static memory begins with the unit's initial bytes, which are bytes, and what lies there has its addresses.
+-- What is emitted is such code: its words, their owners, its stops, and what is told of its functions. Its memory is
+-- the unit's. Static memory begins with the unit's initial bytes, which are bytes, and what lies there has its
+-- addresses.
 pub record IsEmittedOf (h : HomedForm) (e : EmittedForm) : Type 0 where
   pub regions : e.map ≡ map_of_unit h.unit
   pub statics : StaticForm

@@ -14,7 +14,8 @@ use Rattle.rv_emit_layout.specs.declared.layout.OwnedWord.{OwnedWord}
 use Rattle.rv_emit_layout.specs.Longest.{is_near, longest}
 use Rattle.rv_emit_layout.specs.Spelling.{spelled}
 
--- How many words stand before each piece, and behind that before the end; how many words all pieces have; and for each piece whether it is a branch of two words.
+-- How many words stand before each piece, and behind that before the end; how many words all pieces have; and for each
+-- piece whether it is a branch of two words.
 pub record LayoutForm : Type 0 where
   pub offsets : List ℕ
   pub words : ℕ
@@ -51,10 +52,12 @@ words_before far (p ∷ more) (suc k) = width (get_or far 0 false) p.piece + wor
 abbrev pub IsNearEnough : (labels offsets : List ℕ) → (far : Bool) → (from : ℕ) → Piece → Type 0
 IsNearEnough labels offsets far from (Word i) = Unit {0}
 IsNearEnough labels offsets far from (Jump to) = Unit {0}
-IsNearEnough labels offsets far from (Branch op l r to) = far ≡ false → IsBranchDistance (distance from (label_at labels offsets to.0))
+IsNearEnough labels offsets far from (Branch op l r to) =
+    far ≡ false → IsBranchDistance (distance from (label_at labels offsets to.0))
 IsNearEnough labels offsets far from (Call f) = Unit {0}
 
--- How many pieces a function has whose bytes 32 bits can count: each piece has at most two words, so they have at most 2^31 bytes.
+-- How many pieces a function has whose bytes 32 bits can count: each piece has at most two words, so they have at most
+-- 2^31 bytes.
 abbrev pub most_pieces : ℕ
 most_pieces = 268435456
 
@@ -64,14 +67,17 @@ pub record IsLayoutOf (s : SequenceForm) (l : LayoutForm) : Type 0 where
   pub flags : length l.far ≡ length s.pieces
   pub offsets : (k : ℕ) → k ≤ length s.pieces → slice_index l.offsets k ≡ words_before l.far s.pieces k
   pub words : l.words ≡ words_before l.far s.pieces (length s.pieces)
-  pub near : (k : ℕ) (x : PlacedPiece) → slice_get s.pieces k ≡ Some x → IsNearEnough s.labels l.offsets (get_or l.far k false) (slice_index l.offsets k) x.piece
+  pub near : (k : ℕ) (x : PlacedPiece) → slice_get s.pieces k ≡ Some x
+      → IsNearEnough s.labels l.offsets (get_or l.far k false) (slice_index l.offsets k) x.piece
 
 -- ---- How they are found
 
--- How many words stand before each piece, from one of this index on, before which so many stand; and behind them all. As far as 32 bits can count.
+-- How many words stand before each piece, from one of this index on, before which so many stand; and behind them all.
+-- As far as 32 bits can count.
 abbrev pub offsets_from : (far : List Bool) → (index before : ℕ) → List PlacedPiece → List ℕ
 offsets_from far i n [] = n ∷ []
-offsets_from far i n (p ∷ more) = n ∷ offsets_from far (counted (i + 1)) (counted (n + width (get_or far i false) p.piece)) more
+offsets_from far i n (p ∷ more) =
+    n ∷ offsets_from far (counted (i + 1)) (counted (n + width (get_or far i false) p.piece)) more
 
 -- Whether a piece is a branch that is too far for one word.
 abbrev pub is_far : (labels offsets : List ℕ) → (from : ℕ) → Piece → Bool
@@ -83,11 +89,17 @@ is_far labels offsets from (Call f) = false
 -- Whether each piece is one, from one of this index on.
 abbrev pub far_from : (labels offsets : List ℕ) → (index : ℕ) → List PlacedPiece → List Bool
 far_from labels offsets i [] = []
-far_from labels offsets i (p ∷ more) = is_far labels offsets (slice_index offsets i) p.piece ∷ far_from labels offsets (counted (i + 1)) more
+far_from labels offsets i (p ∷ more) =
+    is_far labels offsets (slice_index offsets i) p.piece ∷ far_from labels offsets (counted (i + 1)) more
 
 -- The layout in which these pieces are branches of two words.
 abbrev pub layout_by : (far : List Bool) → List PlacedPiece → LayoutForm
-layout_by far pieces = record { offsets = offsets_from far 0 0 pieces; words = slice_index (offsets_from far 0 0 pieces) (counted (length far)); far = far }
+layout_by far pieces =
+    record {
+      offsets = offsets_from far 0 0 pieces;
+      words = slice_index (offsets_from far 0 0 pieces) (counted (length far));
+      far = far;
+    }
 
 -- A branch has one word where the longest layout allows that.
 abbrev pub layout_of : SequenceForm → LayoutForm
@@ -109,8 +121,11 @@ branch_code far b o d = if far then o 8 ∷ instruction.Jal 0 (subtracted d 4) �
 abbrev pub piece_code : Lying → (far : Bool) → (from : ℕ) → Piece → List Instruction
 piece_code t far from (Word i) = i ∷ []
 piece_code t far from (Jump to) = instruction.Jal 0 (distance from (label_at t.labels t.offsets to.0)) ∷ []
-piece_code t far from (Branch op l r to) = branch_code far (λ d. instruction.Branch op l r d) (λ d. instruction.Branch (opposite op) l r d) (distance from (label_at t.labels t.offsets to.0))
-piece_code t far from (Call f) = instruction.Jal 1 (distance ((t.first + from) % 4294967296) (slice_index t.functions f)) ∷ []
+piece_code t far from (Branch op l r to) =
+    branch_code far (λ d. instruction.Branch op l r d) (λ d. instruction.Branch (opposite op) l r d)
+    (distance from (label_at t.labels t.offsets to.0))
+piece_code t far from (Call f) =
+    instruction.Jal 1 (distance ((t.first + from) % 4294967296) (slice_index t.functions f)) ∷ []
 
 -- Their words, which belong to a place.
 abbrev pub owned_words : (owner : ℕ) → List Instruction → List OwnedWord
@@ -119,7 +134,9 @@ owned_words owner code = map (λ i. record { word = spelled i; owner = owner }) 
 -- The words of pieces, from one of this index on.
 abbrev pub words_from : Lying → (far : List Bool) → (index : ℕ) → List PlacedPiece → List OwnedWord
 words_from t far i [] = []
-words_from t far i (p ∷ more) = owned_words p.owner (piece_code t (get_or far i false) (slice_index t.offsets i) p.piece) ++ words_from t far (counted (i + 1)) more
+words_from t far i (p ∷ more) =
+    owned_words p.owner (piece_code t (get_or far i false) (slice_index t.offsets i) p.piece)
+    ++ words_from t far (counted (i + 1)) more
 
 -- What the words of a function rest on, and its words.
 abbrev pub lying : SequenceForm → LayoutForm → (first : ℕ) → (functions : List ℕ) → Lying

@@ -1,4 +1,5 @@
--- The longest layout of a function: each piece has its most words, each place at which a run stops has a word `addi x0, x0, 0`, and no jump is dropped.
+-- The longest layout of a function: each piece has its most words, each place at which a run stops has a word `addi x0,
+-- x0, 0`, and no jump is dropped.
 use Rattle.std.specs.Prelude.{ℕ, suc, ◌+◌, ◌-◌, ◌==◌, ◌&&◌, ◌||◌, not, nat_lt, nat_le, max, Bool, true, false, List, length, map, take, slice_get, slice_index, count_by}
 use Rattle.std.specs.Option.{option_map_or}
 use Rattle.std.specs.List.{range_with_len}
@@ -35,9 +36,12 @@ leaves (Jump to) = true
 leaves (Branch op l r to) = false
 leaves (Call f) = false
 
--- Whether the jump at the end of a block was dropped: the block has no piece, or its last one is neither a jump nor a return.
+-- Whether the jump at the end of a block was dropped: the block has no piece, or its last one is neither a jump nor a
+-- return.
 abbrev pub is_dropped : SequenceForm → (block : ℕ) → Bool
-is_dropped s b = slice_index s.labels b == slice_index s.ends b || not (option_map_or (λ (p : PlacedPiece). leaves p.piece) (slice_get s.pieces (slice_index s.ends b - 1)) false)
+is_dropped s b =
+    slice_index s.labels b == slice_index s.ends b
+    || not (option_map_or (λ (p : PlacedPiece). leaves p.piece) (slice_get s.pieces (slice_index s.ends b - 1)) false)
 
 -- How many blocks whose jump was dropped end at an index, and at an index or before it.
 abbrev pub dropped_at : SequenceForm → (index : ℕ) → ℕ
@@ -48,7 +52,8 @@ dropped_until s k = count_by (λ b. is_dropped s b && nat_le (slice_index s.ends
 
 -- ---- Where pieces stand in it
 
--- How many words stand before the piece of an index, or before the end: the most that those before it have, one for each stop up to the piece itself, and one for each jump that was dropped.
+-- How many words stand before the piece of an index, or before the end: the most that those before it have, one for
+-- each stop up to the piece itself, and one for each jump that was dropped.
 abbrev pub long_before : SequenceForm → (index : ℕ) → ℕ
 long_before s k = words_in (take k s.pieces) + (count_by has_word_before (take (suc k) s.pieces) + dropped_until s k)
 
@@ -58,6 +63,7 @@ longest s = map (λ k. counted (long_before s k)) (range_with_len 0 (length s.pi
 
 -- ---- What a branch reaches
 
--- Whether a branch alone leads from one word to another: over -4,096 to 4,094 bytes, which is 1,024 words back to 1,023 words on. What 32 bits could not count is too far.
+-- Whether a branch alone leads from one word to another: over -4,096 to 4,094 bytes, which is 1,024 words back to 1,023
+-- words on. What 32 bits could not count is too far.
 abbrev pub is_near : (from to : ℕ) → Bool
 is_near i j = nat_le (i - j) 1024 && nat_le (j - i) 1023 && nat_lt (max i j) 4294967295

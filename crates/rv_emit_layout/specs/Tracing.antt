@@ -24,11 +24,13 @@ stop_at a p = if p.is_stop then (record { place = p.owner; address = a }) ∷ []
 -- The stops of so many pieces, from one of this index on.
 abbrev pub stops_of_pieces : SequenceForm → LayoutForm → (first index pieces : ℕ) → List PlacedStop
 stops_of_pieces s l first i zero = []
-stops_of_pieces s l first i (suc n) = option_map_or (stop_at (piece_address l first i)) (slice_get s.pieces i) [] ++ stops_of_pieces s l first (i + 1) n
+stops_of_pieces s l first i (suc n) =
+    option_map_or (stop_at (piece_address l first i)) (slice_get s.pieces i) [] ++ stops_of_pieces s l first (i + 1) n
 
 -- The stops of a block: of its pieces, from its label to its end.
 abbrev pub stops_of_block : SequenceForm → LayoutForm → (first block : ℕ) → List PlacedStop
-stops_of_block s l first b = stops_of_pieces s l first (slice_index s.labels b) (slice_index s.ends b - slice_index s.labels b)
+stops_of_block s l first b =
+    stops_of_pieces s l first (slice_index s.labels b) (slice_index s.ends b - slice_index s.labels b)
 
 -- The stops of so many blocks, from one of this number on.
 abbrev pub stops_of_blocks : SequenceForm → LayoutForm → (first block blocks : ℕ) → List PlacedStop
@@ -42,6 +44,9 @@ abbrev pub with_writer : (address : ℕ) → PlacedPiece → List ℕ → List �
 with_writer a p table = option_map_or (λ n. slice_set table n a) p.writes table
 
 -- A table once pieces from one of this index on have done that, each that is asked for.
-abbrev pub with_writers : LayoutForm → (first : ℕ) → (asked : ℕ → Bool) → (index : ℕ) → List PlacedPiece → List ℕ → List ℕ
+abbrev pub with_writers : LayoutForm → (first : ℕ) → (asked : ℕ → Bool) → (index : ℕ) → List PlacedPiece → List ℕ
+    → List ℕ
 with_writers l first asked i [] table = table
-with_writers l first asked i (p ∷ more) table = with_writers l first asked (counted (i + 1)) more (if asked i then with_writer (piece_address l first i) p table else table)
+with_writers l first asked i (p ∷ more) table =
+    with_writers l first asked (counted (i + 1)) more
+    (if asked i then with_writer (piece_address l first i) p table else table)

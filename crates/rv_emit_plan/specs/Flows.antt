@@ -18,6 +18,7 @@ ways_of (Return a) = no_ways
 abbrev pub ways_at : List Ways → (block : ℕ) → Ways
 ways_at all n = option_map_or (λ w. w) (slice_get all n) no_ways
 
--- How many of eight runs of a block take a way that leads to this depth of loops, where the other leads to that one: a way deeper into loops is taken seven times, one out of them once.
+-- How many of eight runs of a block take a way that leads to this depth of loops, where the other leads to that one: a
+-- way deeper into loops is taken seven times, one out of them once.
 abbrev pub share : (depth other : ℕ) → ℕ
 share d e = if nat_lt d e then 1 else if nat_lt e d then 7 else 4

@@ -42,7 +42,11 @@ pub record ArePlaced (s : PlacingForm) : Type 0 where
 
 -- A block is placed behind those that are, if there is such a block and it is not one of them.
 abbrev pub with_placed : (block : ℕ) → PlacingForm → PlacingForm
-with_placed n s = if get_or s.is_placed n true then s else record { is_placed = slice_set s.is_placed n true; order = s.order ++ n ∷ [] }
+with_placed n s =
+    if get_or s.is_placed n true then s else record {
+      is_placed = slice_set s.is_placed n true;
+      order = s.order ++ n ∷ [];
+    }
 
 -- What was placed stays placed, of as many blocks.
 pub record Grows (s t : PlacingForm) : Type 0 where

@@ -12,7 +12,7 @@ use Rattle.graph_core.specs.declared.value.Value.{Value}
 use Rattle.graph_core.specs.declared.value.Value.TheVariants.{Pointer, Odd}
 use Rattle.graph_core.specs.Graphs.{Binding, ToScalar, ToObject, Graph, Automatic}
 use Rattle.graph_core.specs.Values.{size_of, pointer_at, as_element}
-use Rattle.graph_core.specs.Memory.{Memory, Object, bytes_of, address_of, write, write_in, written_in, with_value, index_in}
+use Rattle.graph_core.specs.Memory.{Memory, Object, bytes_of, pointer_to_object, write, write_in, written_in, with_value, index_in}
 use Rattle.graph_core.specs.Runs.{Configuration, set_first, take_value}
 use Rattle.graph_core.specs.Validity.{IsInObject}
 use Rattle.graph_homes.specs.declared.home.Home.{Home}
@@ -82,7 +82,7 @@ index_first e o live same some =
 -- So it is that what is written becomes.
 pub first_set : (memory : Memory) (n : ℕ) (v : Value) (o : Object) → slice_get memory n ≡ Some o → o.live ≡ true → 0 < length o.values → set_first n v memory ≡ slice_set memory n (with_value 0 v o)
 first_set memory n v o there live some =
-    ap (λ q. option_map_or (λ (z : Object). option_map_or (λ m. m) (write memory z.element (address_of memory n) v) memory) q memory) there
+    ap (λ q. option_map_or (λ (z : Object). option_map_or (λ m. m) (write memory z.element (pointer_to_object memory n) v) memory) q memory) there
     ∙ ap (λ q. option_map_or (λ m. m) (write memory o.element q v) memory) (ap (λ (q : Option Object). option_map_or (λ (z : Object). Pointer n (bytes_of z) 0) q Odd) there)
     ∙ ap (λ q. option_map_or (λ m. m) (option_and_then (write_in memory n o.element 0 v) q) memory) there
     ∙ ap (λ q. option_map_or (λ m. m) (option_map (written_in memory n v o) q) memory) (index_first o.element o live refl some)
@@ -95,7 +95,7 @@ no_first o none =
 
 pub none_set : (memory : Memory) (n : ℕ) (v : Value) (o : Object) → slice_get memory n ≡ Some o → length o.values ≡ 0 → set_first n v memory ≡ memory
 none_set memory n v o there none =
-    ap (λ q. option_map_or (λ (z : Object). option_map_or (λ m. m) (write memory z.element (address_of memory n) v) memory) q memory) there
+    ap (λ q. option_map_or (λ (z : Object). option_map_or (λ m. m) (write memory z.element (pointer_to_object memory n) v) memory) q memory) there
     ∙ ap (λ q. option_map_or (λ m. m) (write memory o.element q v) memory) (ap (λ (q : Option Object). option_map_or (λ (z : Object). Pointer n (bytes_of z) 0) q Odd) there)
     ∙ ap (λ q. option_map_or (λ m. m) (option_and_then (write_in memory n o.element 0 v) q) memory) there
     ∙ ap (λ q. option_map_or (λ m. m) (option_map (written_in memory n v o) q) memory) (no_first o none)

@@ -1,6 +1,6 @@
 -- Ends of blocks and markers keep all activations.
 use Rattle.std.proofs.Common.{◌≡◌, ℕ, ap, ◌∙◌, subst, arith, refl, sym, None, Bool, false, List}
-use Rattle.rv_machine.specs.State.{State}
+use Rattle.rv_machine.specs.State.{MachineState}
 use Rattle.graph_core.specs.Graphs.{UnitForm}
 use Rattle.graph_core.specs.Runs.{Activation, Configuration, at_place}
 use Rattle.rv_emit_words.specs.declared.piece.Held.{Held}
@@ -29,7 +29,7 @@ place_all codes u addresses resumes held c h place all = record {
 }
 
 -- Where the machine comes to a block and holds the frame there, it holds all activations.
-pub block_all : (codes : ℕ → FunctionCode) (u : UnitForm) (valid : (k : ℕ) → IsFunctionCode u (codes k)) (addresses : ℕ → ℕ) (resumes : Activation → ℕ → Type 0) (p : Program) (t : Targets) (s : State) (i : ℕ) (b : Bool) (most : ℕ) (held later : List Held) (c d : Configuration) (h : Holding) (labels : List ℕ)
+pub block_all : (codes : ℕ → FunctionCode) (u : UnitForm) (valid : (k : ℕ) → IsFunctionCode u (codes k)) (addresses : ℕ → ℕ) (resumes : Activation → ℕ → Type 0) (p : Program) (t : Targets) (s : MachineState) (i : ℕ) (b : Bool) (most : ℕ) (held later : List Held) (c d : Configuration) (h : Holding) (labels : List ℕ)
     → HoldsAll codes u addresses resumes held c h → (enters : EntersBlock p t s b most (setting_of u addresses later (codes c.here.function)) c h labels d) → AllCome p s i b most (t.label enters.number) false codes u addresses resumes later d
 block_all codes u valid addresses resumes p t s i b most held later c d h labels all enters =
     let comes = enters.comes in

@@ -6,13 +6,13 @@ use Rattle.memory_map.specs.Maps.{most_words}
 use Rattle.rv_emit_storage.specs.UnitMaps.{map_of_unit}
 use Rattle.rv_code.specs.declared.instruction.Instruction.TheVariants as instruction
 use Rattle.rv_code.specs.declared.instruction.ImmediateOperation.TheVariants.{Addi}
-use Rattle.rv_machine.specs.State.{State}
+use Rattle.rv_machine.specs.State.{MachineState}
 use Rattle.graph_core.specs.declared.value.Value.{Value}
 use Rattle.graph_core.specs.declared.instruction.Callee.{Callee}
 use Rattle.graph_core.specs.declared.instruction.Callee.TheVariants as callee
 use Rattle.graph_core.specs.Graphs.{Operand, Instruction, Call, Block, UnitForm}
 use Rattle.graph_core.specs.Values.{is_odd}
-use Rattle.graph_core.specs.Runs.{Activation, Configuration, Stepped, Wild, value, first_of, put_out, exited, call, step, step_from}
+use Rattle.graph_core.specs.Runs.{Activation, Configuration, Stepped, Wild, value, first_argument, put_out, exited, call, step, step_from}
 use Rattle.graph_core.specs.Validity.{IsOperand, IsWanted}
 use Rattle.graph_homes.specs.declared.home.Home.{Home}
 use Rattle.graph_homes.specs.Homed.{home_number, placed, placed_operand, placed_instruction, placed_graph}
@@ -58,7 +58,7 @@ unless_any_odd : (D : Stepped → Type 0) (b : Bool) (q : Stepped) → D Wild �
 unless_any_odd D true q wild done = wild
 unless_any_odd D false q wild done = done
 
-module _ (p : Program) (codes : ℕ → FunctionCode) (u : UnitForm) (valid : (k : ℕ) → IsFunctionCode u (codes k)) (addresses : ℕ → ℕ) (goes_on : Activation → ℕ → Type 0) (s : State) (i : ℕ) (b : Bool) (held : List Held) (c : Configuration) (h : Holding)
+module _ (p : Program) (codes : ℕ → FunctionCode) (u : UnitForm) (valid : (k : ℕ) → IsFunctionCode u (codes k)) (addresses : ℕ → ℕ) (goes_on : Activation → ℕ → Type 0) (s : MachineState) (i : ℕ) (b : Bool) (held : List Held) (c : Configuration) (h : Holding)
     (all : HoldsAll codes u addresses (Resumes p codes goes_on) held c h) (stands : Stands p s i h) (target : Option ℕ) (wants : IsWanted (codes c.here.function).graph target) (rest : List Instruction) (arguments : List Operand)
     (legal : AllByRecursion (IsOperand u.statics (codes c.here.function).graph) arguments) (fit : AreWords arguments) where
   abbrev home : ℕ → Home
@@ -107,7 +107,7 @@ module _ (p : Program) (codes : ℕ → FunctionCode) (u : UnitForm) (valid : (k
     pub putchar_done : (a : Operand) (more : List Operand) → arguments ≡ a ∷ more → c.here.rest ≡ placed_instruction (home_at (codes c.here.function).storage) (Call target callee.Putchar arguments) ∷ rest → EnvironmentCode 2 → DoesEnvironment 2 (step u c)
     putchar_done a more one is code =
         call_step (DoesEnvironment 2) callee.Putchar is tt
-        (subst (λ l. DoesEnvironment 2 (put_out (going_on c rest) (option_map (placed home) target) (first_of (map (value u.statics c.here.names) (map (placed_operand home) l))))) (sym one)
+        (subst (λ l. DoesEnvironment 2 (put_out (going_on c rest) (option_map (placed home) target) (first_argument (map (value u.statics c.here.names) (map (placed_operand home) l))))) (sym one)
         (putchar_does p codes u valid addresses goes_on s i b held (going_on c rest) h (all_going_on codes u addresses (Resumes p codes goes_on) held c h rest all) stands (option_map (placed home) target) (option_map home target) (wanted_home home target)
         (wanted_among u (codes c.here.function) (valid c.here.function) target wants) saved arguments few legal fit a more one code))
 
@@ -120,6 +120,6 @@ module _ (p : Program) (codes : ℕ → FunctionCode) (u : UnitForm) (valid : (k
     pub exit_done : (a : Operand) (more : List Operand) → arguments ≡ a ∷ more → c.here.rest ≡ placed_instruction (home_at (codes c.here.function).storage) (Call target callee.Exit arguments) ∷ rest → EnvironmentCode 10 → DoesEnvironment 10 (step u c)
     exit_done a more one is code =
         call_step (DoesEnvironment 10) callee.Exit is tt
-        (subst (λ l. DoesEnvironment 10 (exited (first_of (map (value u.statics c.here.names) (map (placed_operand home) l))))) (sym one)
+        (subst (λ l. DoesEnvironment 10 (exited (first_argument (map (value u.statics c.here.names) (map (placed_operand home) l))))) (sym one)
         (exit_does p codes u valid addresses goes_on s i b held (going_on c rest) h (all_going_on codes u addresses (Resumes p codes goes_on) held c h rest all) stands (option_map (placed home) target) (option_map home target) (wanted_home home target)
         (wanted_among u (codes c.here.function) (valid c.here.function) target wants) saved arguments few legal fit a more one code))

@@ -9,7 +9,7 @@ use Rattle.rv_code.specs.declared.instruction.Instruction.{Instruction as Machin
 use Rattle.rv_code.specs.declared.instruction.Instruction.TheVariants as instruction
 use Rattle.rv_code.specs.declared.instruction.BranchOperation.TheVariants.{Bne}
 use Rattle.rv_code.specs.declared.instruction.ImmediateOperation.TheVariants.{Addi}
-use Rattle.rv_machine.specs.State.{State, word}
+use Rattle.rv_machine.specs.State.{MachineState, word}
 use Rattle.rv_machine.specs.Run.{TooDeep}
 use Rattle.rv_machine.specs.Table.{taken, operated_immediate}
 use Rattle.graph_core.specs.declared.value.Value.{Value}
@@ -68,7 +68,7 @@ home_no_t0 r (inl is) = λ e. omega (arith, is, e)
 home_no_t0 r (inr (low, high)) = λ e. omega (arith, low, e)
 
 -- The machine comes to where the code of the function's first block stands, and holds all activations, with addresses for the objects of the one that begins.
-pub record Begins (p : Program) (s : State) (b : Bool) (most to : ℕ) (codes : ℕ → FunctionCode) (u : UnitForm) (resumes : Activation → ℕ → Type 0) (d : Configuration) : Type 0 where
+pub record Begins (p : Program) (s : MachineState) (b : Bool) (most to : ℕ) (codes : ℕ → FunctionCode) (u : UnitForm) (resumes : Activation → ℕ → Type 0) (d : Configuration) : Type 0 where
   pub addresses : ℕ → ℕ
   pub count : ℕ
   pub few : count ≤ most
@@ -77,13 +77,13 @@ pub record Begins (p : Program) (s : State) (b : Bool) (most to : ℕ) (codes : 
   pub all : HoldsAll codes u addresses resumes [] d holding
 
 -- Code does the step of a call of a function. Where the step is wild, nothing is said of the code.
-abbrev pub DoesFunctionCall : Program → State → (stops : Bool) → (most to : ℕ) → (codes : ℕ → FunctionCode) → UnitForm → (resumes : Activation → ℕ → Type 0) → Stepped → Type 0
+abbrev pub DoesFunctionCall : Program → MachineState → (stops : Bool) → (most to : ℕ) → (codes : ℕ → FunctionCode) → UnitForm → (resumes : Activation → ℕ → Type 0) → Stepped → Type 0
 DoesFunctionCall p s b most to codes u resumes (Goes d) = Begins p s b most to codes u resumes d
 DoesFunctionCall p s b most to codes u resumes (Shows e d) = ⊥
 DoesFunctionCall p s b most to codes u resumes (EndsUnit e) = EndsRun p s b most e
 DoesFunctionCall p s b most to codes u resumes Wild = Unit {0}
 
-module _ (codes : ℕ → FunctionCode) (u : UnitForm) (valid : (k : ℕ) → IsFunctionCode u (codes k)) (addresses : ℕ → ℕ) (resumes : Activation → ℕ → Type 0) (share : ShareStatics codes) (p : Program) (s : State) (i : ℕ) (b : Bool) (held : List Held) (c : Configuration) (h : Holding)
+module _ (codes : ℕ → FunctionCode) (u : UnitForm) (valid : (k : ℕ) → IsFunctionCode u (codes k)) (addresses : ℕ → ℕ) (resumes : Activation → ℕ → Type 0) (share : ShareStatics codes) (p : Program) (s : MachineState) (i : ℕ) (b : Bool) (held : List Held) (c : Configuration) (h : Holding)
     (all : HoldsAll codes u addresses resumes held c h) (stands : Stands p s i h) (function at : ℕ) (arguments : List Operand) (few : length arguments ≤ 8) (legal : AllByRecursion (IsOperand u.statics (codes c.here.function).graph) arguments) (fit : AreWords arguments)
     (code : CodeAt p i b (passing_code (codes c.here.function).storage 0 held arguments))
     (jump : IsAt p (i + length (passing_code (codes c.here.function).storage 0 held arguments)) (behind b (passing_code (codes c.here.function).storage 0 held arguments)) (instruction.Jal 1 (distance (i + length (passing_code (codes c.here.function).storage 0 held arguments)) at))) (is_main : Bool)

@@ -4,8 +4,8 @@ use Rattle.std.specs.Prelude.{◌==◌, nat_lt, int_lt, pos, negsuc, option_map}
 use Rattle.std.proofs.lemmas.Bool.{eqb-true, ne_eqb, lt-ltb, le-ltb}
 use Rattle.memory_map.specs.declared.map.Map.{Map}
 use mir.Val.{sel}
-use Rattle.word_base.specs.Words.{signed, word_of_test}
-use Rattle.word_base.specs.WordOperations.{operated}
+use Rattle.word_base.specs.Words.{signed_number, word_of_test}
+use Rattle.word_base.specs.WordOperations.{word_operation}
 use Rattle.word_base.specs.declared.operation.Operation.TheVariants.{Slt, Sltu}
 use Rattle.rv_machine.specs.Table.{taken}
 use Rattle.graph_core.specs.declared.value.Value.{Value}
@@ -55,45 +55,45 @@ false_word addresses memory v c t means is = by_some (is_true v) refl is
     by_some (Some d) e f = let g : not d ≡ t = cc in ap not (true_word addresses memory v c d means e) ∙ g
 
 module _ {regions : Map} (addresses : ℕ → ℕ) (memory : Memory) (laid : AreLaid regions addresses memory) where
-  less_word : (a b : Value) (x y : ℕ) → x < 4294967296 → y < 4294967296 → Means addresses memory a x → Means addresses memory b y → Means addresses memory (operate Slt a b) (word_of_test (int_lt (signed x) (signed y)))
-  unfolding operated
+  less_word : (a b : Value) (x y : ℕ) → x < 4294967296 → y < 4294967296 → Means addresses memory a x → Means addresses memory b y → Means addresses memory (operate Slt a b) (word_of_test (int_lt (signed_number x) (signed_number y)))
+  unfolding word_operation
   less_word a b x y hx hy ma mb = operation_means addresses memory laid Slt a b x y hx hy ma mb
 
   less_unsigned_word : (a b : Value) (x y : ℕ) → x < 4294967296 → y < 4294967296 → Means addresses memory a x → Means addresses memory b y → Means addresses memory (operate Sltu a b) (word_of_test (nat_lt x y))
-  unfolding operated
+  unfolding word_operation
   less_unsigned_word a b x y hx hy ma mb = operation_means addresses memory laid Sltu a b x y hx hy ma mb
 
   -- What a comparison says of values it says of their words.
   pub comparison_means : (k : Comparison) (a b : Value) (x y : ℕ) (t : Bool) → x < 4294967296 → y < 4294967296 → Means addresses memory a x → Means addresses memory b y → holds (is_live memory) k a b ≡ Some t → word_test k x y ≡ t
   comparison_means Equal a b x y t hx hy ma mb is = true_word addresses memory (same (is_live memory) a b) (x == y) t (same_means addresses memory laid a b x y ma mb) is
   comparison_means NotEqual a b x y t hx hy ma mb is = false_word addresses memory (same (is_live memory) a b) (x == y) t (same_means addresses memory laid a b x y ma mb) is
-  comparison_means Less a b x y t hx hy ma mb is = true_word addresses memory (operate Slt a b) (int_lt (signed x) (signed y)) t (less_word a b x y hx hy ma mb) is
-  comparison_means AtLeast a b x y t hx hy ma mb is = false_word addresses memory (operate Slt a b) (int_lt (signed x) (signed y)) t (less_word a b x y hx hy ma mb) is
+  comparison_means Less a b x y t hx hy ma mb is = true_word addresses memory (operate Slt a b) (int_lt (signed_number x) (signed_number y)) t (less_word a b x y hx hy ma mb) is
+  comparison_means AtLeast a b x y t hx hy ma mb is = false_word addresses memory (operate Slt a b) (int_lt (signed_number x) (signed_number y)) t (less_word a b x y hx hy ma mb) is
   comparison_means LessUnsigned a b x y t hx hy ma mb is = true_word addresses memory (operate Sltu a b) (nat_lt x y) t (less_unsigned_word a b x y hx hy ma mb) is
   comparison_means AtLeastUnsigned a b x y t hx hy ma mb is = false_word addresses memory (operate Sltu a b) (nat_lt x y) t (less_unsigned_word a b x y hx hy ma mb) is
 
 -- ---- Comparisons with 0
 
 -- A word is below 1 where 0 is not below it.
-below_one : (x : ℕ) → int_lt (signed x) (signed 1) ≡ not (int_lt (signed 0) (signed x))
+below_one : (x : ℕ) → int_lt (signed_number x) (signed_number 1) ≡ not (int_lt (signed_number 0) (signed_number x))
 below_one x = by_test (nat_lt x 2147483648)
   where
     low : (n : ℕ) → nat_lt n 1 ≡ not (nat_lt 0 n)
     low zero = refl
     low (suc n) = le-ltb (suc n) 1 (omega arith) ∙ sym (ap not (lt-ltb 0 (suc n) (omega arith)))
 
-    by_test : (b : Bool) → int_lt (sel b (pos x) (negsuc (4294967296 - suc x))) (signed 1) ≡ not (int_lt (signed 0) (sel b (pos x) (negsuc (4294967296 - suc x))))
+    by_test : (b : Bool) → int_lt (sel b (pos x) (negsuc (4294967296 - suc x))) (signed_number 1) ≡ not (int_lt (signed_number 0) (sel b (pos x) (negsuc (4294967296 - suc x))))
     by_test true = low x
     by_test false = refl
 
 -- -1 is below a word where that is not below 0.
-above_minus_one : (x : ℕ) → int_lt (signed 4294967295) (signed x) ≡ not (int_lt (signed x) (signed 0))
+above_minus_one : (x : ℕ) → int_lt (signed_number 4294967295) (signed_number x) ≡ not (int_lt (signed_number x) (signed_number 0))
 above_minus_one x = by_test (nat_lt x 2147483648)
   where
     none : (n : ℕ) → nat_lt n 0 ≡ false
     none n = le-ltb n 0 (omega arith)
 
-    by_test : (b : Bool) → int_lt (signed 4294967295) (sel b (pos x) (negsuc (4294967296 - suc x))) ≡ not (int_lt (sel b (pos x) (negsuc (4294967296 - suc x))) (signed 0))
+    by_test : (b : Bool) → int_lt (signed_number 4294967295) (sel b (pos x) (negsuc (4294967296 - suc x))) ≡ not (int_lt (sel b (pos x) (negsuc (4294967296 - suc x))) (signed_number 0))
     by_test true = sym (ap not (none x))
     by_test false = none (4294967296 - suc x)
 
@@ -126,15 +126,15 @@ with_zero_tests g h Equal l r = refl
 with_zero_tests g h NotEqual l r = refl
 with_zero_tests g h Less l r = by_tests (is_word 1 r) (is_word 4294967295 l) refl refl
   where
-    by_tests : (a b : Bool) → is_word 1 r ≡ a → is_word 4294967295 l ≡ b → word_test (less_by l r a b).comparison (value_of g h (less_by l r a b).left) (value_of g h (less_by l r a b).right) ≡ int_lt (signed (value_of g h l)) (signed (value_of g h r))
-    by_tests true b ea eb = sym (below_one (value_of g h l)) ∙ ap (λ y. int_lt (signed (value_of g h l)) (signed y)) (sym (is_the_word g h 1 r ea))
-    by_tests false true ea eb = sym (above_minus_one (value_of g h r)) ∙ ap (λ y. int_lt (signed y) (signed (value_of g h r))) (sym (is_the_word g h 4294967295 l eb))
+    by_tests : (a b : Bool) → is_word 1 r ≡ a → is_word 4294967295 l ≡ b → word_test (less_by l r a b).comparison (value_of g h (less_by l r a b).left) (value_of g h (less_by l r a b).right) ≡ int_lt (signed_number (value_of g h l)) (signed_number (value_of g h r))
+    by_tests true b ea eb = sym (below_one (value_of g h l)) ∙ ap (λ y. int_lt (signed_number (value_of g h l)) (signed_number y)) (sym (is_the_word g h 1 r ea))
+    by_tests false true ea eb = sym (above_minus_one (value_of g h r)) ∙ ap (λ y. int_lt (signed_number y) (signed_number (value_of g h r))) (sym (is_the_word g h 4294967295 l eb))
     by_tests false false ea eb = refl
 with_zero_tests g h AtLeast l r = by_tests (is_word 1 r) (is_word 4294967295 l) refl refl
   where
-    by_tests : (a b : Bool) → is_word 1 r ≡ a → is_word 4294967295 l ≡ b → word_test (at_least_by l r a b).comparison (value_of g h (at_least_by l r a b).left) (value_of g h (at_least_by l r a b).right) ≡ not (int_lt (signed (value_of g h l)) (signed (value_of g h r)))
-    by_tests true b ea eb = sym (twice (int_lt (signed 0) (signed (value_of g h l)))) ∙ ap not (sym (below_one (value_of g h l))) ∙ ap (λ y. not (int_lt (signed (value_of g h l)) (signed y))) (sym (is_the_word g h 1 r ea))
-    by_tests false true ea eb = sym (twice (int_lt (signed (value_of g h r)) (signed 0))) ∙ ap not (sym (above_minus_one (value_of g h r))) ∙ ap (λ y. not (int_lt (signed y) (signed (value_of g h r)))) (sym (is_the_word g h 4294967295 l eb))
+    by_tests : (a b : Bool) → is_word 1 r ≡ a → is_word 4294967295 l ≡ b → word_test (at_least_by l r a b).comparison (value_of g h (at_least_by l r a b).left) (value_of g h (at_least_by l r a b).right) ≡ not (int_lt (signed_number (value_of g h l)) (signed_number (value_of g h r)))
+    by_tests true b ea eb = sym (twice (int_lt (signed_number 0) (signed_number (value_of g h l)))) ∙ ap not (sym (below_one (value_of g h l))) ∙ ap (λ y. not (int_lt (signed_number (value_of g h l)) (signed_number y))) (sym (is_the_word g h 1 r ea))
+    by_tests false true ea eb = sym (twice (int_lt (signed_number (value_of g h r)) (signed_number 0))) ∙ ap not (sym (above_minus_one (value_of g h r))) ∙ ap (λ y. not (int_lt (signed_number y) (signed_number (value_of g h r)))) (sym (is_the_word g h 4294967295 l eb))
     by_tests false false ea eb = refl
 with_zero_tests g h LessUnsigned l r = by_test (is_word 1 r) refl
   where

@@ -2,9 +2,9 @@
 use Rattle.std.proofs.Common.{◌≡◌, ℕ, zero, suc, ◌+◌, ◌-◌, ◌*◌, ◌≤◌, sym, ap, ◌∙◌, subst, arith, refl, Option, Some, None, Bool, true, false, cond, List, [], ◌∷◌, ◌++◌, length, map}
 use Rattle.std.specs.Prelude.{◌==◌}
 use Rattle.std.proofs.lemmas.Bool.{eqb-true}
-use Rattle.rv_machine.specs.State.{State}
+use Rattle.rv_machine.specs.State.{MachineState}
 use Rattle.rv_machine.specs.Table.{started}
-use Rattle.rv_machine.specs.Run.{Arrival, run}
+use Rattle.rv_machine.specs.Run.{Arrival, machine_run}
 use Rattle.event_runs.specs.Following.{Follows}
 use Rattle.event_runs.proofs.Following.{follows_later}
 use Rattle.graph_core.specs.declared.instruction.Callee.TheVariants as callee
@@ -145,7 +145,7 @@ module _ (h : HomedForm) (timed : AreTimed h.unit) (homed : HaveHomes h) (e : Em
   follows_in_time input bytes n =
       let start : ComesToFirst h timed.valid homed e code input bytes = comes_to_first h timed.valid homed e code input bytes in
       let c : Configuration = first h timed.valid homed e code input bytes in
-      let s : State = started e.map e.code e.initial input in
+      let s : MachineState = started e.map e.code e.initial input in
       let R = SameSeen h e code.arrangement in
       let low = (main_there h timed.valid homed e code input bytes).0 in
       let all = all_few h timed e code room in
@@ -161,5 +161,5 @@ module _ (h : HomedForm) (timed : AreTimed h.unit) (homed : HaveHomes h) (e : Em
       (follows_later R 0 most most most (seen (over_homes h) n c) (emitted_run e input) (events (program_in h e code).stops (record { state = s; shown = false }))
       (λ k j same.
       let here : j ≡ k = omega (arith, same) in
-      ap (λ m. run (stop_addresses e) m s) here ∙ ap (λ b. cond b (Arrival s ∷ []) [] ++ run (stop_addresses e) k s) (sym (no_stop h timed.valid homed e code input bytes)))
+      ap (λ m. machine_run (stop_addresses e) m s) here ∙ ap (λ b. cond b (Arrival s ∷ []) [] ++ machine_run (stop_addresses e) k s) (sym (no_stop h timed.valid homed e code input bytes)))
       (omega arith) events_from)

@@ -8,7 +8,7 @@ use Rattle.memory_map.specs.Maps.{bytes_start, stack_start}
 use Rattle.rv_emit_runs.proofs.Maps.{code_map}
 use Rattle.rv_emit_storage.specs.UnitMaps.{map_of_unit}
 use Rattle.rv_code.specs.declared.instruction.Instruction.{Instruction as MachineInstruction}
-use Rattle.rv_machine.specs.State.{State, bytes_size, stack_size}
+use Rattle.rv_machine.specs.State.{MachineState, bytes_size, stack_size}
 use Rattle.rv_machine.specs.Table.{started, zeros}
 use Rattle.rv_machine.specs.Run.{is_stop}
 use Rattle.graph_core.specs.Graphs.{Binding, Graph}
@@ -94,7 +94,7 @@ behind_four label function many rest at is = omega (arith, at, is)
 module _ (h : HomedForm) (valid : IsValid h.unit) (homed : HaveHomes h) (e : EmittedForm) (code : IsCode h e) (input : List ℕ) (bytes : AllByRecursion (λ b. b < 256) input) where
   -- ---- The machine as it is loaded
 
-  abbrev pub first_state : State
+  abbrev pub first_state : MachineState
   first_state = started e.map e.code e.initial input
 
   first_memory_is : (held (started e.map e.code e.initial input)).memory ≡ first_bytes e

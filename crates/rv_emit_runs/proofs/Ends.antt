@@ -5,7 +5,7 @@ use Rattle.std.proofs.lemmas.Bool.{eqb-true}
 use Rattle.rv_code.specs.declared.instruction.Instruction.TheVariants as instruction
 use Rattle.rv_code.specs.declared.instruction.BranchOperation.{BranchOperation}
 use Rattle.rv_code.specs.declared.instruction.ImmediateOperation.TheVariants.{Addi}
-use Rattle.rv_machine.specs.State.{State}
+use Rattle.rv_machine.specs.State.{MachineState}
 use Rattle.rv_machine.specs.Table.{taken}
 use Rattle.graph_core.specs.declared.block.Comparison.{Comparison}
 use Rattle.graph_core.specs.Graphs.{Operand, End, Jump, Branch, Return, Block}
@@ -47,7 +47,7 @@ use Rattle.rv_emit_runs.proofs.Loading.{Loads, loading_loads, frame_reheld}
 -- ---- Where control goes
 
 -- A label that stands next is come to by no more than a word that does nothing, and another one by a jump.
-pub going_goes : (p : Program) (t : Targets) (s : State) (i : ℕ) (h : Holding) (b : Bool) (to next j : ℕ) → AreInCode p.map t → Stands p s i h → PiecesAt p t i b (going b to next) j → j ≡ t.label next
+pub going_goes : (p : Program) (t : Targets) (s : MachineState) (i : ℕ) (h : Holding) (b : Bool) (to next j : ℕ) → AreInCode p.map t → Stands p s i h → PiecesAt p t i b (going b to next) j → j ≡ t.label next
     → GoesTo p s b (length (going b to next)) (t.label to) h
 going_goes p t s i h b to next j inside stands there follows = by_test (to == next) refl b there
   where
@@ -79,7 +79,7 @@ going_short b to next = by_test (to == next) b
     by_test false c = omega arith
 
 -- To one label where a branch is taken, and else to another, in no more instructions than the words are.
-pub going_by_goes : (p : Program) (t : Targets) (s : State) (i : ℕ) (h : Holding) (b : Bool) (op : BranchOperation) (l r if_true if_false next j : ℕ) (test : Bool) → AreInCode p.map t → Stands p s i h
+pub going_by_goes : (p : Program) (t : Targets) (s : MachineState) (i : ℕ) (h : Holding) (b : Bool) (op : BranchOperation) (l r if_true if_false next j : ℕ) (test : Bool) → AreInCode p.map t → Stands p s i h
     → PiecesAt p t i b (going_by op l r if_true if_false next) j → j ≡ t.label next → taken op (h.registers l) (h.registers r) ≡ test → GoesTo p s b (j - i) (t.label (cond test if_true if_false)) h
 going_by_goes p t s i h b op l r if_true if_false next j test inside stands there follows is = by_tests (if_true == next) refl there test is
   where
@@ -109,7 +109,7 @@ going_by_goes p t s i h b op l r if_true if_false next j test inside stands ther
 
 -- In at most so many instructions, unseen, the machine comes to where a label stands and holds the frame of a configuration. Registers but t0 to t2, s0 and a0 to a7, memory and
 -- the input are as they were.
-pub record ComesTo (p : Program) (s : State) (b : Bool) (most to : ℕ) (w : Setting) (h : Holding) (d : Configuration) : Type 0 where
+pub record ComesTo (p : Program) (s : MachineState) (b : Bool) (most to : ℕ) (w : Setting) (h : Holding) (d : Configuration) : Type 0 where
   pub count : ℕ
   pub few : count ≤ most
   pub holding : Holding
@@ -138,7 +138,7 @@ block_framed w c h number block frame = record {
 }
 
 -- The step goes on to a block, one of those to which the end leads, and the machine comes to where its label stands.
-pub record EntersBlock (p : Program) (t : Targets) (s : State) (b : Bool) (most : ℕ) (w : Setting) (c : Configuration) (h : Holding) (labels : List ℕ) (d : Configuration) : Type 0 where
+pub record EntersBlock (p : Program) (t : Targets) (s : MachineState) (b : Bool) (most : ℕ) (w : Setting) (c : Configuration) (h : Holding) (labels : List ℕ) (d : Configuration) : Type 0 where
   pub number : ℕ
   pub target : Among number labels
   pub block : Block
@@ -147,13 +147,13 @@ pub record EntersBlock (p : Program) (t : Targets) (s : State) (b : Bool) (most 
   pub comes : ComesTo p s b most (t.label number) w h d
 
 -- Code does the step of an end that goes on to a block. Where the step is wild, nothing is said of the code.
-abbrev pub DoesEnd : Program → Targets → State → (stops : Bool) → (most : ℕ) → Setting → Configuration → Holding → (labels : List ℕ) → Stepped → Type 0
+abbrev pub DoesEnd : Program → Targets → MachineState → (stops : Bool) → (most : ℕ) → Setting → Configuration → Holding → (labels : List ℕ) → Stepped → Type 0
 DoesEnd p t s b most w c h labels (Goes d) = EntersBlock p t s b most w c h labels d
 DoesEnd p t s b most w c h labels (Shows e d) = ⊥
 DoesEnd p t s b most w c h labels (Ends e) = ⊥
 DoesEnd p t s b most w c h labels Wild = Unit {0}
 
-enters : (p : Program) (t : Targets) (s : State) (b : Bool) (most : ℕ) (w : Setting) (c : Configuration) (h : Holding) (labels : List ℕ) (l : ℕ) → Among l labels → ComesTo p s b most (t.label l) w h c → DoesEnd p t s b most w c h labels (go_to c l)
+enters : (p : Program) (t : Targets) (s : MachineState) (b : Bool) (most : ℕ) (w : Setting) (c : Configuration) (h : Holding) (labels : List ℕ) (l : ℕ) → Among l labels → ComesTo p s b most (t.label l) w h c → DoesEnd p t s b most w c h labels (go_to c l)
 enters p t s b most w c h labels l target comes = by_some (slice_get c.here.graph.blocks l) refl
   where
     by_some : (found : Option Block) → slice_get c.here.graph.blocks l ≡ found → DoesEnd p t s b most w c h labels (entered c l found)
@@ -182,7 +182,7 @@ storage_reheld w held storage = record { homes = storage.homes; aligned = storag
 
 -- ---- Ends of blocks
 
-module _ (p : Program) (t : Targets) (s : State) (i : ℕ) (b : Bool) (w : Setting) (c : Configuration) (h : Holding) (inside : AreInCode p.map t) (storage : IsStorage w) (frame : HoldsFrame w c h) (stands : Stands p s i h) (loads : List Held) (fit : AreLoads loads)
+module _ (p : Program) (t : Targets) (s : MachineState) (i : ℕ) (b : Bool) (w : Setting) (c : Configuration) (h : Holding) (inside : AreInCode p.map t) (storage : IsStorage w) (frame : HoldsFrame w c h) (stands : Stands p s i h) (loads : List Held) (fit : AreLoads loads)
     (next j : ℕ) (follows : j ≡ t.label next) where
   loaded : (room : ℕ) → Loads (loading_code w.storage.base room loads w.held) h (loading_held w.storage.base room loads w.held)
   loaded room = loading_loads w.storage.base room loads w.held h frame.fetch.none frame.fetch.gp (let fits = frame.fetch.fits in omega (arith, fits)) frame.fetch.all frame.scratch fit

@@ -1,7 +1,7 @@
 -- Where the words of an instruction stand that sets an object to zero or to bytes that are known, the machine does its step, and holds all activations behind it.
 use Rattle.std.proofs.Common.{◌≡◌, ℕ, ◌+◌, ◌*◌, sym, ap, ◌∙◌, subst, None, Bool, List, ◌∷◌, length}
 use Rattle.rv_code.specs.declared.instruction.Instruction.{Instruction as MachineInstruction}
-use Rattle.rv_machine.specs.State.{State}
+use Rattle.rv_machine.specs.State.{MachineState}
 use Rattle.graph_core.specs.Graphs.{Instruction, Zero, CopyWords, UnitForm}
 use Rattle.graph_core.specs.Runs.{Activation, Configuration, Goes, step, step_from, execute}
 use Rattle.graph_core.specs.Validity.{IsInstruction}
@@ -20,7 +20,7 @@ use Rattle.rv_emit_runs.proofs.Loading.{kept_no_a0}
 use Rattle.rv_emit_runs.proofs.Same.{SameActivation, StepKeeps, execute_keeps}
 use Rattle.rv_emit_runs.proofs.Stepping.{AllCome, same_going_on}
 
-module _ (codes : ℕ → FunctionCode) (u : UnitForm) (valid : (k : ℕ) → IsFunctionCode u (codes k)) (addresses : ℕ → ℕ) (resumes : Activation → ℕ → Type 0) (p : Program) (s : State) (index : ℕ) (b : Bool) (held : List Held) (c d : Configuration) (h : Holding)
+module _ (codes : ℕ → FunctionCode) (u : UnitForm) (valid : (k : ℕ) → IsFunctionCode u (codes k)) (addresses : ℕ → ℕ) (resumes : Activation → ℕ → Type 0) (p : Program) (s : MachineState) (index : ℕ) (b : Bool) (held : List Held) (c d : Configuration) (h : Holding)
     (all : HoldsAll codes u addresses resumes held c h) (stands : Stands p s index h) where
   -- Words that come to where the machine holds the frame of a configuration come to where it holds all activations.
   all_come : (most : ℕ) (code : List MachineInstruction) → Comes p s index b most code (setting_of u addresses held (codes c.here.function)) c.memory h d → SameActivation c d → d.input ≡ c.input

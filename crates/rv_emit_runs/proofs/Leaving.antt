@@ -9,8 +9,8 @@ use Rattle.rv_code.specs.declared.instruction.Instruction.TheVariants.{Load, Imm
 use Rattle.rv_code.specs.declared.instruction.LoadOperation.TheVariants.{Lw}
 use Rattle.rv_code.specs.declared.instruction.ImmediateOperation.TheVariants.{Addi}
 use Rattle.rv_code.specs.declared.instruction.RegisterOperation.TheVariants.{Add}
-use Rattle.rv_machine.specs.State.{State, word}
-use Rattle.rv_machine.specs.Table.{operated, operated_immediate}
+use Rattle.rv_machine.specs.State.{MachineState, word}
+use Rattle.rv_machine.specs.Table.{operation_result, operated_immediate}
 use Rattle.graph_homes.specs.Homed.{IsHomeRegister}
 use Rattle.rv_emit_words.specs.Constants.{is_small, constant_code}
 use Rattle.rv_emit_steps.specs.Holding.{Holding, word_at, with_register, IsDataAt}
@@ -31,7 +31,7 @@ use Rattle.rv_emit_runs.proofs.Restoring.{low_no_home, restored_low, restored_ag
 
 -- A word is added to sp, and no other register but t0 is written.
 pub moved : (h : Holding) (n : ℕ) → n < 4294967296 → h.registers 0 ≡ 0 → Brings (moving_code n) h 2 2 (word (h.registers 2 + n))
-unfolding operated operated_immediate
+unfolding operation_result operated_immediate
 moved h n fits none = by_test (is_small n)
   where
     by_test : (b : Bool) → Brings (cond b (Immediate Addi 2 2 n ∷ []) (constant_code 5 n 0 ++ Register Add 2 2 5 ∷ [])) h 2 2 (word (h.registers 2 + n))
@@ -153,7 +153,7 @@ leaving_leaves saved size h can =
     }
 
 -- The machine returns: it comes to the word to which the frame says that the function returns.
-pub leaving_returns : (regions : Map) (p : Program) (s : State) (i : ℕ) (b : Bool) (h : Holding) (saved : List ℕ) (size index : ℕ) → CanLeave saved size h → Stands p s i h → CodeAt p i b (leaving_code saved size) → word_at h.memory (h.registers 2) ≡ address_of index → index ≤ most_words regions
+pub leaving_returns : (regions : Map) (p : Program) (s : MachineState) (i : ℕ) (b : Bool) (h : Holding) (saved : List ℕ) (size index : ℕ) → CanLeave saved size h → Stands p s i h → CodeAt p i b (leaving_code saved size) → word_at h.memory (h.registers 2) ≡ address_of index → index ≤ most_words regions
     → Reaches p (length (leaving_code saved size)) (record { state = s; shown = b }) [] index false (done_by_all (leaving_front saved size) h)
 leaving_returns regions p s i b h saved size index can stands code returns low =
     let front = leaving_front saved size in

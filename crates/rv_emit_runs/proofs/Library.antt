@@ -7,7 +7,7 @@ use Rattle.rv_code.specs.declared.instruction.Instruction.{Instruction as Machin
 use Rattle.rv_code.specs.declared.instruction.Instruction.TheVariants.{Immediate, Ecall}
 use Rattle.rv_code.specs.declared.instruction.ImmediateOperation.TheVariants.{Addi}
 use Rattle.rv_machine.specs.Run.{MachineEvent, Byte, Exit}
-use Rattle.rv_machine.specs.State.{State, word}
+use Rattle.rv_machine.specs.State.{MachineState, word}
 use Rattle.rv_machine.specs.Table.{operated_immediate}
 use Rattle.graph_core.specs.declared.value.Value.{Value}
 use Rattle.graph_core.specs.declared.value.Value.TheVariants.{Number, Pointer, Odd}
@@ -44,7 +44,7 @@ use Rattle.rv_emit_runs.proofs.Returning.{EndsRun, answered_comes}
 use Rattle.rv_emit_runs.proofs.Stepping.{AllCome}
 
 -- Behind words that show a byte the machine holds a configuration.
-pub record AllShow (p : Program) (s : State) (b : Bool) (most to : ℕ) (codes : ℕ → FunctionCode) (u : UnitForm) (addresses : ℕ → ℕ) (resumes : Activation → ℕ → Type 0) (held : List Held) (e : Event) (d : Configuration) : Type 0 where
+pub record AllShow (p : Program) (s : MachineState) (b : Bool) (most to : ℕ) (codes : ℕ → FunctionCode) (u : UnitForm) (addresses : ℕ → ℕ) (resumes : Activation → ℕ → Type 0) (held : List Held) (e : Event) (d : Configuration) : Type 0 where
   pub count : ℕ
   pub few : count ≤ most
   pub event : MachineEvent
@@ -54,14 +54,14 @@ pub record AllShow (p : Program) (s : State) (b : Bool) (most to : ℕ) (codes :
   pub all : HoldsAll codes u addresses resumes held d holding
 
 -- Code does the step of a call of the environment. Where the step is wild, nothing is said of the code.
-abbrev pub DoesCall : Program → State → (index : ℕ) → Bool → (most to : ℕ) → (codes : ℕ → FunctionCode) → UnitForm → (addresses : ℕ → ℕ) → (resumes : Activation → ℕ → Type 0) → List Held → Stepped → Type 0
+abbrev pub DoesCall : Program → MachineState → (index : ℕ) → Bool → (most to : ℕ) → (codes : ℕ → FunctionCode) → UnitForm → (addresses : ℕ → ℕ) → (resumes : Activation → ℕ → Type 0) → List Held → Stepped → Type 0
 DoesCall p s i b most to codes u addresses resumes held (Goes d) = AllCome p s i b most to false codes u addresses resumes held d
 DoesCall p s i b most to codes u addresses resumes held (Shows e d) = AllShow p s b most to codes u addresses resumes held e d
 DoesCall p s i b most to codes u addresses resumes held (EndsUnit e) = EndsRun p s b most e
 DoesCall p s i b most to codes u addresses resumes held Wild = Unit {0}
 
 -- The machine stands at a call of the environment: its number is in a7, and its first argument, if it has one, in a0. Registers but t0 to t2, s0 and a0 to a7, memory and the input are as they were.
-pub record StandsAtCall (p : Program) (s : State) (b : Bool) (number most index : ℕ) (g : StorageForm) (later : List Held) (h : Holding) (arguments : List Operand) (rest : List MachineInstruction) : Type 0 where
+pub record StandsAtCall (p : Program) (s : MachineState) (b : Bool) (number most index : ℕ) (g : StorageForm) (later : List Held) (h : Holding) (arguments : List Operand) (rest : List MachineInstruction) : Type 0 where
   pub holding : Holding
   pub reaches : Reaches p most (record { state = s; shown = b }) [] index false holding
   pub at : IsAt p index false Ecall
@@ -76,7 +76,7 @@ pub record StandsAtCall (p : Program) (s : State) (b : Bool) (number most index 
   pub scratch : AreScratch later
 
 -- The words before the call lead there.
-module _ (p : Program) (s : State) (i : ℕ) (b : Bool) (w : Setting) (c : Configuration) (h : Holding) (storage : IsStorage w) (frame : HoldsFrame w c h) (stands : Stands p s i h) where
+module _ (p : Program) (s : MachineState) (i : ℕ) (b : Bool) (w : Setting) (c : Configuration) (h : Holding) (storage : IsStorage w) (frame : HoldsFrame w c h) (stands : Stands p s i h) where
   none_behind : (code : List MachineInstruction) (x : MachineInstruction) → behind b (code ++ x ∷ []) ≡ false
   none_behind [] x = refl
   none_behind (y ∷ code) x = refl
@@ -118,7 +118,7 @@ module _ (p : Program) (s : State) (i : ℕ) (b : Bool) (w : Setting) (c : Confi
 
 -- ---- The calls
 
-module _ (p : Program) (codes : ℕ → FunctionCode) (u : UnitForm) (valid : (k : ℕ) → IsFunctionCode u (codes k)) (addresses : ℕ → ℕ) (goes_on : Activation → ℕ → Type 0) (s : State) (i : ℕ) (b : Bool) (held : List Held) (c : Configuration) (h : Holding)
+module _ (p : Program) (codes : ℕ → FunctionCode) (u : UnitForm) (valid : (k : ℕ) → IsFunctionCode u (codes k)) (addresses : ℕ → ℕ) (goes_on : Activation → ℕ → Type 0) (s : MachineState) (i : ℕ) (b : Bool) (held : List Held) (c : Configuration) (h : Holding)
     (all : HoldsAll codes u addresses (Resumes p codes goes_on) held c h) (stands : Stands p s i h) (wanted : Option ℕ) (target : Option Home) (wants : wanted ≡ option_map home_number target) (among : IsTargetAmong (codes c.here.function).slots target)
     (saved : IsSaved (codes c.here.function).saved target) (arguments : List Operand) (few : length arguments ≤ 7) (legal : AllByRecursion (IsOperand u.statics (codes c.here.function).graph) arguments) (fit : AreWords arguments) where
   abbrev g : StorageForm
@@ -150,7 +150,7 @@ module _ (p : Program) (codes : ℕ → FunctionCode) (u : UnitForm) (valid : (k
       all_reheld codes u valid addresses (Resumes p codes goes_on) held later c h (writing 10 v t) all (λ q kept. other q (kept_no_a0 q kept) ∙ at.kept q kept) at.map at.memory at.input (held_but_a0 later t (writing 10 v t) other at.scratch at.held) at.scratch
 
   -- What is left is to write the result.
-  answers : (n k : ℕ) (d : Configuration) (t : Holding) (state : State) (v : Value) → HoldsAll codes u addresses (Resumes p codes goes_on) later d t → d.here ≡ c.here → Stands p state k t → CodeAt p k false answer → Means addresses d.memory v (t.registers 10)
+  answers : (n k : ℕ) (d : Configuration) (t : Holding) (state : MachineState) (v : Value) → HoldsAll codes u addresses (Resumes p codes goes_on) later d t → d.here ≡ c.here → Stands p state k t → CodeAt p k false answer → Means addresses d.memory v (t.registers 10)
       → AllCome p state k false (length answer) (k + length answer) false codes u addresses (Resumes p codes goes_on) later (record d { here = take_wanted wanted v c.here })
   answers n k d t state v held_all same stands_there code means =
       answered_comes p codes u valid addresses goes_on later d t c.here v held_all same state k wanted target wants among saved stands_there code means

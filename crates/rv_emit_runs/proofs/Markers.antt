@@ -1,7 +1,7 @@
 -- A marker has no word, but for one that does nothing where the place before it has none; the stop at the word behind it is shown where the unit shows one, and the frame stands.
 use Rattle.std.proofs.Common.{◌≡◌, ℕ, ◌+◌, sym, ap, ◌∙◌, subst, arith, refl, Bool, true, false, cond, not, inl, inr, List, [], ◌∷◌, length}
 use Rattle.std.specs.Prelude.{◌==◌, map}
-use Rattle.rv_machine.specs.State.{State}
+use Rattle.rv_machine.specs.State.{MachineState}
 use Rattle.rv_machine.specs.Run.{Arrival, is_stop}
 use Rattle.graph_core.specs.Graphs.{Instruction, Marker}
 use Rattle.graph_core.specs.Runs.{Configuration, Stop, Goes, Shows, frame as shown_frame, marked, at_place, step, step_from}
@@ -55,7 +55,7 @@ place_framed w c h place frame = record {
   arrays = frame.arrays;
 }
 
-module _ (p : Program) (s : State) (i : ℕ) (b : Bool) (w : Setting) (c : Configuration) (h : Holding) (framed : HoldsFrame w c h) (stands : Stands p s i h) (place entry : ℕ) (of : c.here.graph.entry ≡ entry)
+module _ (p : Program) (s : MachineState) (i : ℕ) (b : Bool) (w : Setting) (c : Configuration) (h : Holding) (framed : HoldsFrame w c h) (stands : Stands p s i h) (place entry : ℕ) (of : c.here.graph.entry ≡ entry)
     (code : CodeAt p i b (marking_code b)) (stops : (place == entry) ≡ false → is_stop p.stops (address_of (i + length (marking_code b))) ≡ true) where
   -- The machine behind the word, if there is one.
   behind_marker : Reaches p (length (marking_code b)) (record { state = s; shown = b }) [] (i + length (marking_code b)) false h
@@ -90,7 +90,7 @@ module _ (p : Program) (s : State) (i : ℕ) (b : Bool) (w : Setting) (c : Confi
           (record { state = behind_marker.state; reaches = shown (stops e); is = refl; frame = place_framed w c h place framed; event = refl })
 
 -- The step of a marker. A stop is asked for behind the word only where the place is no entry.
-pub marker_done : (p : Program) (s : State) (i : ℕ) (b : Bool) (w : Setting) (c : Configuration) (h : Holding) (place entry : ℕ) (rest : List Instruction) → HoldsFrame w c h → Stands p s i h → c.here.graph.entry ≡ entry
+pub marker_done : (p : Program) (s : MachineState) (i : ℕ) (b : Bool) (w : Setting) (c : Configuration) (h : Holding) (place entry : ℕ) (rest : List Instruction) → HoldsFrame w c h → Stands p s i h → c.here.graph.entry ≡ entry
     → c.here.rest ≡ placed_instruction (home_at w.storage) (Marker place) ∷ rest → CodeAt p i b (marking_code b) → ((place == entry) ≡ false → is_stop p.stops (address_of (i + length (marking_code b))) ≡ true) → DoesMarker p s i b w h (step w.unit c)
 marker_done p s i b w c h place entry rest framed stands of is code stops =
     subst (λ all. DoesMarker p s i b w h (step_from w.unit all c)) (sym is) (marks p s i b w (going_on c rest) h (rest_framed w c h rest framed) stands place entry of code stops)

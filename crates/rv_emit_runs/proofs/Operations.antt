@@ -6,7 +6,7 @@ use Rattle.std.proofs.lemmas.Bool.{eqb-true, leb-true}
 use Rattle.std.proofs.lemmas.Nat.{pow_pos}
 use Rattle.std.proofs.Math.Nat.{pow-le-pow_right}
 use Rattle.word_base.specs.Arithmetic.{subtracted}
-use Rattle.word_base.specs.WordOperations.{operated}
+use Rattle.word_base.specs.WordOperations.{word_operation}
 use Rattle.word_base.specs.declared.operation.Operation.{Operation}
 use Rattle.word_base.specs.declared.operation.Operation.TheVariants.{Add, Sub, Mul, Div, Divu, Rem, Remu, Sll, Srl, Sra, And, Or, Xor, Slt, Sltu}
 use Rattle.word_base.specs.declared.operation.Truncation.{Truncation}
@@ -91,7 +91,7 @@ form_is Slt w low = small_form Slti w (λ is. is) low
 form_is Sltu w low = small_form Sltiu w (λ is. is) low
 
 -- What an operation makes of words is a word.
-operated_low : (op : Operation) (a b : ℕ) → a < 4294967296 → b < 4294967296 → operated op a b < 4294967296
+operated_low : (op : Operation) (a b : ℕ) → a < 4294967296 → b < 4294967296 → word_operation op a b < 4294967296
 operated_low op a b low also = subst (λ x. x < 4294967296) (register_does op a b) (operated_in_range (register_operation op) a b low also)
 
 -- ---- Code
@@ -123,7 +123,7 @@ module _ (g : StorageForm) (held : List Held) (all : AreRegisters held) (target 
       by_form (Some form) is = on_immediate_fits form.0 l form.1 left is
 
   pub operation_fits : (op : Operation) (l r : Source) → IsFitSource l → IsFitSource r → AreInForm (operation_code g held target op l r)
-  operation_fits op (Word a) (Word b) left right = constant_fits_in target fit (operated op a b) (operated_low op a b left right)
+  operation_fits op (Word a) (Word b) left right = constant_fits_in target fit (word_operation op a b) (operated_low op a b left right)
   operation_fits op (OfHome a) (Word b) left right = by_word_fits op (OfHome a) b left right
   operation_fits op (Word a) (OfHome b) left right =
       choice AreInForm (is_commutative op) (by_word g held target op (OfHome b) a) (on_registers g held target (register_operation op) (Word a) (OfHome b))

@@ -6,7 +6,7 @@ use Rattle.rv_code.specs.declared.instruction.Instruction.{Instruction}
 use Rattle.rv_code.specs.declared.instruction.Instruction.TheVariants as instruction
 use Rattle.rv_code.specs.declared.instruction.BranchOperation.{BranchOperation}
 use Rattle.rv_code.specs.declared.instruction.BranchOperation.TheVariants.{Beq, Bne, Blt, Bge, Bltu, Bgeu}
-use Rattle.rv_machine.specs.State.{State, word}
+use Rattle.rv_machine.specs.State.{MachineState, word}
 use Rattle.rv_machine.specs.Table.{taken}
 use Rattle.rv_emit_words.specs.declared.piece.Piece.{Piece}
 use Rattle.rv_emit_words.specs.declared.piece.Piece.TheVariants as piece
@@ -76,7 +76,7 @@ opposite_taken Bgeu x y = sym (twice (taken Bltu x y))
     twice false = refl
 
 -- In at most so many instructions, unseen, the machine comes to a word of the code, no stop of which was shown, and holds what it held.
-pub record GoesTo (p : Program) (s : State) (b : Bool) (most to : ℕ) (h : Holding) : Type 0 where
+pub record GoesTo (p : Program) (s : MachineState) (b : Bool) (most to : ℕ) (h : Holding) : Type 0 where
   pub count : ℕ
   pub few : count ≤ most
   pub reaches : Reaches p count (record { state = s; shown = b }) [] to false h
@@ -86,11 +86,11 @@ eight_leads : (i : ℕ) → i < 1000000000 → word (address_of i + 8) ≡ addre
 eight_leads i low = omega arith
 
 -- A jump goes to its label.
-pub jump_goes : (p : Program) (s : State) (i : ℕ) (h : Holding) (b : Bool) (to : ℕ) → Stands p s i h → IsAt p i b (instruction.Jal 0 (distance i to)) → to ≤ most_words p.map → Reaches p 1 (record { state = s; shown = b }) [] to false h
+pub jump_goes : (p : Program) (s : MachineState) (i : ℕ) (h : Holding) (b : Bool) (to : ℕ) → Stands p s i h → IsAt p i b (instruction.Jal 0 (distance i to)) → to ≤ most_words p.map → Reaches p 1 (record { state = s; shown = b }) [] to false h
 jump_goes p s i h b to stands at fits = jump_does p s i h to b 0 (distance i to) stands at (distance_leads i to (index_low p i b (instruction.Jal 0 (distance i to)) at) (omega (arith, fits, (map_facts p.map).few)))
 
 -- As many may be said to be more.
-pub goes_within : {p : Program} {s : State} {b : Bool} {most more to : ℕ} {h : Holding} → most ≤ more → GoesTo p s b most to h → GoesTo p s b more to h
+pub goes_within : {p : Program} {s : MachineState} {b : Bool} {most more to : ℕ} {h : Holding} → most ≤ more → GoesTo p s b most to h → GoesTo p s b more to h
 goes_within le goes = record { count = goes.count; few = let few = goes.few in omega (arith, le, few); reaches = goes.reaches }
 
 -- A piece has a word, and pieces have no fewer words than they are.
@@ -106,7 +106,7 @@ pieces_long p t i b [] j end = omega (arith, end)
 pieces_long p t i b (x ∷ more) j (k, at, rest) = let one = piece_long p t i b x k at in let later = pieces_long p t k false more j rest in omega (arith, one, later)
 
 -- A branch that is taken goes to its label, in as many instructions as it has words.
-pub taken_goes : (p : Program) (t : Targets) (s : State) (i : ℕ) (h : Holding) (b : Bool) (op : BranchOperation) (l r to j : ℕ) → Stands p s i h → (IsNear p t i b op l r to j) ⊎ (IsFar p t i b op l r to j) → t.label to ≤ most_words p.map
+pub taken_goes : (p : Program) (t : Targets) (s : MachineState) (i : ℕ) (h : Holding) (b : Bool) (op : BranchOperation) (l r to j : ℕ) → Stands p s i h → (IsNear p t i b op l r to j) ⊎ (IsFar p t i b op l r to j) → t.label to ≤ most_words p.map
     → taken op (h.registers l) (h.registers r) ≡ true → GoesTo p s b (j - i) (t.label to) h
 taken_goes p t s i h b op l r to j stands (inl (at, next)) fits test = record {
   count = 1;
@@ -120,7 +120,7 @@ taken_goes p t s i h b op l r to j stands (inr (at, over, next)) fits test =
     record { count = 1 + 1; few = omega (arith, next); reaches = reaches_then p 1 1 (record { state = s; shown = b }) [] (i + 1) false h [] (t.label to) false h first second }
 
 -- One that is not goes on behind it.
-pub not_taken_goes : (p : Program) (t : Targets) (s : State) (i : ℕ) (h : Holding) (b : Bool) (op : BranchOperation) (l r to j : ℕ) → Stands p s i h → (IsNear p t i b op l r to j) ⊎ (IsFar p t i b op l r to j)
+pub not_taken_goes : (p : Program) (t : Targets) (s : MachineState) (i : ℕ) (h : Holding) (b : Bool) (op : BranchOperation) (l r to j : ℕ) → Stands p s i h → (IsNear p t i b op l r to j) ⊎ (IsFar p t i b op l r to j)
     → taken op (h.registers l) (h.registers r) ≡ false → Reaches p 1 (record { state = s; shown = b }) [] j false h
 not_taken_goes p t s i h b op l r to j stands (inl (at, next)) test =
     subst (λ n. Reaches p 1 (record { state = s; shown = b }) [] n false h) (sym next) (branch_not_taken p s i h b op l r (distance i (t.label to)) stands at test)

@@ -1,7 +1,7 @@
 -- The code of an end that returns does the unit's step.
 use Rattle.std.proofs.Common.{◌≡◌, ℕ, ◌+◌, sym, subst, arith, refl, Option, Some, None, Bool, false, List, [], ◌∷◌, ◌++◌, length}
 use Rattle.std.specs.Prelude.{option_map}
-use Rattle.rv_machine.specs.State.{State}
+use Rattle.rv_machine.specs.State.{MachineState}
 use Rattle.graph_core.specs.declared.value.Value.TheVariants.{Odd}
 use Rattle.graph_core.specs.Graphs.{Operand, Return, UnitForm}
 use Rattle.graph_core.specs.Runs.{Activation, Configuration, Stepped, Goes, Shows, Ends, Wild, value, leave, execute_end, step, step_from}
@@ -33,7 +33,7 @@ use Rattle.rv_emit_runs.proofs.Placed.{begins_is, WordsFirst, words_first}
 use Rattle.rv_emit_runs.proofs.Returning.{DoesReturn, return_done}
 
 -- The same of what is done behind other words.
-returned_behind : (p : Program) (s : State) (i : ℕ) (b : Bool) (n j : ℕ) (last : Bool) (g : Holding) (most : ℕ) (codes : ℕ → FunctionCode) (u : UnitForm) (addresses : ℕ → ℕ) (goes_on : Activation → ℕ → Type 0) (c : Configuration) (q : Stepped)
+returned_behind : (p : Program) (s : MachineState) (i : ℕ) (b : Bool) (n j : ℕ) (last : Bool) (g : Holding) (most : ℕ) (codes : ℕ → FunctionCode) (u : UnitForm) (addresses : ℕ → ℕ) (goes_on : Activation → ℕ → Type 0) (c : Configuration) (q : Stepped)
     → (first : Reaches p n (record { state = s; shown = b }) [] j last g) → DoesReturn p first.state j last most codes u addresses goes_on c q → DoesReturn p s i b (n + most) codes u addresses goes_on c q
 returned_behind p s i b n j last g most codes u addresses goes_on c (Goes d) first done = record {
   caller = done.caller;
@@ -71,7 +71,7 @@ IsWordIfAny None = Unit {0}
 IsWordIfAny (Some a) = IsWord a
 
 module _ (p : Program) (codes : ℕ → FunctionCode) (u : UnitForm) (valid : (k : ℕ) → IsFunctionCode u (codes k)) (addresses : ℕ → ℕ) (goes_on : Activation → ℕ → Type 0) (t : Targets) (inside : AreInCode p.map t) (main : EndsMain p) where
-  module _ (s : State) (i : ℕ) (b : Bool) (held : List Held) (c : Configuration) (h : Holding) (all : HoldsAll codes u addresses (Resumes p codes goes_on) held c h) (stands : Stands p s i h) (end next j : ℕ) (follows : j ≡ t.label next)
+  module _ (s : MachineState) (i : ℕ) (b : Bool) (held : List Held) (c : Configuration) (h : Holding) (all : HoldsAll codes u addresses (Resumes p codes goes_on) held c h) (stands : Stands p s i h) (end next j : ℕ) (follows : j ≡ t.label next)
       (ending : CodeAt p (t.label end) false (leaving_code (codes c.here.function).saved (codes c.here.function).size)) where
     returns_with : (v : Option Operand) → AreOperandsOfEnd u.statics (codes c.here.function).graph (Return v) → IsWordIfAny v
         → PiecesAt p t i b (return_pieces (codes c.here.function).storage held (codes c.here.function).saved (codes c.here.function).size b end next (option_map (source_of (codes c.here.function).storage) v)) j

@@ -10,7 +10,7 @@ use Rattle.rv_code.specs.declared.instruction.Instruction.TheVariants.{Lui, Stor
 use Rattle.rv_code.specs.declared.instruction.ImmediateOperation.TheVariants.{Addi}
 use Rattle.rv_code.specs.declared.instruction.StoreOperation.TheVariants.{Sw}
 use Rattle.rv_code.specs.declared.instruction.RegisterOperation.TheVariants.{Add}
-use Rattle.rv_machine.specs.State.{State}
+use Rattle.rv_machine.specs.State.{MachineState}
 use Rattle.rv_machine.specs.Run.{MachineEvent, Exit}
 use Rattle.rv_machine.specs.Table.{operated_immediate}
 use Rattle.graph_core.specs.declared.value.Value.{Value}
@@ -58,7 +58,7 @@ use Rattle.rv_emit_runs.proofs.Stepping.{AllCome}
 -- ---- The function is left
 
 -- By its end, or where that is repeated.
-pub leave_goes : (regions : Map) (p : Program) (t : Targets) (s : State) (i : ℕ) (b : Bool) (h : Holding) (saved : List ℕ) (size end next room j index : ℕ) → AreInCode p.map t → CanLeave saved size h → Stands p s i h → PiecesAt p t i b (leaving saved size b end next room) j → j ≡ t.label next
+pub leave_goes : (regions : Map) (p : Program) (t : Targets) (s : MachineState) (i : ℕ) (b : Bool) (h : Holding) (saved : List ℕ) (size end next room j index : ℕ) → AreInCode p.map t → CanLeave saved size h → Stands p s i h → PiecesAt p t i b (leaving saved size b end next room) j → j ≡ t.label next
     → CodeAt p (t.label end) false (leaving_code saved size) → word_at h.memory (h.registers 2) ≡ address_of index → index ≤ most_words regions → GoesTo p s b (1 + length (leaving_code saved size)) index (done_by_all (leaving_front saved size) h)
 leave_goes regions p t s i b h saved size end next room j index inside can stands there follows ending returns low =
     by_test (next == end || (not (nat_le (length saved) 9) || not (nat_le (length saved + 3 + words_of_moving size) room))) there
@@ -91,7 +91,7 @@ answer_short g (Some (Slot k)) = by_test (nat_lt (slot_at g k) 2048)
 -- ---- The caller goes on
 
 -- The machine comes to where the caller goes on, and holds all activations, the caller the innermost one.
-pub record Returned (p : Program) (s : State) (i : ℕ) (b : Bool) (most : ℕ) (codes : ℕ → FunctionCode) (u : UnitForm) (addresses : ℕ → ℕ) (goes_on : Activation → ℕ → Type 0) (c d : Configuration) : Type 0 where
+pub record Returned (p : Program) (s : MachineState) (i : ℕ) (b : Bool) (most : ℕ) (codes : ℕ → FunctionCode) (u : UnitForm) (addresses : ℕ → ℕ) (goes_on : Activation → ℕ → Type 0) (c d : Configuration) : Type 0 where
   pub caller : Activation
   pub waits : c.waiting ≡ caller ∷ d.waiting
   pub to : ℕ
@@ -101,7 +101,7 @@ pub record Returned (p : Program) (s : State) (i : ℕ) (b : Bool) (most : ℕ) 
   pub comes : AllCome p s i b most to false codes u addresses (Resumes p codes goes_on) [] d
 
 -- The run ends as the unit's does.
-pub record EndsRun (p : Program) (s : State) (b : Bool) (most : ℕ) (e : Event) : Type 0 where
+pub record EndsRun (p : Program) (s : MachineState) (b : Bool) (most : ℕ) (e : Event) : Type 0 where
   pub count : ℕ
   pub few : count ≤ most
   pub event : MachineEvent
@@ -109,7 +109,7 @@ pub record EndsRun (p : Program) (s : State) (b : Bool) (most : ℕ) (e : Event)
   pub ends : Ends p.stops count (record { state = s; shown = b }) (event ∷ [])
 
 -- Code does the step of a return. Where the step is wild, nothing is said of the code.
-abbrev pub DoesReturn : Program → State → ℕ → Bool → (most : ℕ) → (codes : ℕ → FunctionCode) → UnitForm → (addresses : ℕ → ℕ) → (goes_on : Activation → ℕ → Type 0) → Configuration → Stepped → Type 0
+abbrev pub DoesReturn : Program → MachineState → ℕ → Bool → (most : ℕ) → (codes : ℕ → FunctionCode) → UnitForm → (addresses : ℕ → ℕ) → (goes_on : Activation → ℕ → Type 0) → Configuration → Stepped → Type 0
 DoesReturn p s i b most codes u addresses goes_on c (Goes d) = Returned p s i b most codes u addresses goes_on c d
 DoesReturn p s i b most codes u addresses goes_on c (Shows e d) = ⊥
 DoesReturn p s i b most codes u addresses goes_on c (EndsUnit e) = EndsRun p s b most e
@@ -199,7 +199,7 @@ module _ (p : Program) (codes : ℕ → FunctionCode) (u : UnitForm) (valid : (k
 
   module _ (held : List Held) (c : Configuration) (h : Holding) (a : Activation) (v : Value) (all : HoldsAll codes u addresses (Resumes p codes goes_on) held c h) (here : c.here ≡ a) where
     -- The words that write the result do, and go on to what stands behind them.
-    pub answered_comes : (s : State) (i : ℕ) (wanted : Option ℕ) (target : Option Home) → wanted ≡ option_map home_number target → IsTargetAmong (codes a.function).slots target → IsSaved (codes a.function).saved target → Stands p s i h
+    pub answered_comes : (s : MachineState) (i : ℕ) (wanted : Option ℕ) (target : Option Home) → wanted ≡ option_map home_number target → IsTargetAmong (codes a.function).slots target → IsSaved (codes a.function).saved target → Stands p s i h
         → CodeAt p i false (answer_code (codes a.function).storage target) → Means addresses c.memory v (h.registers 10)
         → AllCome p s i false (length (answer_code (codes a.function).storage target)) (i + length (answer_code (codes a.function).storage target)) false codes u addresses (Resumes p codes goes_on) held (record c { here = take_wanted wanted v a })
     answered_comes s i wanted None wants among saved stands code means =
@@ -242,7 +242,7 @@ module _ (p : Program) (codes : ℕ → FunctionCode) (u : UnitForm) (valid : (k
 
   -- ---- The return
 
-  module _ (t : Targets) (inside : AreInCode p.map t) (s : State) (i : ℕ) (b : Bool) (c : Configuration) (h : Holding) (all : HoldsAll codes u addresses (Resumes p codes goes_on) [] c h) (stands : Stands p s i h) (end next j room : ℕ)
+  module _ (t : Targets) (inside : AreInCode p.map t) (s : MachineState) (i : ℕ) (b : Bool) (c : Configuration) (h : Holding) (all : HoldsAll codes u addresses (Resumes p codes goes_on) [] c h) (stands : Stands p s i h) (end next j room : ℕ)
       (there : PiecesAt p t i b (leaving (codes c.here.function).saved (codes c.here.function).size b end next room) j) (follows : j ≡ t.label next) (ending : CodeAt p (t.label end) false (leaving_code (codes c.here.function).saved (codes c.here.function).size))
       (main : EndsMain p) (v : Value) (means : Means addresses c.memory v (h.registers 10)) where
     leaves_front : Leaves (codes c.here.function).saved (codes c.here.function).size h

@@ -9,7 +9,7 @@ use Rattle.rv_code.specs.declared.instruction.Instruction.{Instruction as Machin
 use Rattle.rv_code.specs.declared.instruction.Instruction.TheVariants as instruction
 use Rattle.rv_code.specs.declared.instruction.BranchOperation.TheVariants.{Bne}
 use Rattle.rv_code.specs.declared.instruction.ImmediateOperation.TheVariants.{Addi}
-use Rattle.rv_machine.specs.State.{State}
+use Rattle.rv_machine.specs.State.{MachineState}
 use Rattle.rv_machine.specs.Table.{taken, operated_immediate}
 use Rattle.graph_core.specs.declared.value.Value.{Value}
 use Rattle.graph_core.specs.declared.value.Value.TheVariants.{Odd}
@@ -49,7 +49,7 @@ pub record StubAt (p : Program) (main : ℕ) : Type 0 where
   pub call : IsAt p 2 false (instruction.Jal 1 (distance 2 main))
 
 -- The machine holds the first configuration of a run.
-pub record RunBegins (p : Program) (s : State) (most to : ℕ) (codes : ℕ → FunctionCode) (u : UnitForm) (resumes : Activation → ℕ → Type 0) (d : Configuration) : Type 0 where
+pub record RunBegins (p : Program) (s : MachineState) (most to : ℕ) (codes : ℕ → FunctionCode) (u : UnitForm) (resumes : Activation → ℕ → Type 0) (d : Configuration) : Type 0 where
   pub addresses : ℕ → ℕ
   pub count : ℕ
   pub few : count ≤ most
@@ -57,7 +57,7 @@ pub record RunBegins (p : Program) (s : State) (most to : ℕ) (codes : ℕ → 
   pub reaches : Reaches p count (record { state = s; shown = false }) [] to false holding
   pub all : HoldsAll codes u addresses resumes [] d holding
 
-module _ (codes : ℕ → FunctionCode) (u : UnitForm) (valid : (k : ℕ) → IsFunctionCode u (codes k)) (addresses : ℕ → ℕ) (resumes : Activation → ℕ → Type 0) (p : Program) (s : State) (h : Holding) (stands : Stands p s 0 h) (at : ℕ) (stub : StubAt p at)
+module _ (codes : ℕ → FunctionCode) (u : UnitForm) (valid : (k : ℕ) → IsFunctionCode u (codes k)) (addresses : ℕ → ℕ) (resumes : Activation → ℕ → Type 0) (p : Program) (s : MachineState) (h : Holding) (stands : Stands p s 0 h) (at : ℕ) (stub : StubAt p at)
     (begin : CodeAt p at false (beginning_code (codes u.main).storage (codes u.main).graph (codes u.main).saved (codes u.main).size true)) (loaded : IsLoaded u (codes u.main).storage addresses h.memory) (same_map : h.regions ≡ map_of_unit u) where
   abbrev t2 : Holding
   t2 = done_by_all (instruction.Lui 2 (stack_end p.map / 4096) ∷ instruction.Immediate Addi 4 0 1024 ∷ []) h

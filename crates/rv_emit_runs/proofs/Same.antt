@@ -8,7 +8,7 @@ use Rattle.graph_core.specs.declared.instruction.Element.{Element}
 use Rattle.graph_core.specs.Graphs.{Instruction, Marker, Note, Is, Gone, Move, Operate, Truncate, Same, Address, Load, Store, Zero, CopyWords, Call, UnitForm}
 use Rattle.graph_core.specs.Values.{size_of, as_element, is_odd}
 use Rattle.graph_core.specs.Memory.{Memory, Object, words_of, read, write, zeroed, copied, with_value, filled, with_object, elements_from}
-use Rattle.graph_core.specs.Runs.{Configuration, Stepped, Goes, Shows, Ends, Wild, Stop, frame as shown_frame, value, pointed, wrote_some, with_memory, recipe_value, put, at_place, execute}
+use Rattle.graph_core.specs.Runs.{Configuration, Stepped, Goes, Shows, Ends, Wild, Stop, frame as shown_frame, value, pointed, wrote_some, with_memory, recipe_value, with_value_at, at_place, execute}
 use Rattle.graph_core.specs.declared.value.Shadow.TheVariants as shadow
 use Rattle.rv_emit_steps.proofs.Accesses.{WritesTo, write_writes}
 use Rattle.rv_emit_steps.proofs.Arrays.{those_same}
@@ -78,7 +78,7 @@ copy_keeps c n words (Some all) = by_test (nat_le words (words_of (length all)))
 
 -- What a note says.
 abbrev noted_so : Configuration → ℕ → Value → Stepped
-noted_so c x v = Goes (record c { here = record c.here { shadows = put c.here.shadows x (shadow.Known v) } })
+noted_so c x v = Goes (record c { here = record c.here { shadows = with_value_at c.here.shadows x (shadow.Known v) } })
 
 -- The step of an instruction that is no call.
 pub execute_keeps : (u : UnitForm) (x : Instruction) (c : Configuration) → IsNoCall x → StepKeeps c (execute u x c)

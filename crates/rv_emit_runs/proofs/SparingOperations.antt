@@ -3,7 +3,7 @@ use Rattle.std.proofs.Common.{◌≡◌, ℕ, zero, suc, ◌+◌, ◌*◌, ◌%�
 use Rattle.std.specs.Option.{option_map_or}
 use Rattle.std.proofs.lemmas.Bool.{and_parts, or_cases, ltb-true, leb-true, eqb-true, eqb-false}
 use Rattle.word_base.specs.Arithmetic.{subtracted}
-use Rattle.word_base.specs.WordOperations.{operated}
+use Rattle.word_base.specs.WordOperations.{word_operation}
 use Rattle.word_base.specs.declared.operation.Operation.{Operation}
 use Rattle.word_base.specs.declared.operation.Truncation.{Truncation}
 use Rattle.word_base.specs.declared.operation.Truncation.TheVariants.{Unsigned8, Signed8, Unsigned16, Signed16}
@@ -92,7 +92,7 @@ module _ (g : StorageForm) (slots : ℕ) where
           (on_registers_spares (register_operation op) l (Word w))
 
       pub operation_spares : (op : Operation) (l r : Source) → Spares g slots W (operation_code g held target op l r)
-      operation_spares op (Word a) (Word b) = constant_to_spares target due (operated op a b)
+      operation_spares op (Word a) (Word b) = constant_to_spares target due (word_operation op a b)
       operation_spares op (OfHome a) (Word b) = by_word_spares op (OfHome a) b
       operation_spares op (Word a) (OfHome b) =
           choice (Spares g slots W) (is_commutative op) (by_word g held target op (OfHome b) a) (on_registers g held target (register_operation op) (Word a) (OfHome b)) (λ e. by_word_spares op (OfHome b) a)

@@ -1,7 +1,7 @@
 -- Where the words of an instruction that goes straight on stand, the machine does its step, and holds all activations behind it.
 use Rattle.std.proofs.Common.{◌≡◌, ℕ, ◌+◌, ◌≤◌, sym, ap, ◌∙◌, subst, arith, List, [], ◌∷◌, length, Bool}
 use Rattle.std.specs.Prelude.{option_map}
-use Rattle.rv_machine.specs.State.{State}
+use Rattle.rv_machine.specs.State.{MachineState}
 use Rattle.graph_core.specs.Graphs.{Instruction, Marker, Note, Move, Operate, Truncate, Same, Address, Load, Store, Zero, CopyWords, Call, UnitForm}
 use Rattle.graph_core.specs.Runs.{Activation, Configuration, Goes, step, step_from, execute}
 use Rattle.graph_core.specs.Uses.{target_of}
@@ -57,7 +57,7 @@ pub same_going_on : (c d : Configuration) (rest : List Instruction) → SameActi
 same_going_on c d rest same = record { function = same.function; first = same.first; waiting = same.waiting; those = same.those; longer = same.longer }
 
 -- The machine comes behind words, in at most so many instructions, unseen, and holds a configuration.
-pub record AllCome (p : Program) (s : State) (index : ℕ) (b : Bool) (most to : ℕ) (last : Bool) (codes : ℕ → FunctionCode) (u : UnitForm) (addresses : ℕ → ℕ) (resumes : Activation → ℕ → Type 0) (held : List Held) (d : Configuration) : Type 0 where
+pub record AllCome (p : Program) (s : MachineState) (index : ℕ) (b : Bool) (most to : ℕ) (last : Bool) (codes : ℕ → FunctionCode) (u : UnitForm) (addresses : ℕ → ℕ) (resumes : Activation → ℕ → Type 0) (held : List Held) (d : Configuration) : Type 0 where
   pub count : ℕ
   pub few : count ≤ most
   pub holding : Holding
@@ -65,7 +65,7 @@ pub record AllCome (p : Program) (s : State) (index : ℕ) (b : Bool) (most to :
   pub all : HoldsAll codes u addresses resumes held d holding
 
 module _ (codes : ℕ → FunctionCode) (u : UnitForm) (valid : (k : ℕ) → IsFunctionCode u (codes k)) (addresses : ℕ → ℕ) (resumes : Activation → ℕ → Type 0) where
-  pub straight_comes : (p : Program) (s : State) (index : ℕ) (b : Bool) (held : List Held) (c d : Configuration) (h : Holding) (x : Instruction) (rest : List Instruction) → HoldsAll codes u addresses resumes held c h → Stands p s index h
+  pub straight_comes : (p : Program) (s : MachineState) (index : ℕ) (b : Bool) (held : List Held) (c d : Configuration) (h : Holding) (x : Instruction) (rest : List Instruction) → HoldsAll codes u addresses resumes held c h → Stands p s index h
       → CodeAt p index b (straight_code (codes c.here.function).storage held x) → c.here.rest ≡ placed_instruction (home_at (codes c.here.function).storage) x ∷ rest → IsInstruction u (codes c.here.function).graph x → IsStraight x
       → IsSaved (codes c.here.function).saved (option_map (home_at (codes c.here.function).storage) (target_of x)) → step u c ≡ Goes d
       → AllCome p s index b (length (straight_code (codes c.here.function).storage held x)) (index + length (straight_code (codes c.here.function).storage held x)) (behind b (straight_code (codes c.here.function).storage held x)) codes u addresses resumes held d

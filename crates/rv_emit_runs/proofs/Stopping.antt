@@ -6,7 +6,7 @@ use Rattle.memory_map.specs.Maps.{most_words, stack_start, stack_end}
 use Rattle.memory_map.proofs.Facts.{map_facts}
 use Rattle.rv_emit_runs.proofs.Maps.{code_map}
 use Rattle.rv_emit_storage.specs.UnitMaps.{map_of_unit}
-use Rattle.rv_machine.specs.State.{State}
+use Rattle.rv_machine.specs.State.{MachineState}
 use Rattle.rv_machine.specs.Run.{is_stop}
 use Rattle.graph_core.specs.Memory.{Memory}
 use Rattle.graph_core.specs.Paths.{Among, front, behind}
@@ -130,7 +130,7 @@ module _ (h : HomedForm) (valid : IsValid h.unit) (homed : HaveHomes h) (e : Emi
 
   -- ---- The whole
 
-  pub stands_at : (held : List Held) (d : Configuration) (g : Holding) (s : State) (index : ℕ) → HoldsAll (codes_in h e code) (over_homes h) addresses (Resumes (program_in h e code) (codes_in h e code) (GoesOn h e code)) held d g
+  pub stands_at : (held : List Held) (d : Configuration) (g : Holding) (s : MachineState) (index : ℕ) → HoldsAll (codes_in h e code) (over_homes h) addresses (Resumes (program_in h e code) (codes_in h e code) (GoesOn h e code)) held d g
       → Stands (program_in h e code) s index g → is_stop (stop_addresses e) (address_of index) ≡ true → slice_index e.owners index ≡ d.here.place → StandsAt h e code.arrangement d s
   stands_at held d g s index all stands on owned =
       let stop = any_stop e.stops (address_of index) on in

@@ -10,7 +10,7 @@ use Rattle.graph_core.specs.declared.instruction.Callee.TheVariants as callee
 use Rattle.graph_core.specs.Graphs.{Instruction, Marker, Note, Is, Gone, Move, Operate, Truncate, Same, Address, Load, Store, Zero, CopyWords, Call, End, Jump, Branch, Return, Block, Graph, UnitForm}
 use Rattle.graph_core.specs.Values.{holds, is_odd}
 use Rattle.graph_core.specs.Memory.{Memory, is_live, ended_from, read, write, zeroed, copied}
-use Rattle.graph_core.specs.Runs.{Activation, Configuration, Event, Put, Exited, TooDeep, Stop, Stepped, Goes, Shows, Ends, Wild, frame, put, value, recipe_value, pointed, take_wanted, wrote_some, with_memory, at_place, entered, branched, exited, returned, put_out, got, goes_if, first_of, enter, call_function, call, execute, execute_end, step_from, step}
+use Rattle.graph_core.specs.Runs.{Activation, Configuration, Event, Put, Exited, TooDeep, Stop, Stepped, Goes, Shows, Ends, Wild, frame, with_value_at, value, recipe_value, pointed, take_wanted, wrote_some, with_memory, at_place, entered, branched, exited, returned, put_out, got, goes_if, first_argument, enter, call_function, call, execute, execute_end, step_from, step}
 
 -- ---- Where an activation is
 
@@ -82,7 +82,7 @@ pub execute_spot : (u : UnitForm) (x : Instruction) (c : Configuration) → IsPl
 execute_spot u (Marker p) c is = absurd is
 execute_spot u (Note x (Gone change)) c is = refl
 execute_spot u (Note x (Is r)) c is =
-    unless_spot c (is_odd (recipe_value u.statics c.here.names r)) (Goes (record c { here = record c.here { shadows = put c.here.shadows x (shadow.Known (recipe_value u.statics c.here.names r)) } })) refl
+    unless_spot c (is_odd (recipe_value u.statics c.here.names r)) (Goes (record c { here = record c.here { shadows = with_value_at c.here.shadows x (shadow.Known (recipe_value u.statics c.here.names r)) } })) refl
 execute_spot u (Move x a) c is = refl
 execute_spot u (Operate x op a b) c is = refl
 execute_spot u (Truncate x t a) c is = refl
@@ -99,9 +99,9 @@ execute_spot u (Zero object words) c is = memory_spot c (zeroed c.memory (c.here
 execute_spot u (CopyWords object bytes words) c is = memory_spot c (option_and_then (λ all. copied c.memory (c.here.first_object + object) all words) (slice_get u.array_bytes bytes))
 execute_spot u (Call x callee.Getchar all) c is = unless_spot c (list_any is_odd (map (value u.statics c.here.names) all)) (got c x c.input) (got_spot c x c.input)
 execute_spot u (Call x callee.Putchar all) c is =
-    unless_spot c (list_any is_odd (map (value u.statics c.here.names) all)) (put_out c x (first_of (map (value u.statics c.here.names) all))) (put_spot c x (first_of (map (value u.statics c.here.names) all)))
+    unless_spot c (list_any is_odd (map (value u.statics c.here.names) all)) (put_out c x (first_argument (map (value u.statics c.here.names) all))) (put_spot c x (first_argument (map (value u.statics c.here.names) all)))
 execute_spot u (Call x callee.Exit all) c is =
-    unless_spot c (list_any is_odd (map (value u.statics c.here.names) all)) (exited (first_of (map (value u.statics c.here.names) all))) (exit_spot c (first_of (map (value u.statics c.here.names) all)))
+    unless_spot c (list_any is_odd (map (value u.statics c.here.names) all)) (exited (first_argument (map (value u.statics c.here.names) all))) (exit_spot c (first_argument (map (value u.statics c.here.names) all)))
 execute_spot u (Call x (callee.Function f) all) c is = absurd is
 
 -- ---- What is shown
@@ -170,8 +170,8 @@ function_right u c x f vs = by_test (length c.waiting + 1 == 1024)
 call_right : (u : UnitForm) (c : Configuration) (x : Option ℕ) (f : Callee) (vs : List Value) → ShowsRightly (call u c x f vs)
 call_right u c x (callee.Function f) vs = function_right u c x f vs
 call_right u c x callee.Getchar vs = got_right c x c.input
-call_right u c x callee.Putchar vs = put_right c x (first_of vs)
-call_right u c x callee.Exit vs = exited_right (first_of vs)
+call_right u c x callee.Putchar vs = put_right c x (first_argument vs)
+call_right u c x callee.Exit vs = exited_right (first_argument vs)
 
 execute_right : (u : UnitForm) (x : Instruction) (c : Configuration) → ShowsRightly (execute u x c)
 execute_right u (Marker p) c = by_test (p == c.here.graph.entry)
@@ -181,7 +181,7 @@ execute_right u (Marker p) c = by_test (p == c.here.graph.entry)
     by_test false = tt
 execute_right u (Note x (Gone change)) c = tt
 execute_right u (Note x (Is r)) c =
-    unless_right (is_odd (recipe_value u.statics c.here.names r)) (Goes (record c { here = record c.here { shadows = put c.here.shadows x (shadow.Known (recipe_value u.statics c.here.names r)) } })) tt
+    unless_right (is_odd (recipe_value u.statics c.here.names r)) (Goes (record c { here = record c.here { shadows = with_value_at c.here.shadows x (shadow.Known (recipe_value u.statics c.here.names r)) } })) tt
 execute_right u (Move x a) c = tt
 execute_right u (Operate x op a b) c = tt
 execute_right u (Truncate x t a) c = tt

@@ -9,7 +9,7 @@ use Rattle.graph_core.specs.Memory.{is_live, ended_from, Memory}
 use Rattle.graph_core.specs.Uses.{targets_of}
 use Rattle.graph_core.specs.Paths.{Among}
 use Rattle.graph_core.specs.Values.{holds, is_odd}
-use Rattle.graph_core.specs.Runs.{Activation, Configuration, Stepped, Goes, Shows, Ends, Wild, value, entered, branched, exited, returned, put_out, got, first_of, execute, execute_end}
+use Rattle.graph_core.specs.Runs.{Activation, Configuration, Stepped, Goes, Shows, Ends, Wild, value, entered, branched, exited, returned, put_out, got, first_argument, execute, execute_end}
 use Rattle.rv_emit_runs.proofs.Same.{StepKeeps, execute_keeps}
 use Rattle.rv_emit_runs.proofs.Tracks.{calls_function}
 
@@ -47,9 +47,9 @@ unless_keeps c false z kept = kept
 pub instruction_keeps : (u : UnitForm) (i : Instruction) (c : Configuration) → calls_function i ≡ false → KeepsWaiting c (execute u i c)
 instruction_keeps u (Call x callee.Getchar all) c none = unless_keeps c (list_any is_odd (map (value u.statics c.here.names) all)) (got c x c.input) (got_keeps c x c.input)
 instruction_keeps u (Call x callee.Putchar all) c none =
-    unless_keeps c (list_any is_odd (map (value u.statics c.here.names) all)) (put_out c x (first_of (map (value u.statics c.here.names) all))) (put_keeps c x (first_of (map (value u.statics c.here.names) all)))
+    unless_keeps c (list_any is_odd (map (value u.statics c.here.names) all)) (put_out c x (first_argument (map (value u.statics c.here.names) all))) (put_keeps c x (first_argument (map (value u.statics c.here.names) all)))
 instruction_keeps u (Call x callee.Exit all) c none =
-    unless_keeps c (list_any is_odd (map (value u.statics c.here.names) all)) (exited (first_of (map (value u.statics c.here.names) all))) (exit_keeps c (first_of (map (value u.statics c.here.names) all)))
+    unless_keeps c (list_any is_odd (map (value u.statics c.here.names) all)) (exited (first_argument (map (value u.statics c.here.names) all))) (exit_keeps c (first_argument (map (value u.statics c.here.names) all)))
 instruction_keeps u (Call x (callee.Function f) all) c none = cc
 instruction_keeps u (Marker p) c none = from_same c (execute u (Marker p) c) (execute_keeps u (Marker p) c tt)
 instruction_keeps u (Note x v) c none = from_same c (execute u (Note x v) c) (execute_keeps u (Note x v) c tt)

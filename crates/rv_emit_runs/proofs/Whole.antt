@@ -2,9 +2,9 @@
 use Rattle.std.proofs.Common.{◌≡◌, ℕ, zero, suc, ◌+◌, ◌≤◌, sym, ap, ◌∙◌, subst, arith, refl, Bool, true, false, cond, List, [], ◌∷◌, ◌++◌}
 use Rattle.rv_machine.specs.declared.event.Event.{Event}
 use Rattle.rv_machine.specs.declared.event.Event.TheVariants.{Went, Out, Exited, Depth, Fault}
-use Rattle.rv_machine.specs.State.{State}
+use Rattle.rv_machine.specs.State.{MachineState}
 use Rattle.rv_machine.specs.Table.{started, effect}
-use Rattle.rv_machine.specs.Run.{MachineEvent, Byte, Arrival, run, is_stop, goes_on, arrival}
+use Rattle.rv_machine.specs.Run.{MachineEvent, Byte, Arrival, machine_run as run, is_stop, goes_on, arrival}
 use Rattle.event_runs.specs.Agreement.{Agree, Begins, Grows}
 use Rattle.event_runs.specs.Following.{Comes}
 use Rattle.event_runs.proofs.Following.{shows_later}
@@ -47,19 +47,19 @@ arrival_begins : (b : Bool) (x : MachineEvent) (f g : List MachineEvent) → Beg
 arrival_begins true x f g a = begins_behind x f g a
 arrival_begins false x f g a = a
 
-goes_on_begins : (stops : List ℕ) (event : Event) (t : State) (f g : State → List MachineEvent) → ((s : State) → Begins (f s) (g s)) → Begins (goes_on stops event t f) (goes_on stops event t g)
+goes_on_begins : (stops : List ℕ) (event : Event) (t : MachineState) (f g : MachineState → List MachineEvent) → ((s : MachineState) → Begins (f s) (g s)) → Begins (goes_on stops event t f) (goes_on stops event t g)
 goes_on_begins stops Went t f g a = arrival_begins (is_stop stops t.pc) (Arrival t) (f t) (g t) (a t)
 goes_on_begins stops (Out b) t f g a = begins_behind (Byte b) (arrival stops t ++ f t) (arrival stops t ++ g t) (arrival_begins (is_stop stops t.pc) (Arrival t) (f t) (g t) (a t))
 goes_on_begins stops (Exited v) t f g a = ([], refl)
 goes_on_begins stops Depth t f g a = ([], refl)
 goes_on_begins stops (Fault b) t f g a = ([], refl)
 
-run_begins : (stops : List ℕ) (k j : ℕ) (s : State) → k ≤ j → Begins (run stops k s) (run stops j s)
+run_begins : (stops : List ℕ) (k j : ℕ) (s : MachineState) → k ≤ j → Begins (run stops k s) (run stops j s)
 run_begins stops zero j s le = (run stops j s, refl)
 run_begins stops (suc k) zero s le = absurd (omega (arith, le))
 run_begins stops (suc k) (suc j) s le = goes_on_begins stops (effect s).event (effect s).after (run stops k) (run stops j) (λ t. run_begins stops k j t (omega (arith, le)))
 
-run_grows : (stops : List ℕ) (s : State) → Grows (λ k. run stops k s)
+run_grows : (stops : List ℕ) (s : MachineState) → Grows (λ k. run stops k s)
 run_grows stops s k j le = run_begins stops k j s le
 
 -- ---- The induction
@@ -80,7 +80,7 @@ module _ (h : HomedForm) (valid : IsValid h.unit) (homed : HaveHomes h) (e : Emi
   comes_by_all input bytes n =
       let start = comes_to_first h valid homed e code input bytes in
       let c : Configuration = first h valid homed e code input bytes in
-      let s : State = started e.map e.code e.initial input in
+      let s : MachineState = started e.map e.code e.initial input in
       let R = SameSeen h e code.arrangement in
       let events_from : Comes R (seen (over_homes h) n c) (events (program_in h e code).stops (record { state = s; shown = false })) =
       comes_later R start.count (seen (over_homes h) n c) (events (program_in h e code).stops (record { state = s; shown = false })) (events (program_in h e code).stops start.point) start.leads.by (all_comes n c start.point start.related) in

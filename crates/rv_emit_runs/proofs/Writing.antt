@@ -5,7 +5,7 @@ use Rattle.word_base.specs.Arithmetic.{subtracted}
 use Rattle.word_base.specs.declared.operation.Operation.{Operation}
 use Rattle.word_base.specs.declared.operation.Truncation.{Truncation}
 use Rattle.word_base.specs.declared.operation.Truncation.TheVariants.{Unsigned8, Signed16, Unsigned16, Signed8}
-use Rattle.word_base.specs.WordOperations.{operated}
+use Rattle.word_base.specs.WordOperations.{word_operation}
 use Rattle.rv_code.specs.declared.instruction.Instruction.{Instruction}
 use Rattle.rv_code.specs.declared.instruction.Instruction.TheVariants.{Lui, Load, Immediate, Register as OnRegisters}
 use Rattle.rv_code.specs.declared.instruction.ImmediateOperation.{ImmediateOperation}
@@ -128,7 +128,7 @@ module _ (g : StorageForm) where
         (λ form at. immediate_writes target form.0 left form.1) (registers_write target (register_operation op) left (Word w))
 
     pub operation_writes : (target : Home) (op : Operation) (left right : Source) → EndsWriting g target (operation_code g held target op left right)
-    operation_writes target op (Word a) (Word b) = constant_writes target (operated op a b)
+    operation_writes target op (Word a) (Word b) = constant_writes target (word_operation op a b)
     operation_writes target op (OfHome a) (Word b) = by_word_writes target op (OfHome a) b
     operation_writes target op (Word a) (OfHome b) =
         choice (EndsWriting g target) (is_commutative op) (by_word g held target op (OfHome b) a) (on_registers g held target (register_operation op) (Word a) (OfHome b)) (λ e. by_word_writes target op (OfHome b) a) (λ e. registers_write target (register_operation op) (Word a) (OfHome b))

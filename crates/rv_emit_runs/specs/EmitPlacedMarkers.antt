@@ -17,7 +17,8 @@ stop_places (g ∷ more) = stop_places_in g ++ stop_places more
 abbrev pub place_of : PlacedStop → ℕ
 place_of s = s.place
 
--- Stops are those of a unit: there is one for each place that a marker begins, but for entries, and no two are of one place.
+-- Stops are those of a unit: there is one for each place that a marker begins, but for entries, and no two are of one
+-- place.
 pub record AreStopsOf (u : UnitForm) (stops : List PlacedStop) : Type 0 where
   pub places : map place_of stops ≡ stop_places u.graphs
   pub once : AreAllDifferent (map place_of stops)

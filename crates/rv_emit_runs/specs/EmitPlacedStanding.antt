@@ -25,7 +25,8 @@ abbrev pub AreSpelled : List PlacedPiece → Type 0
 AreSpelled pieces = AllByRecursion (λ (x : PlacedPiece). IsSpelled x.piece) pieces
 
 -- The words of a function stand among those of the code, behind so many others, and belong to places as its pieces do.
-pub record StandsIn (regions : Map) (all own : List ℕ) (s : SequenceForm) (l : LayoutForm) (first : ℕ) (firsts : List ℕ) : Type 0 where
+pub record StandsIn (regions : Map) (all own : List ℕ) (s : SequenceForm) (l : LayoutForm) (first : ℕ) (firsts : List ℕ)
+    : Type 0 where
   pub before : List OwnedWord
   pub behind : List OwnedWord
   pub words : all ≡ map (λ (w : OwnedWord). w.word) (before ++ (function_words s l first firsts ++ behind))
@@ -36,9 +37,16 @@ pub record StandsIn (regions : Map) (all own : List ℕ) (s : SequenceForm) (l :
 
 -- There is a stop at the first word of each piece that is one, and at no other word of the function.
 pub record HasStops (stops : List ℕ) (s : SequenceForm) (l : LayoutForm) (first : ℕ) : Type 0 where
-  pub one : (k : ℕ) (x : PlacedPiece) → slice_get s.pieces k ≡ Some x → is_stop stops (address_of (first + words_before l.far s.pieces k)) ≡ x.is_stop
-  pub two : (k : ℕ) (x : PlacedPiece) → slice_get s.pieces k ≡ Some x → width (get_or l.far k false) x.piece ≡ 2 → is_stop stops (address_of (first + words_before l.far s.pieces k + 1)) ≡ false
+  pub one : (k : ℕ) (x : PlacedPiece) → slice_get s.pieces k ≡ Some x
+      → is_stop stops (address_of (first + words_before l.far s.pieces k)) ≡ x.is_stop
+  pub two : (k : ℕ) (x : PlacedPiece) → slice_get s.pieces k ≡ Some x → width (get_or l.far k false) x.piece ≡ 2
+      → is_stop stops (address_of (first + words_before l.far s.pieces k + 1)) ≡ false
 
 -- Where its labels stand in the code, where functions do, and whose the words are.
 abbrev pub targets_of : (owners : List ℕ) → SequenceForm → LayoutForm → (first : ℕ) → (firsts : List ℕ) → Targets
-targets_of owners s l first firsts = record { label = λ b. first + label_at s.labels l.offsets b; function = λ f. slice_index firsts f; owner = λ i. slice_index owners i }
+targets_of owners s l first firsts =
+    record {
+      label = λ b. first + label_at s.labels l.offsets b;
+      function = λ f. slice_index firsts f;
+      owner = λ i. slice_index owners i;
+    }

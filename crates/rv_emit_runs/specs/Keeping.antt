@@ -21,7 +21,8 @@ IsSaved saved None = Unit {0}
 IsSaved saved (Some (Register r)) = Among r saved
 IsSaved saved (Some (Slot k)) = Unit {0}
 
--- Behind words that do a step registers are as they were, but the home that is written, t0 to t2, s0 and a0 to a7, and memory outside of the slots and of the words of live objects.
+-- Behind words that do a step registers are as they were, but the home that is written, t0 to t2, s0 and a0 to a7, and
+-- memory outside of the slots and of the words of live objects.
 pub record LeavesRest (w : Setting) (c : Configuration) (h t : Holding) (target : Option Home) : Type 0 where
   pub registers : (q : ℕ) → IsNoTarget target q → IsKept q → t.registers q ≡ h.registers q
   pub memory : (b : ℕ) → IsOutside w c h b → t.memory b ≡ h.memory b

@@ -1,4 +1,5 @@
--- Where the code of a unit with homes stands in memory, piece by piece, and what stands in static memory as a run begins.
+-- Where the code of a unit with homes stands in memory, piece by piece, and what stands in static memory as a run
+-- begins.
 use Rattle.std.specs.Prelude.{◌≡◌, ℕ, ◌-◌, ◌<◌, ◌≤◌, ◌==◌, Some, None, List, [], ◌++◌, length, map, take, drop, slice_get, slice_index}
 use Rattle.std.specs.Option.{option_map_or}
 use Rattle.std.specs.List.{AllByRecursion}
@@ -29,8 +30,8 @@ use Rattle.rv_emit_runs.specs.Waiting.{FunctionCode}
 
 -- ---- The parts of the code
 
--- Where the parts of the code stand: the word that gp holds, the index of the code at which each function begins, and that at which each label of a function stands. The last label of a function
--- is that of its end.
+-- Where the parts of the code stand: the word that gp holds, the index of the code at which each function begins, and
+-- that at which each label of a function stands. The last label of a function is that of its end.
 pub record Arrangement : Type 0 where
   pub base : ℕ
   pub function : ℕ → ℕ
@@ -38,7 +39,8 @@ pub record Arrangement : Type 0 where
 
 -- the graph of no function: it has nothing
 abbrev pub no_graph : Graph
-no_graph = record { entry = 0; parameters = []; scalars = []; objects = []; name_count = 0; first_moved = 0; blocks = [] }
+no_graph =
+    record { entry = 0; parameters = []; scalars = []; objects = []; name_count = 0; first_moved = 0; blocks = [] }
 
 -- the graph of a function, if there is one
 abbrev pub graph_at : UnitForm → (function : ℕ) → Graph
@@ -61,7 +63,9 @@ code_of h a f = record {
   graph = graph_at h.unit f;
   storage = storage_in h a f (graph_at h.unit f);
   slots = slot_count (homes_in h f);
-  size = frame_size (length (saved (home_of h f) (graph_at h.unit f))) (slot_count (homes_in h f)) (graph_at h.unit f).objects;
+  size =
+      frame_size (length (saved (home_of h f) (graph_at h.unit f))) (slot_count (homes_in h f))
+      (graph_at h.unit f).objects;
   saved = saved (home_of h f) (graph_at h.unit f);
   begin = a.function f;
 }
@@ -90,26 +94,39 @@ first_bytes e = memory_of e.map (e.initial ++ zeros (bytes_size - length e.initi
 abbrev pub AreHeldAmong : (wanted held : List Held) → Type 0
 AreHeldAmong wanted held = (x : Held) → Among x wanted → Among x held
 
--- The code of a block stands from its label on, up to the label of what stands next, where scratch registers hold constants as it begins. It loads constants, each a word in a scratch register, at
--- its end; and behind it those are held that each block is to hold to which its end leads.
-pub record IsBlockAt (h : HomedForm) (a : Arrangement) (p : Program) (t : Targets) (f : ℕ) (known : ℕ → List Held) (l : ℕ) (b : Block) : Type 0 where
+-- The code of a block stands from its label on, up to the label of what stands next, where scratch registers hold
+-- constants as it begins. It loads constants, each a word in a scratch register, at its end; and behind it those are
+-- held that each block is to hold to which its end leads.
+pub record IsBlockAt (h : HomedForm) (a : Arrangement) (p : Program) (t : Targets) (f : ℕ) (known : ℕ → List Held)
+    (l : ℕ) (b : Block) : Type 0 where
   pub next : ℕ
   pub loads : List Held
-  pub there : PlacedAt p t (a.label f l) (block_code (code_of h a f).storage (code_of h a f).graph.entry (code_of h a f).saved (code_of h a f).size (length (code_of h a f).graph.blocks) next (known l) loads b).pieces (a.label f next)
+  pub there : PlacedAt p t (a.label f l)
+      (block_code (code_of h a f).storage (code_of h a f).graph.entry (code_of h a f).saved (code_of h a f).size
+      (length (code_of h a f).graph.blocks) next (known l) loads b).pieces
+      (a.label f next)
   pub constants : AreLoads loads
   pub leads : (m : ℕ) → Among m (targets_of b.end)
-      → AreHeldAmong (known m) (block_code (code_of h a f).storage (code_of h a f).graph.entry (code_of h a f).saved (code_of h a f).size (length (code_of h a f).graph.blocks) next (known l) loads b).held
+      → AreHeldAmong (known m)
+      (block_code (code_of h a f).storage (code_of h a f).graph.entry (code_of h a f).saved (code_of h a f).size
+      (length (code_of h a f).graph.blocks) next (known l) loads b).held
 
--- The code of a function stands in three parts: its beginning, behind which its first block stands, where nothing is held; its blocks, each with constants, which are words in scratch registers,
--- that are held as it begins; and its end.
+-- The code of a function stands in three parts: its beginning, behind which its first block stands, where nothing is
+-- held; its blocks, each with constants, which are words in scratch registers, that are held as it begins; and its end.
 pub record IsFunctionAt (h : HomedForm) (a : Arrangement) (p : Program) (t : Targets) (f : ℕ) : Type 0 where
   pub known : ℕ → List Held
-  pub begins : PlacedAt p t (a.function f) (with_beginning (code_of h a f).storage (code_of h a f).graph (code_of h a f).saved (code_of h a f).size (f == h.unit.main) (no_code (code_of h a f).graph.entry [])).pieces (a.label f 0)
+  pub begins : PlacedAt p t (a.function f)
+      (with_beginning (code_of h a f).storage (code_of h a f).graph (code_of h a f).saved (code_of h a f).size
+      (f == h.unit.main) (no_code (code_of h a f).graph.entry [])).pieces
+      (a.label f 0)
   pub first : known 0 ≡ []
   pub constants : (l : ℕ) → AreLoads (known l)
   pub blocks : (l : ℕ) (b : Block) → slice_get (code_of h a f).graph.blocks l ≡ Some b → IsBlockAt h a p t f known l b
   pub behind : ℕ
-  pub ends : PlacedAt p t (a.label f (length (code_of h a f).graph.blocks)) (with_leaving (words_of_moving (code_of h a f).size) (code_of h a f).saved (code_of h a f).size (no_code 0 [])).pieces behind
+  pub ends : PlacedAt p t (a.label f (length (code_of h a f).graph.blocks))
+      (with_leaving (words_of_moving (code_of h a f).size) (code_of h a f).saved (code_of h a f).size
+      (no_code 0 [])).pieces
+      behind
 
 -- ---- What is asked of the unit's numbers
 
@@ -146,18 +163,22 @@ pub record IsInWords (g : Graph) : Type 0 where
 
 -- ---- The code of a unit
 
--- A unit with homes has this code: its memory is the unit's; its parts stand where they are to stand, as they are made; each stop is the first word of its place; static memory begins with the initial bytes of the unit; and
--- the unit's numbers are in range.
+-- A unit with homes has this code: its memory is the unit's; its parts stand where they are to stand, as they are made;
+-- each stop is the first word of its place; static memory begins with the initial bytes of the unit; and the unit's
+-- numbers are in range.
 pub record IsCode (h : HomedForm) (e : EmittedForm) : Type 0 where
   pub arrangement : Arrangement
   pub map : e.map ≡ map_of_unit h.unit
   pub short : length e.code ≤ most_words e.map
   pub inside : (f : ℕ) → AreInCode e.map (targets_in e arrangement f)
   -- what stands before all functions
-  pub stub : PlacedAt (program_of e short) (targets_in e arrangement h.unit.main) 0 (with_stub e.map h.unit.main (no_code 0 [])).pieces 5
-  pub functions : (f : ℕ) → f < length h.unit.graphs → IsFunctionAt h arrangement (program_of e short) (targets_in e arrangement f) f
+  pub stub : PlacedAt (program_of e short) (targets_in e arrangement h.unit.main) 0
+      (with_stub e.map h.unit.main (no_code 0 [])).pieces 5
+  pub functions : (f : ℕ) → f < length h.unit.graphs
+      → IsFunctionAt h arrangement (program_of e short) (targets_in e arrangement f) f
   -- a stop is the first word of its place
-  pub stops : (s : PlacedStop) → Among s e.stops → (index : ℕ) × (s.address ≡ address_of index) × (slice_index e.owners index ≡ s.place)
+  pub stops : (s : PlacedStop) → Among s e.stops
+      → (index : ℕ) × (s.address ≡ address_of index) × (slice_index e.owners index ≡ s.place)
   -- constants and the initial bytes are in range
   pub words : AllByRecursion IsInWords h.unit.graphs
   pub bytes : AllByRecursion (λ b. b < 256) e.initial

@@ -12,4 +12,5 @@ IsOwnedBy g p = (p ≡ 0) ⊎ IsOwnPlace g (Some p)
 -- Each word of the code of a function belongs to a place of the function, or to none.
 abbrev pub HasOwnWords : UnitForm → EmittedForm → Type 0
 HasOwnWords u e =
-    (f : ℕ) (g : Graph) (code : FunctionCode) → slice_get u.graphs f ≡ Some g → slice_get e.functions f ≡ Some code → (i : ℕ) → code.first ≤ address_of i → address_of i < code.end → IsOwnedBy g (slice_index e.owners i)
+    (f : ℕ) (g : Graph) (code : FunctionCode) → slice_get u.graphs f ≡ Some g → slice_get e.functions f ≡ Some code
+    → (i : ℕ) → code.first ≤ address_of i → address_of i < code.end → IsOwnedBy g (slice_index e.owners i)

@@ -13,10 +13,13 @@ use Rattle.rv_emit_steps.specs.Frames.{IsWord}
 use Rattle.rv_emit_steps.specs.Holding.{Holding}
 use Rattle.rv_emit_steps.specs.EmitMovesDoing.{value_of}
 
--- Arguments are brought into their registers in order, from one of this number on; what scratch registers hold behind that.
+-- Arguments are brought into their registers in order, from one of this number on; what scratch registers hold behind
+-- that.
 abbrev pub passing_code : StorageForm → (number : ℕ) → List Held → List Operand → List Instruction
 passing_code g n held [] = []
-passing_code g n held (a ∷ more) = bringing g held (argument_register n) (source_of g a) ++ passing_code g (n + 1) (forgotten (argument_register n) held) more
+passing_code g n held (a ∷ more) =
+    bringing g held (argument_register n) (source_of g a)
+    ++ passing_code g (n + 1) (forgotten (argument_register n) held) more
 
 abbrev pub passing_held : (number : ℕ) → List Held → List Operand → List Held
 passing_held n held [] = held
@@ -25,7 +28,8 @@ passing_held n held (a ∷ more) = passing_held (n + 1) (forgotten (argument_reg
 -- Each argument is in its register.
 abbrev pub ArePassed : StorageForm → (before after : Holding) → (number : ℕ) → List Operand → Type 0
 ArePassed g h t n [] = Unit {0}
-ArePassed g h t n (a ∷ more) = (t.registers (argument_register n) ≡ value_of g h (source_of g a)) × ArePassed g h t (n + 1) more
+ArePassed g h t n (a ∷ more) =
+    (t.registers (argument_register n) ≡ value_of g h (source_of g a)) × ArePassed g h t (n + 1) more
 
 -- The constants among arguments are words.
 abbrev pub AreWords : List Operand → Type 0

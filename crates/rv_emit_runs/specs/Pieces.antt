@@ -9,7 +9,8 @@ use Rattle.rv_emit_words.specs.declared.piece.Piece.TheVariants.{Word, Jump, Bra
 use Rattle.rv_emit_code.specs.Ends.{opposite}
 use Rattle.rv_emit_steps.specs.Programs.{Program, distance, IsAt}
 
--- The index of the code at which each label of a function stands, that at which each function begins, and the place to which the word at each index belongs, or 0.
+-- The index of the code at which each label of a function stands, that at which each function begins, and the place to
+-- which the word at each index belongs, or 0.
 pub record Targets : Type 0 where
   pub label : ℕ → ℕ
   pub function : ℕ → ℕ
@@ -21,21 +22,27 @@ pub record AreInCode (regions : Map) (t : Targets) : Type 0 where
   pub functions : (f : ℕ) → t.function f ≤ most_words regions
 
 -- A branch in one word, which goes to its label.
-abbrev pub IsNear : Program → Targets → (index : ℕ) → (stops : Bool) → BranchOperation → (left right to behind : ℕ) → Type 0
+abbrev pub IsNear : Program → Targets → (index : ℕ) → (stops : Bool) → BranchOperation → (left right to behind : ℕ)
+    → Type 0
 IsNear p t i b op l r to j = IsAt p i b (instruction.Branch op l r (distance i (t.label to))) × (j ≡ i + 1)
 
 -- A branch in two words: the opposite one, over a jump to its label.
-abbrev pub IsFar : Program → Targets → (index : ℕ) → (stops : Bool) → BranchOperation → (left right to behind : ℕ) → Type 0
-IsFar p t i b op l r to j = IsAt p i b (instruction.Branch (opposite op) l r 8) × IsAt p (i + 1) false (instruction.Jal 0 (distance (i + 1) (t.label to))) × (j ≡ i + 2)
+abbrev pub IsFar : Program → Targets → (index : ℕ) → (stops : Bool) → BranchOperation → (left right to behind : ℕ)
+    → Type 0
+IsFar p t i b op l r to j =
+    IsAt p i b (instruction.Branch (opposite op) l r 8)
+    × IsAt p (i + 1) false (instruction.Jal 0 (distance (i + 1) (t.label to))) × (j ≡ i + 2)
 
--- A piece of code stands from an index on, and another index is that of what stands behind it. There is a stop at its first word or there is none, and none at a second one.
+-- A piece of code stands from an index on, and another index is that of what stands behind it. There is a stop at its
+-- first word or there is none, and none at a second one.
 abbrev pub PieceAt : Program → Targets → (index : ℕ) → (stops : Bool) → Piece → (behind : ℕ) → Type 0
 PieceAt p t i b (Word x) j = IsAt p i b x × (j ≡ i + 1)
 PieceAt p t i b (Jump to) j = IsAt p i b (instruction.Jal 0 (distance i (t.label to.0))) × (j ≡ i + 1)
 PieceAt p t i b (Branch op l r to) j = IsNear p t i b op l r to.0 j ⊎ IsFar p t i b op l r to.0 j
 PieceAt p t i b (Call f) j = IsAt p i b (instruction.Jal 1 (distance i (t.function f))) × (j ≡ i + 1)
 
--- Pieces stand one behind the other from an index on, up to another. There is a stop at the first of them if that is said, and at no other.
+-- Pieces stand one behind the other from an index on, up to another. There is a stop at the first of them if that is
+-- said, and at no other.
 abbrev pub PiecesAt : Program → Targets → (index : ℕ) → (stops : Bool) → List Piece → (behind : ℕ) → Type 0
 PiecesAt p t i b [] j = j ≡ i
 PiecesAt p t i b (x ∷ more) j = (k : ℕ) × PieceAt p t i b x k × PiecesAt p t k false more j

@@ -25,8 +25,10 @@ pub data IsShownAs : Event → MachineEvent → Type 0 where
 abbrev pub answer_code : StorageForm → Option Home → List Instruction
 answer_code g target = option_map_or (λ home. home_written g home 10) target []
 
--- The code behind the call at which an activation waits: its result is written to the target, if there is one, and then goes on what else stands there for this activation.
-pub record Resumes (p : Program) (codes : ℕ → FunctionCode) (goes_on : Activation → ℕ → Type 0) (a : Activation) (index : ℕ) : Type 0 where
+-- The code behind the call at which an activation waits: its result is written to the target, if there is one, and then
+-- goes on what else stands there for this activation.
+pub record Resumes (p : Program) (codes : ℕ → FunctionCode) (goes_on : Activation → ℕ → Type 0) (a : Activation)
+    (index : ℕ) : Type 0 where
   pub target : Option Home
   pub wants : a.wants ≡ option_map home_number target
   pub among : IsTargetAmong (codes a.function).slots target

@@ -3,7 +3,7 @@ use Rattle.std.specs.Prelude.{◌≡◌, ℕ, ◌+◌, ◌%◌, ◌<◌, ◌≤�
 use Rattle.std.specs.Int.{cast_signed, w32}
 use Rattle.memory_map.specs.declared.map.Map.{Map}
 use Rattle.memory_map.specs.Maps.{most_words, stack_end, stack_start}
-use Rattle.rv_machine.specs.State.{State, reg}
+use Rattle.rv_machine.specs.State.{MachineState, reg}
 use Rattle.rv_machine.specs.Run.{MachineEvent, Byte, Arrival, Exit, TooDeep}
 use Rattle.graph_core.specs.Graphs.{StaticObject}
 use Rattle.graph_core.specs.Memory.{Memory, static_bytes}
@@ -39,34 +39,47 @@ pub record ReturnsTo (e : EmittedForm) (place address : ℕ) : Type 0 where
   pub is : address ≡ address_of (index + 1)
   pub owned : slice_index e.owners index ≡ place
 
--- The stack from an activation's frame on: at the bottom of each frame stands the address to which it returns, to a place of the one that waits for it, whose frame begins where this one ends.
--- That of main lies at the top of the stack, and returns to the word behind the call before all functions.
-abbrev pub IsStack : EmittedForm → (codes : ℕ → FunctionCode) → (addresses : ℕ → ℕ) → (memory : ℕ → ℕ) → (sp : ℕ) → Activation → List Activation → Type 0
-IsStack e codes addresses memory sp a [] = IsFrame e.map (codes a.function) addresses sp a × (word_at memory sp ≡ address_of 3) × (sp + (codes a.function).size ≡ stack_end e.map)
+-- The stack from an activation's frame on: at the bottom of each frame stands the address to which it returns, to a
+-- place of the one that waits for it, whose frame begins where this one ends. That of main lies at the top of the
+-- stack, and returns to the word behind the call before all functions.
+abbrev pub IsStack : EmittedForm → (codes : ℕ → FunctionCode) → (addresses : ℕ → ℕ) → (memory : ℕ → ℕ) → (sp : ℕ)
+    → Activation → List Activation → Type 0
+IsStack e codes addresses memory sp a [] =
+    IsFrame e.map (codes a.function) addresses sp a × (word_at memory sp ≡ address_of 3)
+    × (sp + (codes a.function).size ≡ stack_end e.map)
 IsStack e codes addresses memory sp a (b ∷ more) =
-    IsFrame e.map (codes a.function) addresses sp a × ReturnsTo e b.place (word_at memory sp) × IsStack e codes addresses memory (sp + (codes a.function).size) b more
+    IsFrame e.map (codes a.function) addresses sp a × ReturnsTo e b.place (word_at memory sp)
+    × IsStack e codes addresses memory (sp + (codes a.function).size) b more
 
 -- ---- Stops
 
--- The machine stands where a unit over homes is at a stop: its memory is that of the code, and it stands at the address of the place, with as many activations alive, their frames in the stack, in each home of the innermost one the word
--- of the value that was last written there, and at its address each object that lives, also those of activations that wait. Objects, also those that have ended, lie in memory, and
--- static ones have their sizes; each register is a word, and each byte of memory a byte.
-pub record StandsAt (h : HomedForm) (e : EmittedForm) (a : Arrangement) (c : Configuration) (s : State) : Type 0 where
+-- The machine stands where a unit over homes is at a stop: its memory is that of the code, and it stands at the address
+-- of the place, with as many activations alive, their frames in the stack, in each home of the innermost one the word
+-- of the value that was last written there, and at its address each object that lives, also those of activations that
+-- wait. Objects, also those that have ended, lie in memory, and static ones have their sizes; each register is a word,
+-- and each byte of memory a byte.
+pub record StandsAt (h : HomedForm) (e : EmittedForm) (a : Arrangement) (c : Configuration) (s : MachineState)
+    : Type 0 where
   pub addresses : ℕ → ℕ
   pub map : s.map ≡ e.map
   pub place : Among (record { place = c.here.place; address = s.pc }) e.stops
   pub depth : reg s 4 + (length c.waiting + 1) ≡ 1024
   pub statics : (n : ℕ) → n < length h.unit.statics → addresses n ≡ static_at h.unit n
   pub stack : IsStack e (code_of h a) addresses (held s).memory (reg s 2) c.here c.waiting
-  pub homes : (home : Home) → IsHomeAmong (code_of h a c.here.function).slots home → Means addresses c.memory (c.here.names (home_number home)) (value_of_home (code_of h a c.here.function).storage (held s) home)
+  pub homes : (home : Home) → IsHomeAmong (code_of h a c.here.function).slots home
+      → Means addresses c.memory (c.here.names (home_number home))
+      (value_of_home (code_of h a c.here.function).storage (held s) home)
   pub objects : HoldsObjects addresses c.memory (held s).memory
   pub laid : AreLaid e.map addresses c.memory
-  pub sizes : (n : ℕ) (o : StaticObject) → slice_get h.unit.statics n ≡ Some o → size_at c.memory n ≡ Some (static_bytes o)
+  pub sizes : (n : ℕ) (o : StaticObject) → slice_get h.unit.statics n ≡ Some o
+      → size_at c.memory n ≡ Some (static_bytes o)
   pub range : AreInRange (held s)
 
--- An event of the machine is one of the unit over homes: the same byte, the same status, a call too many in both, or a stop of the unit where the machine stands at it.
+-- An event of the machine is one of the unit over homes: the same byte, the same status, a call too many in both, or a
+-- stop of the unit where the machine stands at it.
 pub data SameSeen (h : HomedForm) (e : EmittedForm) (a : Arrangement) : Seen → MachineEvent → Type 0 where
   byte : {b : ℕ} {c : Configuration} → SameSeen h e a (Going (unit.Put b) c) (Byte b)
-  stop : {frames : List unit.Frame} {memory : Memory} {c : Configuration} {s : State} → StandsAt h e a c s → SameSeen h e a (Going (unit.Stop frames memory) c) (Arrival s)
+  stop : {frames : List unit.Frame} {memory : Memory} {c : Configuration} {s : MachineState} → StandsAt h e a c s
+      → SameSeen h e a (Going (unit.Stop frames memory) c) (Arrival s)
   exited : {status : ℕ} → SameSeen h e a (Over (unit.Exited status)) (Exit (cast_signed w32 status))
   deep : SameSeen h e a (Over unit.TooDeep) TooDeep

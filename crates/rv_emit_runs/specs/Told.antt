@@ -43,22 +43,31 @@ abbrev pub AreCountable : HomedForm → Type 0
 AreCountable h = (f : ℕ) (g : Graph) → slice_get h.unit.graphs f ≡ Some g → IsCountable g
 
 -- What is told for an instruction, block by block, is the address of a word that writes the home of its target.
-pub record IsToldWriter (h : HomedForm) (a : Arrangement) (e : EmittedForm) (code : TableCode) (f l number : ℕ) (place : Option ℕ) (home : Home) : Type 0 where
+pub record IsToldWriter (h : HomedForm) (a : Arrangement) (e : EmittedForm) (code : TableCode) (f l number : ℕ)
+    (place : Option ℕ) (home : Home) : Type 0 where
   pub writer : HasWriter h a e f l place home
   pub told : slice_get code.writers number ≡ Some (address_of writer.index)
 
--- THE TABLE OF WRITERS: for each instruction with a target the address is told of the word that writes the target's home, in the place that is in force before it.
+-- THE TABLE OF WRITERS: for each instruction with a target the address is told of the word that writes the target's
+-- home, in the place that is in force before it.
 abbrev pub TellWriters : HomedForm → Arrangement → EmittedForm → Type 0
 TellWriters h a e =
-    (f : ℕ) (g : Graph) (code : TableCode) → slice_get h.unit.graphs f ≡ Some g → slice_get e.functions f ≡ Some code → (l : ℕ) (b : Block) → slice_get g.blocks l ≡ Some b → (before behind : List Instruction) (i : Instruction) (x : ℕ) → b.instructions ≡ before ++ (i ∷ behind)
-    → target_of i ≡ Some x → IsToldWriter h a e code f l (instructions_before g.blocks l + length before) (place_behind before b.place) (home_of h f x)
+    (f : ℕ) (g : Graph) (code : TableCode) → slice_get h.unit.graphs f ≡ Some g → slice_get e.functions f ≡ Some code
+    → (l : ℕ) (b : Block) → slice_get g.blocks l ≡ Some b
+    → (before behind : List Instruction) (i : Instruction) (x : ℕ) → b.instructions ≡ before ++ (i ∷ behind)
+    → target_of i ≡ Some x
+    → IsToldWriter h a e code f l (instructions_before g.blocks l + length before) (place_behind before b.place)
+    (home_of h f x)
 
 -- What is told for a parameter is the address of a word that writes the home of its scalar.
-pub record IsToldBinder (h : HomedForm) (a : Arrangement) (e : EmittedForm) (code : TableCode) (f number entry : ℕ) (home : Home) : Type 0 where
+pub record IsToldBinder (h : HomedForm) (a : Arrangement) (e : EmittedForm) (code : TableCode) (f number entry : ℕ)
+    (home : Home) : Type 0 where
   pub binder : HasBinder h a e f entry home
   pub told : slice_get code.bindings number ≡ Some (address_of binder.index)
 
--- THE TABLE OF BINDINGS: for each parameter that is a scalar the address is told of the word that writes its home as a call binds it, in the place of the function's entry.
+-- THE TABLE OF BINDINGS: for each parameter that is a scalar the address is told of the word that writes its home as a
+-- call binds it, in the place of the function's entry.
 abbrev pub TellBinders : HomedForm → Arrangement → EmittedForm → Type 0
 TellBinders h a e =
-    (f : ℕ) (g : Graph) (code : TableCode) → slice_get h.unit.graphs f ≡ Some g → slice_get e.functions f ≡ Some code → (k x : ℕ) → slice_get g.parameters k ≡ Some (ToScalar x) → IsToldBinder h a e code f k g.entry (home_of h f x)
+    (f : ℕ) (g : Graph) (code : TableCode) → slice_get h.unit.graphs f ≡ Some g → slice_get e.functions f ≡ Some code
+    → (k x : ℕ) → slice_get g.parameters k ≡ Some (ToScalar x) → IsToldBinder h a e code f k g.entry (home_of h f x)

@@ -15,7 +15,8 @@ use Rattle.rv_emit_code.specs.Blocks.{no_code, block_code}
 use Rattle.rv_emit_code.specs.Leaving.{words_of_moving, with_leaving}
 use Rattle.rv_emit_sequence.specs.declared.sequence.Sequence as declared-sequence
 
--- What the code of a function rests on: where it finds values, the place of its entry, the registers that its frame keeps and its size, and the label of its end.
+-- What the code of a function rests on: where it finds values, the place of its entry, the registers that its frame
+-- keeps and its size, and the label of its end.
 pub record Ground : Type 0 where
   pub storage : StorageForm
   pub entry : ℕ
@@ -25,10 +26,18 @@ pub record Ground : Type 0 where
 
 -- what the code has of it
 abbrev pub ground_of : declared-storage.Storage → Ground
-ground_of s = record { storage = storage_view s; entry = s.entry.0; saved = s.frame.now.saved.items; size = s.frame.now.size; end = s.end.0 }
+ground_of s =
+    record {
+      storage = storage_view s;
+      entry = s.entry.0;
+      saved = s.frame.now.saved.items;
+      size = s.frame.now.size;
+      end = s.end.0;
+    }
 
--- The pieces of a function, how many of them stand before all blocks, for each block the index of its first piece and that behind its last one, with the index of the function's end behind
--- the first ones, and how many instructions the blocks before each block have, and all.
+-- The pieces of a function, how many of them stand before all blocks, for each block the index of its first piece and
+-- that behind its last one, with the index of the function's end behind the first ones, and how many instructions the
+-- blocks before each block have, and all.
 pub record SequenceForm : Type 0 where
   pub pieces : List PlacedPiece
   pub begin : ℕ
@@ -38,7 +47,14 @@ pub record SequenceForm : Type 0 where
 
 -- what the code has of it
 abbrev pub sequence_view : declared-sequence.Sequence → SequenceForm
-sequence_view s = record { pieces = s.pieces.items; begin = s.begin; labels = s.labels.items; ends = s.ends.items; numbers = s.numbers.items }
+sequence_view s =
+    record {
+      pieces = s.pieces.items;
+      begin = s.begin;
+      labels = s.labels.items;
+      ends = s.ends.items;
+      numbers = s.numbers.items;
+    }
 
 -- A count, as far as 32 bits can count.
 abbrev pub counted : ℕ → ℕ
@@ -46,7 +62,8 @@ counted n = min n 4294967295
 
 -- ---- Pieces
 
--- A block as it stands in code: its number, the label of what stands next, what scratch registers hold where it begins, and the constants that are loaded at its end.
+-- A block as it stands in code: its number, the label of what stands next, what scratch registers hold where it begins,
+-- and the constants that are loaded at its end.
 pub record Standing : Type 0 where
   pub number : ℕ
   pub next : ℕ
@@ -58,9 +75,16 @@ pub record Standing : Type 0 where
 abbrev pub standing_code : Ground → Standing → CodeState
 standing_code g x = block_code g.storage g.entry g.saved g.size g.end x.next x.known x.loads x.block
 
--- The instruction whose target a piece writes is counted from the first of block 0, where the blocks before have so many.
+-- The instruction whose target a piece writes is counted from the first of block 0, where the blocks before have so
+-- many.
 abbrev pub numbered : (before : ℕ) → PlacedPiece → PlacedPiece
-numbered n p = record { piece = p.piece; owner = p.owner; is_stop = p.is_stop; writes = option_map (λ i. counted (n + i)) p.writes }
+numbered n p =
+    record {
+      piece = p.piece;
+      owner = p.owner;
+      is_stop = p.is_stop;
+      writes = option_map (λ i. counted (n + i)) p.writes;
+    }
 
 -- The pieces of a block.
 abbrev pub standing_pieces : Ground → (numbers : List ℕ) → Standing → List PlacedPiece
@@ -90,7 +114,8 @@ abbrev pub AreInARow : (end : ℕ) → List Standing → Type 0
 AreInARow e [] = Unit {0}
 AreInARow e (x ∷ more) = (x.next ≡ first_label more e) × AreInARow e more
 
--- Each block has as its label the index of its first piece, from an index on, and as its end the one behind its last; the label of the function's end is that of what stands behind all.
+-- Each block has as its label the index of its first piece, from an index on, and as its end the one behind its last;
+-- the label of the function's end is that of what stands behind all.
 abbrev pub AreLabelled : Ground → SequenceForm → (index : ℕ) → List Standing → Type 0
 AreLabelled g s i [] = slice_index s.labels g.end ≡ counted i
 AreLabelled g s i (x ∷ more) =
@@ -108,7 +133,8 @@ Holds held wanted = (x : Held) → Among x wanted → Among x held
 abbrev pub LeadsWell : Ground → (at : ℕ → List Held) → Standing → Type 0
 LeadsWell g at x = (l : ℕ) → Among l (targets_of x.block.end) → Holds (standing_code g x).held (at l)
 
--- A block stands as one of these: it is the one of its number, holds where it begins what is to be held there, loads constants, and leads well.
+-- A block stands as one of these: it is the one of its number, holds where it begins what is to be held there, loads
+-- constants, and leads well.
 pub record IsStanding (g : Ground) (blocks : List Block) (at : ℕ → List Held) (x : Standing) : Type 0 where
   pub block : slice_get blocks x.number ≡ Some x.block
   pub known : x.known ≡ at x.number
@@ -117,7 +143,8 @@ pub record IsStanding (g : Ground) (blocks : List Block) (at : ℕ → List Held
 
 -- ---- All of it
 
--- How many instructions the blocks before each block have, where so many stand before all of them, and behind these how many there are.
+-- How many instructions the blocks before each block have, where so many stand before all of them, and behind these how
+-- many there are.
 abbrev pub numbers_from : (before : ℕ) → List Block → List ℕ
 numbers_from n [] = n ∷ []
 numbers_from n (b ∷ more) = n ∷ numbers_from (counted (n + counted (length b.instructions))) more
@@ -183,7 +210,8 @@ ended g s = record {
 -- Blocks as they stand where nothing is held, from one of this number on.
 abbrev pub plainly : (number : ℕ) → List Block → List Standing
 plainly n [] = []
-plainly n (b ∷ more) = (record { number = n; next = counted (n + 1); known = []; loads = []; block = b }) ∷ plainly (counted (n + 1)) more
+plainly n (b ∷ more) =
+    (record { number = n; next = counted (n + 1); known = []; loads = []; block = b }) ∷ plainly (counted (n + 1)) more
 
 -- The first of some numbers, or another where there is none.
 abbrev pub first_number : List ℕ → (behind : ℕ) → ℕ
@@ -199,7 +227,8 @@ pub record IsPut (g : Ground) (blocks : List Block) (at : ℕ → List Held) (n 
   pub pieces : t ≡ with_block standing.number (standing_code g standing).pieces s
 
 -- Blocks of these numbers stand behind what stood, in this order.
-pub record ArePut (g : Ground) (blocks : List Block) (at : ℕ → List Held) (named : List ℕ) (s t : SequenceForm) : Type 0 where
+pub record ArePut (g : Ground) (blocks : List Block) (at : ℕ → List Held) (named : List ℕ) (s t : SequenceForm)
+    : Type 0 where
   pub standing : List Standing
   pub order : map (λ (x : Standing). x.number) standing ≡ named
   pub next : AreInARow g.end standing

@@ -7,9 +7,9 @@ use Rattle.memory_map.specs.Maps.{bytes_end, bytes_start, code_start, most_words
 use Rattle.memory_map.proofs.Facts.{map_facts}
 use Rattle.rv_code.specs.declared.instruction.LoadOperation.{LoadOperation}
 use Rattle.rv_code.specs.declared.instruction.LoadOperation.TheVariants.{Lb, Lh, Lw, Lbu, Lhu}
-use Rattle.rv_machine.specs.State.{State}
+use Rattle.rv_machine.specs.State.{MachineState}
 use Rattle.rv_machine.specs.Memory.{half_in, word_in}
-use Rattle.rv_machine.specs.Table.{signed_byte, signed_half, location_of, loaded, loaded_from, load_size}
+use Rattle.rv_machine.specs.Table.{signed_byte, signed_half, location_of, load_result, loaded_from, load_size}
 use Rattle.rv_emit_steps.specs.Holding.{memory_of, loaded_at, IsDataAt}
 
 -- ---- One byte, by its region
@@ -75,8 +75,8 @@ load_size_few Lbu = (omega arith, omega arith)
 load_size_few Lhu = (omega arith, omega arith)
 
 -- A load at an address of static memory or of the stack gets what memory has there.
-pub loads : (s : State) (op : LoadOperation) (a : ℕ) → length s.code ≤ most_words s.map → IsDataAt s.map (load_size op) a → loaded s op a ≡ Some (loaded_at op (memory_of s.map s.bytes s.stack) a)
-unfolding loaded location_of
+pub loads : (s : MachineState) (op : LoadOperation) (a : ℕ) → length s.code ≤ most_words s.map → IsDataAt s.map (load_size op) a → load_result s op a ≡ Some (loaded_at op (memory_of s.map s.bytes s.stack) a)
+unfolding load_result location_of
 loads s op a short (aligned, inl (low, high)) =
     let few = load_size_few op in
     let code = (map_facts s.map).code in

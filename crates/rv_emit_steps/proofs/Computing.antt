@@ -7,7 +7,7 @@ use Rattle.rv_code.specs.declared.instruction.Instruction.{Instruction}
 use Rattle.rv_code.specs.declared.instruction.Instruction.TheVariants.{Immediate, Register as OnRegisters}
 use Rattle.rv_code.specs.declared.instruction.ImmediateOperation.{ImmediateOperation}
 use Rattle.rv_code.specs.declared.instruction.RegisterOperation.{RegisterOperation}
-use Rattle.rv_machine.specs.Table.{operated, operated_immediate}
+use Rattle.rv_machine.specs.Table.{operation_result, operated_immediate}
 use Rattle.graph_homes.specs.declared.home.Home.{Home}
 use Rattle.graph_homes.specs.declared.home.Home.TheVariants.{Register, Slot}
 use Rattle.rv_emit_words.specs.declared.piece.Held.{Held}
@@ -164,18 +164,18 @@ both_found g held h left right can readable also =
 
 -- An operation on two registers behind their fetches.
 pub registers_compute : (g : StorageForm) (held : List Held) (h : Holding) (op : RegisterOperation) (left right : Source) (rd : ℕ) → 0 < rd → CanFetch g held h → IsReadable g h left → IsReadable g h right
-    → Computes ((fetched_source g held left 6 ++ fetched_source g held right 7) ++ OnRegisters op rd (source_register g held left 6) (source_register g held right 7) ∷ []) h rd (operated op (value_of g h left) (value_of g h right))
+    → Computes ((fetched_source g held left 6 ++ fetched_source g held right 7) ++ OnRegisters op rd (source_register g held left 6) (source_register g held right 7) ∷ []) h rd (operation_result op (value_of g h left) (value_of g h right))
 registers_compute g held h op left right rd some can readable also =
     let code = fetched_source g held left 6 ++ fetched_source g held right 7 in
     let q1 : ℕ = source_register g held left 6 in
     let q2 : ℕ = source_register g held right 7 in
     let a : BothFound g held h left right = both_found g held h left right can readable also in
     let t : Holding = done_by_all code h in
-    let v : ℕ = operated op (t.registers q1) (t.registers q2) in
+    let v : ℕ = operation_result op (t.registers q1) (t.registers q2) in
     let both : done_by_all (code ++ OnRegisters op rd q1 q2 ∷ []) h ≡ writing rd v t = done_by_both code (OnRegisters op rd q1 q2 ∷ []) h in
     record {
       can = can_do_both code (OnRegisters op rd q1 q2 ∷ []) h a.can (tt, tt);
-      value = ap (λ (u : Holding). u.registers rd) both ∙ register_same rd v t.registers some ∙ ap (λ x. operated op x (t.registers q2)) a.left_value ∙ ap (λ y. operated op (value_of g h left) y) a.right_value;
+      value = ap (λ (u : Holding). u.registers rd) both ∙ register_same rd v t.registers some ∙ ap (λ x. operation_result op x (t.registers q2)) a.left_value ∙ ap (λ y. operation_result op (value_of g h left) y) a.right_value;
       kept = λ q other l. ap (λ (u : Holding). u.registers q) both ∙ register_other rd v q t.registers other ∙ a.kept q l;
       memory = ap (λ (u : Holding). u.memory) both ∙ a.memory;
       input = ap (λ (u : Holding). u.input) both ∙ a.input;
@@ -224,12 +224,12 @@ immediate_made g held h target op source n can write readable fits =
 
 -- The words of an operation on two things that are read.
 pub registers_made : (g : StorageForm) (held : List Held) (h : Holding) (target : Home) (op : RegisterOperation) (left right : Source) → CanFetch g held h → CanWrite g h target → IsReadable g h left → IsReadable g h right
-    → operated op (value_of g h left) (value_of g h right) < 4294967296
+    → operation_result op (value_of g h left) (value_of g h right) < 4294967296
     → Makes g (fetched_source g held left 6 ++ fetched_source g held right 7 ++ OnRegisters op (result_register target) (source_register g held left 6) (source_register g held right 7) ∷ finishing g target (result_register target)) h target
-    (operated op (value_of g h left) (value_of g h right))
+    (operation_result op (value_of g h left) (value_of g h right))
 registers_made g held h target op left right can write readable also fits =
     let rd : ℕ = result_register target in
-    let v : ℕ = operated op (value_of g h left) (value_of g h right) in
+    let v : ℕ = operation_result op (value_of g h left) (value_of g h right) in
     let front = fetched_source g held left 6 in
     let back = fetched_source g held right 7 in
     let i : Instruction = OnRegisters op rd (source_register g held left 6) (source_register g held right 7) in

@@ -9,7 +9,7 @@ use Rattle.rv_code.specs.declared.instruction.BranchOperation.TheVariants.{Bne}
 use Rattle.rv_code.specs.declared.instruction.LoadOperation.TheVariants.{Lw}
 use Rattle.rv_code.specs.declared.instruction.StoreOperation.TheVariants.{Sw}
 use Rattle.rv_code.specs.declared.instruction.ImmediateOperation.TheVariants.{Addi}
-use Rattle.rv_machine.specs.State.{State}
+use Rattle.rv_machine.specs.State.{MachineState}
 use Rattle.graph_core.specs.declared.value.Value.{Value}
 use Rattle.graph_core.specs.declared.value.Value.TheVariants.{Number}
 use Rattle.graph_core.specs.declared.instruction.Element.{Element}
@@ -145,7 +145,7 @@ copy_set_up w h offset from words can low fits =
       input = ap (λ (x : Holding). x.input) both ∙ third.input ∙ second.input ∙ first.input;
     }
 
-module _ (p : Program) (s : State) (index : ℕ) (b : Bool) (w : Setting) (c : Configuration) (h : Holding) (storage : IsStorage w) (frame : HoldsFrame w c h) (object source words : ℕ) (all : List ℕ) (later : Memory) (valid : object < length w.graph.objects)
+module _ (p : Program) (s : MachineState) (index : ℕ) (b : Bool) (w : Setting) (c : Configuration) (h : Holding) (storage : IsStorage w) (frame : HoldsFrame w c h) (object source words : ℕ) (all : List ℕ) (later : Memory) (valid : object < length w.graph.objects)
     (there : slice_get w.unit.array_bytes source ≡ Some all) (stands : Stands p s index h) (made : copied c.memory (c.here.first_object + object) all words ≡ Some later) where
   is_copied : IsCopied c.memory (c.here.first_object + object) words all later
   is_copied = copied_is c.memory (c.here.first_object + object) words all later made

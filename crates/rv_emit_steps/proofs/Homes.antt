@@ -7,7 +7,7 @@ use Rattle.memory_map.proofs.Facts.{map_facts}
 use Rattle.rv_code.specs.declared.instruction.Instruction.{Instruction as MachineInstruction}
 use Rattle.graph_core.specs.declared.value.Value.{Value}
 use Rattle.graph_core.specs.Memory.{bytes_of, words_of}
-use Rattle.graph_core.specs.Runs.{Configuration, put, take_value}
+use Rattle.graph_core.specs.Runs.{Configuration, with_value_at, take_value}
 use Rattle.graph_homes.specs.declared.home.Home.{Home}
 use Rattle.graph_homes.specs.declared.home.Home.TheVariants.{Register, Slot}
 use Rattle.graph_homes.specs.Homed.{IsHomeRegister, IsHomeAmong, home_number}
@@ -162,7 +162,7 @@ other_slot w c h k j x storage frame lk lj ne =
 -- What the homes hold behind a write of one.
 module _ (w : Setting) (c : Configuration) (h t : Holding) (v : Value) (x : ℕ) (storage : IsStorage w) (frame : HoldsFrame w c h) (means : Means w.addresses c.memory v x) where
   homes_written : (home other : Home) → IsHomeAmong w.slots home → IsHomeAmong w.slots other → value_of_home w.storage t home ≡ x → ((q : ℕ) → IsNoHome home q → IsLeft q → t.registers q ≡ h.registers q) → t.registers 2 ≡ h.registers 2
-      → t.memory ≡ memory_with w.storage h home x → Means w.addresses c.memory (put c.here.names (home_number home) v (home_number other)) (value_of_home w.storage t other)
+      → t.memory ≡ memory_with w.storage h home x → Means w.addresses c.memory (with_value_at c.here.names (home_number home) v (home_number other)) (value_of_home w.storage t other)
   homes_written (Register r) (Register q) among also is kept sp memory = by_test (q == r) refl
     where
       by_test : (b : Bool) → (q == r) ≡ b → Means w.addresses c.memory (cond b v (c.here.names q)) (t.registers q)

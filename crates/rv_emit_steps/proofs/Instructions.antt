@@ -9,7 +9,7 @@ use Rattle.memory_map.proofs.Facts.{map_facts}
 use Rattle.rv_code.specs.declared.instruction.Instruction.{Instruction as MachineInstruction}
 use Rattle.rv_code.specs.declared.instruction.Instruction.TheVariants as instruction
 use Rattle.rv_machine.specs.State.{word}
-use Rattle.rv_machine.specs.Table.{operated, operated_immediate, load_size, store_size}
+use Rattle.rv_machine.specs.Table.{operation_result, operated_immediate, load_size, store_size}
 use Rattle.rv_code.specs.declared.instruction.ImmediateOperation.TheVariants.{Addi}
 use Rattle.rv_code.specs.declared.instruction.RegisterOperation.TheVariants as on
 use Rattle.std.proofs.lemmas.Bool.{eqb-true}
@@ -20,7 +20,7 @@ use Rattle.graph_core.specs.declared.value.Value.TheVariants.{Pointer, Odd}
 use Rattle.graph_core.specs.declared.instruction.Element.{Element}
 use Rattle.graph_core.specs.Graphs.{Operand, Location, Instruction, Move, Operate, Truncate, Same, Address, Load, Store, Marker, Note, Gone, Zero, CopyWords, Call}
 use Rattle.graph_core.specs.Values.{size_of, as_element, operate, truncate, same, is_odd}
-use Rattle.graph_core.specs.Memory.{Memory, Object, bytes_of, words_of, is_live, address_of, read, write, with_value}
+use Rattle.graph_core.specs.Memory.{Memory, Object, bytes_of, words_of, is_live, pointer_to_object, read, write, with_value}
 use Rattle.graph_core.specs.Runs.{noted, Configuration, Wild, value, pointed, wrote, wrote_some, with_memory, unless_odd, execute}
 use Rattle.graph_core.specs.Uses.{target_of}
 use Rattle.graph_core.specs.Validity.{IsOperand, IsLocation, IsInstruction}
@@ -51,7 +51,7 @@ use Rattle.rv_emit_steps.proofs.Accesses.{Hits, Reads, read_reads, WritesTo, wri
 -- ---- Addresses in the frame
 
 address_computes : (h : Holding) (rd offset : ℕ) → 0 < rd → h.registers 2 + offset < 4294967296 → Computes (address_code rd 7 offset) h rd (h.registers 2 + offset)
-unfolding operated operated_immediate
+unfolding operation_result operated_immediate
 address_computes h rd offset some fits = by_tests (nat_lt offset 2048) (low_part offset == 0) refl
   where
     by_tests : (b z : Bool) → (low_part offset == 0) ≡ z
@@ -216,7 +216,7 @@ module _ (w : Setting) (c : Configuration) (h : Holding) (storage : IsStorage w)
   -- ---- Addresses
 
   address_does : (x object : ℕ) → x < w.graph.name_count → object < length w.graph.objects
-      → DoesStep w c h (Some (home_at w.storage x)) (straight_code w.storage w.held (Address x object)) (wrote c (home_number (home_at w.storage x)) (address_of c.memory (c.here.first_object + object)))
+      → DoesStep w c h (Some (home_at w.storage x)) (straight_code w.storage w.held (Address x object)) (wrote c (home_number (home_at w.storage x)) (pointer_to_object c.memory (c.here.first_object + object)))
   address_does x object is valid =
       let rd : ℕ = result_register (home_at w.storage x) in
       let a : ℕ = h.registers 2 + object_at w.storage object in

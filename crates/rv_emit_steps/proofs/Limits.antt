@@ -8,7 +8,7 @@ use Rattle.rv_code.specs.declared.instruction.Instruction.TheVariants.{Lui, Imme
 use Rattle.rv_code.specs.declared.instruction.ImmediateOperation.TheVariants.{Addi}
 use Rattle.rv_code.specs.declared.instruction.RegisterOperation.TheVariants.{Add}
 use Rattle.rv_machine.specs.State.{word}
-use Rattle.rv_machine.specs.Table.{operated, operated_immediate}
+use Rattle.rv_machine.specs.Table.{operation_result, operated_immediate}
 use Rattle.rv_emit_words.specs.Constants.{is_small, low_part, high_part, constant_code}
 use Rattle.rv_emit_words.specs.Operands.{address_code}
 use Rattle.rv_emit_instructions.specs.Filling.{limit_code}
@@ -22,7 +22,7 @@ use Rattle.rv_emit_steps.proofs.Parts.{high_part_alone, parts_make}
 
 -- The address of a byte of the frame is brought into a register by way of itself.
 pub address_brings : (h : Holding) (r offset : ℕ) → 0 < r → r ≢ 2 → h.registers 2 + offset < 4294967296 → Brings (address_code r r offset) h r r (h.registers 2 + offset)
-unfolding operated operated_immediate
+unfolding operation_result operated_immediate
 address_brings h r offset some apart fits = by_tests (nat_lt offset 2048) (low_part offset == 0) refl
   where
     by_tests : (b z : Bool) → (low_part offset == 0) ≡ z
@@ -79,7 +79,7 @@ constant_alone h r n some fits none = by_tests (is_small n) (low_part n == 0) (i
 
 -- The sum of t1 and a number of bytes is brought into another register.
 pub limit_brings : (h : Holding) (r bytes : ℕ) → 0 < r → r ≢ 6 → bytes < 4294967296 → h.registers 0 ≡ 0 → h.registers 6 + bytes < 4294967296 → Brings (limit_code r bytes) h r r (h.registers 6 + bytes)
-unfolding operated
+unfolding operation_result
 limit_brings h r bytes some apart fits none sum = by_test (is_small bytes)
   where
     by_test : (b : Bool) → Brings (cond b (Immediate Addi r 6 bytes ∷ []) (constant_code r bytes 0 ++ Register Add r r 6 ∷ [])) h r r (h.registers 6 + bytes)

@@ -7,7 +7,7 @@ use Rattle.word_base.specs.Arithmetic.{subtracted}
 use Rattle.rv_code.specs.declared.instruction.Instruction.{Instruction}
 use Rattle.rv_code.specs.declared.instruction.Instruction.TheVariants.{Branch}
 use Rattle.rv_code.specs.declared.instruction.BranchOperation.TheVariants.{Bne}
-use Rattle.rv_machine.specs.State.{State, word}
+use Rattle.rv_machine.specs.State.{MachineState, word}
 use Rattle.rv_machine.specs.Table.{taken}
 use Rattle.rv_emit_steps.specs.Holding.{Holding}
 use Rattle.rv_emit_steps.specs.Doing.{done_by_all, CanDoAll}
@@ -26,7 +26,7 @@ pub record Turns (body : List Instruction) (limit : ℕ) (Left : ℕ → Holding
   pub goes : (k : ℕ) (h : Holding) → Left (suc k) h → h.registers 6 ≢ h.registers limit
 
 -- The loop has ended, behind so many instructions.
-pub record LoopDone (p : Program) (s : State) (first count : ℕ) (end : ℕ) (Left : ℕ → Holding → Type 0) : Type 0 where
+pub record LoopDone (p : Program) (s : MachineState) (first count : ℕ) (end : ℕ) (Left : ℕ → Holding → Type 0) : Type 0 where
   pub holding : Holding
   pub reaches : Reaches p count (record { state = s; shown = false }) [] end false holding
   pub left : Left zero holding
@@ -50,13 +50,13 @@ module _ (p : Program) (first : ℕ) (body : List Instruction) (limit : ℕ) (Le
   at_branch = subst (λ b. IsAt p (first + length body) b (Branch Bne 6 limit (subtracted 0 (4 * length body)))) (not_behind body) (code_rest p first false body (Branch Bne 6 limit (subtracted 0 (4 * length body)) ∷ []) there).0
 
   -- One turn, up to the branch.
-  body_done : (s : State) (h : Holding) (k : ℕ) → Stands p s first h → Left (suc k) h → Reaches p (length body) (record { state = s; shown = false }) [] (first + length body) false (done_by_all body h)
+  body_done : (s : MachineState) (h : Holding) (k : ℕ) → Stands p s first h → Left (suc k) h → Reaches p (length body) (record { state = s; shown = false }) [] (first + length body) false (done_by_all body h)
   body_done s h k stands left =
       subst (λ b. Reaches p (length body) (record { state = s; shown = false }) [] (first + length body) b (done_by_all body h)) (not_behind body)
       (code_does p s first h false body stands (code_front p first false body (Branch Bne 6 limit (subtracted 0 (4 * length body)) ∷ []) there) (turns.can k h left))
 
   -- The loop, where a turn is left.
-  pub loop_done : (k : ℕ) (s : State) (h : Holding) → Stands p s first h → Left (suc k) h → LoopDone p s first ((length body + 1) * (k + 1)) (first + length body + 1) Left
+  pub loop_done : (k : ℕ) (s : MachineState) (h : Holding) → Stands p s first h → Left (suc k) h → LoopDone p s first ((length body + 1) * (k + 1)) (first + length body + 1) Left
   unfolding taken
   loop_done zero s h stands left =
       let once = body_done s h zero stands left in

@@ -4,7 +4,7 @@ use Rattle.std.specs.Prelude.{◌==◌, nat_lt}
 use Rattle.std.proofs.lemmas.Bool.{eqb-true, eq-eqb, ne_eqb}
 use Rattle.std.specs.Option.{option_map_or}
 use Rattle.word_base.specs.Words.{word_of_test}
-use Rattle.word_base.specs.WordOperations.{operated, truncated}
+use Rattle.word_base.specs.WordOperations.{word_operation, truncated}
 use Rattle.word_base.specs.declared.operation.Operation.{Operation}
 use Rattle.word_base.specs.declared.operation.Truncation.{Truncation}
 use Rattle.word_base.specs.declared.operation.Truncation.TheVariants.{Unsigned8, Signed16, Unsigned16, Signed8}
@@ -14,7 +14,7 @@ use Rattle.rv_code.specs.declared.instruction.ImmediateOperation.{ImmediateOpera
 use Rattle.rv_code.specs.declared.instruction.ImmediateOperation.TheVariants.{Addi, Sltiu, Andi, Slli, Srli, Srai}
 use Rattle.rv_code.specs.declared.instruction.RegisterOperation.TheVariants as on
 use Rattle.rv_code.specs.declared.instruction.LoadOperation.TheVariants.{Lw}
-use Rattle.rv_machine.specs.Table.{operated as done_on, operated_immediate}
+use Rattle.rv_machine.specs.Table.{operation_result as done_on, operated_immediate}
 use Rattle.graph_homes.specs.declared.home.Home.{Home}
 use Rattle.graph_homes.specs.declared.home.Home.TheVariants.{Register, Slot}
 use Rattle.rv_emit_words.specs.declared.piece.Held.{Held}
@@ -47,7 +47,7 @@ value_fits g h (OfHome (Register r)) range readable = range.words r
 value_fits g h (OfHome (Slot k)) range readable = loaded_in_range Lw (h.registers 2 + slot_at g k) h.memory range.bytes
 value_fits g h (Word w) range readable = omega arith
 
-operated_fits : (op : Operation) (a b : ℕ) → a < 4294967296 → b < 4294967296 → operated op a b < 4294967296
+operated_fits : (op : Operation) (a b : ℕ) → a < 4294967296 → b < 4294967296 → word_operation op a b < 4294967296
 operated_fits op a b ha hb = subst (λ x. x < 4294967296) (register_does op a b) (operated_in_range (register_operation op) a b ha hb)
 
 -- ---- Constants
@@ -93,31 +93,31 @@ constant_made g held h (Slot k) w can write fits =
 
 -- An operation of the unit on two registers.
 on_registers_made : (g : StorageForm) (held : List Held) (h : Holding) (target : Home) (op : Operation) (left right : Source) → CanFetch g held h → CanWrite g h target → AreInRange h → IsReadable g h left → IsReadable g h right
-    → Makes g (on_registers g held target (register_operation op) left right) h target (operated op (value_of g h left) (value_of g h right))
+    → Makes g (on_registers g held target (register_operation op) left right) h target (word_operation op (value_of g h left) (value_of g h right))
 on_registers_made g held h target op left right can write range readable also =
     subst (λ v. Makes g (on_registers g held target (register_operation op) left right) h target v) (register_does op (value_of g h left) (value_of g h right))
     (registers_made g held h target (register_operation op) left right can write readable also
     (operated_in_range (register_operation op) (value_of g h left) (value_of g h right) (value_fits g h left range readable) (value_fits g h right range also)))
 
 by_word_made : (g : StorageForm) (held : List Held) (h : Holding) (target : Home) (op : Operation) (left : Source) (w : ℕ) → CanFetch g held h → CanWrite g h target → AreInRange h → IsReadable g h left → w < 4294967296
-    → Makes g (by_word g held target op left w) h target (operated op (value_of g h left) w)
+    → Makes g (by_word g held target op left w) h target (word_operation op (value_of g h left) w)
 by_word_made g held h target op left w can write range readable fits = by_form (immediate_form op w) (form_does op w fits)
   where
     x : ℕ
     x = value_of g h left
 
     by_form : (o : Option (ImmediateOperation × ℕ)) → FormDoes op w o
-        → Makes g (option_map_or (λ (form : ImmediateOperation × ℕ). on_immediate g held target form.0 left form.1) o (on_registers g held target (register_operation op) left (Word w))) h target (operated op x w)
+        → Makes g (option_map_or (λ (form : ImmediateOperation × ℕ). on_immediate g held target form.0 left form.1) o (on_registers g held target (register_operation op) left (Word w))) h target (word_operation op x w)
     by_form None does = on_registers_made g held h target op left (Word w) can write range readable (omega arith)
     by_form (Some f) does =
-        let is : operated_immediate f.0 x f.1 ≡ operated op x w = does x (value_fits g h left range readable) in
+        let is : operated_immediate f.0 x f.1 ≡ word_operation op x w = does x (value_fits g h left range readable) in
         subst (λ v. Makes g (on_immediate g held target f.0 left f.1) h target v) is
         (immediate_made g held h target f.0 left f.1 can write readable (subst (λ v. v < 4294967296) (sym is) (operated_fits op x w (value_fits g h left range readable) fits)))
 
 -- The words of an operation.
 pub operation_made : (g : StorageForm) (held : List Held) (h : Holding) (target : Home) (op : Operation) (left right : Source) → CanFetch g held h → CanWrite g h target → AreInRange h → IsReadable g h left → IsReadable g h right
-    → Makes g (operation_code g held target op left right) h target (operated op (value_of g h left) (value_of g h right))
-operation_made g held h target op (Word a) (Word b) can write range readable also = constant_made g held h target (operated op a b) can write (operated_fits op a b (omega arith) (omega arith))
+    → Makes g (operation_code g held target op left right) h target (word_operation op (value_of g h left) (value_of g h right))
+operation_made g held h target op (Word a) (Word b) can write range readable also = constant_made g held h target (word_operation op a b) can write (operated_fits op a b (omega arith) (omega arith))
 operation_made g held h target op (OfHome a) (Word b) can write range readable also = by_word_made g held h target op (OfHome a) b can write range readable (omega arith)
 operation_made g held h target op (OfHome a) (OfHome b) can write range readable also = on_registers_made g held h target op (OfHome a) (OfHome b) can write range readable also
 operation_made g held h target op (Word a) (OfHome b) can write range readable also = by_test (is_commutative op) refl
@@ -125,7 +125,7 @@ operation_made g held h target op (Word a) (OfHome b) can write range readable a
     y : ℕ
     y = value_of g h (OfHome b)
 
-    by_test : (c : Bool) → is_commutative op ≡ c → Makes g (cond c (by_word g held target op (OfHome b) a) (on_registers g held target (register_operation op) (Word a) (OfHome b))) h target (operated op a y)
+    by_test : (c : Bool) → is_commutative op ≡ c → Makes g (cond c (by_word g held target op (OfHome b) a) (on_registers g held target (register_operation op) (Word a) (OfHome b))) h target (word_operation op a y)
     by_test true is = subst (λ v. Makes g (by_word g held target op (OfHome b) a) h target v) (commutes op y a is) (by_word_made g held h target op (OfHome b) a can write range also (omega arith))
     by_test false is = on_registers_made g held h target op (Word a) (OfHome b) can write range readable also
 

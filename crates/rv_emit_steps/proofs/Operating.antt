@@ -6,13 +6,13 @@ use borrow.Author.Tests.{ltb-false}
 use mir.Val.{sel}
 use lib.IntN.{neg_ℤ}
 use Rattle.std.proofs.lemmas.Nat.{and_le_l, or_lt, xor_lt}
-use Rattle.word_base.specs.Words.{signed, word_of, upper_half, shifted_down, word_of_test}
+use Rattle.word_base.specs.Words.{signed_number, word_of, upper_half, shifted_down, word_of_test}
 use Rattle.rv_code.specs.declared.instruction.ImmediateOperation.{ImmediateOperation}
 use Rattle.rv_code.specs.declared.instruction.ImmediateOperation.TheVariants.{Addi, Slti, Sltiu, Xori, Ori, Andi, Slli, Srli, Srai}
 use Rattle.rv_code.specs.declared.instruction.RegisterOperation.{RegisterOperation}
 use Rattle.rv_code.specs.declared.instruction.RegisterOperation.TheVariants.{Add, Sub, Sll, Slt, Sltu, Xor, Srl, Sra, Or, And, Mul, Mulh, Mulhsu, Mulhu, Div, Divu, Rem, Remu}
 use Rattle.rv_code.specs.InForm.{IsImmediateOf}
-use Rattle.rv_machine.specs.Table.{operated, operated_immediate}
+use Rattle.rv_machine.specs.Table.{operation_result, operated_immediate}
 
 -- A number of which the word is the number itself is below 2^32.
 Below : ℤ → Type 0
@@ -29,7 +29,7 @@ unfolding Below
 word_of_small (pos n) h = h
 word_of_small (negsuc n) h = omega arith
 
-signed_within : (a : ℕ) → a < 4294967296 → Within (signed a)
+signed_within : (a : ℕ) → a < 4294967296 → Within (signed_number a)
 unfolding Within
 signed_within a h = by_test (nat_lt a 2147483648) refl
   where
@@ -94,25 +94,25 @@ chosen_small : (t : Bool) (a b : ℕ) → a < 4294967296 → b < 4294967296 → 
 chosen_small true a b ha hb = ha
 chosen_small false a b ha hb = hb
 
-pub operated_in_range : (op : RegisterOperation) (a b : ℕ) → a < 4294967296 → b < 4294967296 → operated op a b < 4294967296
-unfolding operated
+pub operated_in_range : (op : RegisterOperation) (a b : ℕ) → a < 4294967296 → b < 4294967296 → operation_result op a b < 4294967296
+unfolding operation_result
 operated_in_range Add a b ha hb = omega arith
 operated_in_range Sub a b ha hb = omega arith
 operated_in_range Sll a b ha hb = omega arith
-operated_in_range Slt a b ha hb = test_small (int_lt (signed a) (signed b))
+operated_in_range Slt a b ha hb = test_small (int_lt (signed_number a) (signed_number b))
 operated_in_range Sltu a b ha hb = test_small (nat_lt a b)
 operated_in_range Xor a b ha hb = xor_lt 32 a b ha hb
 operated_in_range Srl a b ha hb = quotient_small a (2 ^ (b % 32)) ha
-operated_in_range Sra a b ha hb = word_of_small (shifted_down (signed a) (b % 32)) (shifted_below (signed a) (b % 32) (signed_within a ha))
+operated_in_range Sra a b ha hb = word_of_small (shifted_down (signed_number a) (b % 32)) (shifted_below (signed_number a) (b % 32) (signed_within a ha))
 operated_in_range Or a b ha hb = or_lt 32 a b ha hb
 operated_in_range And a b ha hb = omega (arith, and_le_l a b)
 operated_in_range Mul a b ha hb = omega arith
-operated_in_range Mulh a b ha hb = upper_half_small (signed a) (signed b) (signed_within a ha) (signed_within b hb)
-operated_in_range Mulhsu a b ha hb = upper_half_small (signed a) (pos b) (signed_within a ha) (unsigned_within b hb)
+operated_in_range Mulh a b ha hb = upper_half_small (signed_number a) (signed_number b) (signed_within a ha) (signed_within b hb)
+operated_in_range Mulhsu a b ha hb = upper_half_small (signed_number a) (pos b) (signed_within a ha) (unsigned_within b hb)
 operated_in_range Mulhu a b ha hb = product_small a b ha hb
-operated_in_range Div a b ha hb = chosen_small (b == 0) 4294967295 (word_of (int_div (signed a) (signed b))) (omega arith) (word_of_small (int_div (signed a) (signed b)) (quotient_below (signed a) (signed b) (signed_within a ha)))
+operated_in_range Div a b ha hb = chosen_small (b == 0) 4294967295 (word_of (int_div (signed_number a) (signed_number b))) (omega arith) (word_of_small (int_div (signed_number a) (signed_number b)) (quotient_below (signed_number a) (signed_number b) (signed_within a ha)))
 operated_in_range Divu a b ha hb = chosen_small (b == 0) 4294967295 (a / b) (omega arith) (quotient_small a b ha)
-operated_in_range Rem a b ha hb = chosen_small (b == 0) a (word_of (int_rem (signed a) (signed b))) ha (word_of_small (int_rem (signed a) (signed b)) (remainder_below (signed a) (signed b) (signed_within a ha)))
+operated_in_range Rem a b ha hb = chosen_small (b == 0) a (word_of (int_rem (signed_number a) (signed_number b))) ha (word_of_small (int_rem (signed_number a) (signed_number b)) (remainder_below (signed_number a) (signed_number b) (signed_within a ha)))
 operated_in_range Remu a b ha hb = chosen_small (b == 0) a (a % b) ha (omega (arith, mod-le a b))
 
 -- An immediate that stands in an instruction is a word.
@@ -136,11 +136,11 @@ immediate_small Srai n h = omega arith
 pub operated_immediate_in_range : (op : ImmediateOperation) (a n : ℕ) → a < 4294967296 → IsImmediateOf op n → operated_immediate op a n < 4294967296
 unfolding operated_immediate
 operated_immediate_in_range Addi a n ha hn = omega arith
-operated_immediate_in_range Slti a n ha hn = test_small (int_lt (signed a) (signed n))
+operated_immediate_in_range Slti a n ha hn = test_small (int_lt (signed_number a) (signed_number n))
 operated_immediate_in_range Sltiu a n ha hn = test_small (nat_lt a n)
 operated_immediate_in_range Xori a n ha hn = xor_lt 32 a n ha (immediate_small Xori n hn)
 operated_immediate_in_range Ori a n ha hn = or_lt 32 a n ha (immediate_small Ori n hn)
 operated_immediate_in_range Andi a n ha hn = omega (arith, and_le_l a n)
 operated_immediate_in_range Slli a n ha hn = omega arith
 operated_immediate_in_range Srli a n ha hn = quotient_small a (2 ^ (n % 32)) ha
-operated_immediate_in_range Srai a n ha hn = word_of_small (shifted_down (signed a) (n % 32)) (shifted_below (signed a) (n % 32) (signed_within a ha))
+operated_immediate_in_range Srai a n ha hn = word_of_small (shifted_down (signed_number a) (n % 32)) (shifted_below (signed_number a) (n % 32) (signed_within a ha))

@@ -7,23 +7,23 @@ use Rattle.std.proofs.lemmas.Nat.{and_mask, and_le_l, and_le_r, and_comm, or_com
 use Rattle.std.proofs.Math.Nat.{mul_comm}
 use Rattle.std.proofs.lemmas.Bool.{eqb-true, eq-eqb, ne_eqb, lt-ltb, le-ltb, cases_lt}
 use mir.Val.{sel}
-use Rattle.word_base.specs.Words.{signed, word_of, shifted_down, word_of_test}
+use Rattle.word_base.specs.Words.{signed_number, word_of, shifted_down, word_of_test}
 use Rattle.word_base.specs.Arithmetic.{subtracted}
-use Rattle.word_base.specs.WordOperations.{operated, truncated}
+use Rattle.word_base.specs.WordOperations.{word_operation, truncated}
 use Rattle.word_base.specs.declared.operation.Operation.{Operation}
 use Rattle.word_base.specs.declared.operation.Operation.TheVariants.{Add, Sub, Mul, Div, Divu, Rem, Remu, Sll, Srl, Sra, And, Or, Xor, Slt, Sltu}
 use Rattle.word_base.specs.declared.operation.Truncation.TheVariants.{Unsigned8, Signed16, Unsigned16, Signed8}
 use Rattle.rv_code.specs.declared.instruction.ImmediateOperation.{ImmediateOperation}
 use Rattle.rv_code.specs.declared.instruction.ImmediateOperation.TheVariants.{Addi, Slti, Sltiu, Xori, Ori, Andi, Slli, Srli, Srai}
 use Rattle.rv_code.specs.declared.instruction.RegisterOperation.TheVariants as on
-use Rattle.rv_machine.specs.Table.{operated as done_on, operated_immediate}
+use Rattle.rv_machine.specs.Table.{operation_result as done_on, operated_immediate}
 use Rattle.rv_emit_words.specs.Constants.{is_small}
 use Rattle.rv_emit_instructions.specs.Operations.{register_operation, is_commutative, power_from, power_of_two, if_small, if_low_power, immediate_form}
 
 -- ---- On two registers
 
-pub register_does : (op : Operation) (a b : ℕ) → done_on (register_operation op) a b ≡ operated op a b
-unfolding done_on operated
+pub register_does : (op : Operation) (a b : ℕ) → done_on (register_operation op) a b ≡ word_operation op a b
+unfolding done_on word_operation
 register_does Add a b = refl
 register_does Sub a b = refl
 register_does Mul a b = refl
@@ -45,7 +45,7 @@ register_does Sltu a b = refl
 -- The operation of an immediate form does of any word what the operation does with a word on the right.
 abbrev pub FormDoes : Operation → (word : ℕ) → Option (ImmediateOperation × ℕ) → Type 0
 FormDoes op w None = Unit {0}
-FormDoes op w (Some f) = (a : ℕ) → a < 4294967296 → operated_immediate f.0 a f.1 ≡ operated op a w
+FormDoes op w (Some f) = (a : ℕ) → a < 4294967296 → operated_immediate f.0 a f.1 ≡ word_operation op a w
 
 -- A word is the power of two that was found, of a number below a limit.
 abbrev IsPower : (word limit : ℕ) → Option ℕ → Type 0
@@ -60,7 +60,7 @@ power_is e (suc n) k w sum = by_test (w == 2 ^ e) refl (power_is (e + 1) n k w (
     by_test true is rest = (eqb-true w (2 ^ e) is, omega arith)
     by_test false is rest = rest
 
-small_does : (op : Operation) (i : ImmediateOperation) (w n : ℕ) → ((a : ℕ) → a < 4294967296 → operated_immediate i a n ≡ operated op a w) → FormDoes op w (if_small i n)
+small_does : (op : Operation) (i : ImmediateOperation) (w n : ℕ) → ((a : ℕ) → a < 4294967296 → operated_immediate i a n ≡ word_operation op a w) → FormDoes op w (if_small i n)
 small_does op i w n does = by_test (is_small n)
   where
     by_test : (b : Bool) → FormDoes op w (cond b (Some (i, n)) None)
@@ -68,7 +68,7 @@ small_does op i w n does = by_test (is_small n)
     by_test false = tt
 
 product_does : (w : ℕ) (o : Option ℕ) → IsPower w 32 o → FormDoes Mul w (option_map (λ e. (Slli, e)) o)
-unfolding operated operated_immediate
+unfolding word_operation operated_immediate
 product_does w None power = tt
 product_does w (Some e) power = λ a fits. (let low : e % 32 ≡ e = omega (arith, power.1) in ap (λ k. a * 2 ^ k % 4294967296) low ∙ ap (λ x. a * x % 4294967296) (sym power.0))
 
@@ -76,13 +76,13 @@ some_power : (e : ℕ) → (2 ^ e == 0) ≡ false
 some_power e = ne_eqb (2 ^ e) 0 (λ h. omega (arith, pow_pos e))
 
 quotient_does : (w : ℕ) (o : Option ℕ) → IsPower w 32 o → FormDoes Divu w (option_map (λ e. (Srli, e)) o)
-unfolding operated operated_immediate
+unfolding word_operation operated_immediate
 quotient_does w None power = tt
 quotient_does w (Some e) power = λ a fits. (let low : e % 32 ≡ e = omega (arith, power.1) in
     ap (λ k. a / 2 ^ k) low ∙ ap (λ b. cond b 4294967295 (a / 2 ^ e)) (sym (some_power e)) ∙ ap (λ x. cond (x == 0) 4294967295 (a / x)) (sym power.0))
 
 remainder_does : (w : ℕ) → w < 4294967296 → (o : Option ℕ) → IsPower w 32 o → FormDoes Remu w (option_map_or (if_low_power w) o None)
-unfolding operated operated_immediate
+unfolding word_operation operated_immediate
 remainder_does w fits None power = tt
 remainder_does w fits (Some e) power = by_test (nat_le e 11)
   where
@@ -94,7 +94,7 @@ remainder_does w fits (Some e) power = by_test (nat_le e 11)
     by_test false = tt
 
 pub form_does : (op : Operation) (w : ℕ) → w < 4294967296 → FormDoes op w (immediate_form op w)
-unfolding operated operated_immediate power_of_two
+unfolding word_operation operated_immediate power_of_two
 form_does Add w fits = small_does Add Addi w w (λ a small. refl)
 form_does Sub w fits = small_does Sub Addi w (subtracted 0 w) (λ a small. omega arith)
 form_does Mul w fits = product_does w (power_of_two w) (power_is 0 32 32 w refl)
@@ -104,7 +104,7 @@ form_does Rem w fits = tt
 form_does Remu w fits = remainder_does w fits (power_of_two w) (power_is 0 32 32 w refl)
 form_does Sll w fits = λ a small. (let low : w % 32 % 32 ≡ w % 32 = omega arith in ap (λ k. a * 2 ^ k % 4294967296) low)
 form_does Srl w fits = λ a small. (let low : w % 32 % 32 ≡ w % 32 = omega arith in ap (λ k. a / 2 ^ k) low)
-form_does Sra w fits = λ a small. (let low : w % 32 % 32 ≡ w % 32 = omega arith in ap (λ k. word_of (shifted_down (signed a) k)) low)
+form_does Sra w fits = λ a small. (let low : w % 32 % 32 ≡ w % 32 = omega arith in ap (λ k. word_of (shifted_down (signed_number a) k)) low)
 form_does And w fits = small_does And Andi w w (λ a small. refl)
 form_does Or w fits = small_does Or Ori w w (λ a small. refl)
 form_does Xor w fits = small_does Xor Xori w w (λ a small. refl)
@@ -112,8 +112,8 @@ form_does Slt w fits = small_does Slt Slti w w (λ a small. refl)
 form_does Sltu w fits = small_does Sltu Sltiu w w (λ a small. refl)
 
 -- Operands that may change places.
-pub commutes : (op : Operation) (a b : ℕ) → is_commutative op ≡ true → operated op a b ≡ operated op b a
-unfolding operated
+pub commutes : (op : Operation) (a b : ℕ) → is_commutative op ≡ true → word_operation op a b ≡ word_operation op b a
+unfolding word_operation
 commutes Add a b h = omega arith
 commutes Sub a b h = cc
 commutes Mul a b h = ap (λ n. n % 4294967296) (mul_comm a b)
@@ -141,7 +141,7 @@ unfolding truncated operated_immediate
 low_half a = omega arith
 
 -- A signed word over a power of two, rounded down.
-shifted_back : (x k : ℕ) → x < 4294967296 → word_of (shifted_down (signed x) k) ≡ cond (nat_lt x 2147483648) (x / 2 ^ k) (4294967295 - (4294967295 - x) / 2 ^ k)
+shifted_back : (x k : ℕ) → x < 4294967296 → word_of (shifted_down (signed_number x) k) ≡ cond (nat_lt x 2147483648) (x / 2 ^ k) (4294967295 - (4294967295 - x) / 2 ^ k)
 shifted_back x k fits = by_test (nat_lt x 2147483648)
   where
     by_test : (b : Bool) → word_of (shifted_down (sel b (pos x) (negsuc (4294967296 - suc x))) k) ≡ cond b (x / 2 ^ k) (4294967295 - (4294967295 - x) / 2 ^ k)

@@ -8,7 +8,7 @@ use Rattle.word_base.specs.Arithmetic.{subtracted}
 use Rattle.rv_code.specs.declared.instruction.Instruction.TheVariants as instruction
 use Rattle.rv_code.specs.declared.instruction.RegisterOperation.TheVariants as on
 use Rattle.rv_machine.specs.State.{word}
-use Rattle.rv_machine.specs.Table.{operated}
+use Rattle.rv_machine.specs.Table.{operation_result}
 use Rattle.graph_core.specs.declared.value.Value.TheVariants.{Pointer, Odd}
 use Rattle.graph_core.specs.Graphs.{Location, Automatic, Static, At, StaticObject}
 use Rattle.graph_core.specs.Values.{pointer_at}
@@ -73,7 +73,7 @@ static_found w h a can fits = by_test (is_small (subtracted a w.storage.base))
 
 -- A byte of the frame.
 frame_found : (h : Holding) (offset : ℕ) → h.registers 2 + offset < 4294967296 → Finds (frame_reach offset) h (h.registers 2 + offset)
-unfolding operated
+unfolding operation_result
 frame_found h offset fits = by_test (nat_lt offset 2048)
   where
     by_test : (b : Bool)

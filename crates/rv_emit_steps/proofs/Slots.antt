@@ -9,7 +9,7 @@ use Rattle.rv_code.specs.declared.instruction.LoadOperation.TheVariants.{Lw}
 use Rattle.rv_code.specs.declared.instruction.StoreOperation.TheVariants.{Sw}
 use Rattle.rv_code.specs.declared.instruction.RegisterOperation.TheVariants.{Add}
 use Rattle.rv_machine.specs.State.{word}
-use Rattle.rv_machine.specs.Table.{operated}
+use Rattle.rv_machine.specs.Table.{operation_result}
 use Rattle.rv_emit_words.specs.Constants.{low_part, high_part}
 use Rattle.rv_emit_words.specs.Operands.{load_slot_code, store_slot_code}
 use Rattle.rv_emit_steps.specs.Holding.{Holding, with_register, word_at, with_bytes, IsDataAt}
@@ -33,7 +33,7 @@ slot_data h offset a slot e =
 
 -- A slot is loaded into a register that is not t0.
 pub slot_brings : (h : Holding) (r offset : ℕ) → 0 < r → HasSlot h offset → Brings (load_slot_code r offset) h r r (word_at h.memory (h.registers 2 + offset))
-unfolding operated
+unfolding operation_result
 slot_brings h r offset some slot = by_test (nat_lt offset 2048)
   where
     far : List Instruction
@@ -66,7 +66,7 @@ slot_brings h r offset some slot = by_test (nat_lt offset 2048)
 
 -- A register that is not t0 is stored in a slot.
 pub slot_stored : (h : Holding) (r offset : ℕ) → r ≢ 5 → HasSlot h offset → Stores (store_slot_code r offset) h (h.registers 2 + offset) (h.registers r)
-unfolding operated
+unfolding operation_result
 slot_stored h r offset apart slot = by_test (nat_lt offset 2048)
   where
     far : List Instruction

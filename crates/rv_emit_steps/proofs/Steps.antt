@@ -1,7 +1,7 @@
 -- Where the words of an instruction that goes straight on stand in the code, the machine does the unit's step.
 use Rattle.std.proofs.Common.{slice_get, ◌≡◌, ℕ, ◌+◌, ◌*◌, ap, ◌∙◌, Option, Some, None, sym, subst, refl, List, ◌∷◌, length, Bool}
 use Rattle.std.specs.Prelude.{option_and_then, option_map}
-use Rattle.rv_machine.specs.State.{State}
+use Rattle.rv_machine.specs.State.{MachineState}
 use Rattle.graph_core.specs.Graphs.{Instruction, Marker, Note, Move, Operate, Truncate, Same, Address, Load, Store, Zero, CopyWords, Call}
 use Rattle.graph_core.specs.Memory.{Memory, zeroed, copied}
 use Rattle.graph_core.specs.Runs.{Configuration, Goes, step, step_from, with_memory}
@@ -63,7 +63,7 @@ step_done w c h x rest storage frame range is valid straight =
     (straight_does w (going_on c rest) h storage (rest_framed w c h rest frame) range x valid straight)
 
 -- Where the words stand that set an object to zero, the machine comes behind them, in at most as many instructions as they are and three for each word, unseen, and holds the frame of the configuration to which the step leads.
-pub zero_arrives : (p : Program) (s : State) (index : ℕ) (b : Bool) (w : Setting) (c d : Configuration) (h : Holding) (object words : ℕ) (rest : List Instruction) → IsStorage w → HoldsFrame w c h → Stands p s index h
+pub zero_arrives : (p : Program) (s : MachineState) (index : ℕ) (b : Bool) (w : Setting) (c d : Configuration) (h : Holding) (object words : ℕ) (rest : List Instruction) → IsStorage w → HoldsFrame w c h → Stands p s index h
     → CodeAt p index b (zero_code w.storage object words) → c.here.rest ≡ placed_instruction (home_at w.storage) (Zero object words) ∷ rest → IsInstruction w.unit w.graph (Zero object words) → step w.unit c ≡ Goes d
     → Comes p s index b (length (zero_code w.storage object words) + 3 * words) (zero_code w.storage object words) w c.memory h d
 zero_arrives p s index b w c d h object words rest storage frame stands there is valid goes =
@@ -78,7 +78,7 @@ zero_arrives p s index b w c d h object words rest storage frame stands there is
         (zero_comes p s index b w (going_on c rest) h storage (rest_framed w c h rest frame) object words later valid stands made there)
 
 -- The same of the words that copy an array's bytes, with five instructions for each word.
-pub copy_arrives : (p : Program) (s : State) (index : ℕ) (b : Bool) (w : Setting) (c d : Configuration) (h : Holding) (object bytes words : ℕ) (rest : List Instruction) → IsStorage w → HoldsFrame w c h → Stands p s index h
+pub copy_arrives : (p : Program) (s : MachineState) (index : ℕ) (b : Bool) (w : Setting) (c d : Configuration) (h : Holding) (object bytes words : ℕ) (rest : List Instruction) → IsStorage w → HoldsFrame w c h → Stands p s index h
     → CodeAt p index b (copy_code w.storage w.held object bytes words) → c.here.rest ≡ placed_instruction (home_at w.storage) (CopyWords object bytes words) ∷ rest → IsInstruction w.unit w.graph (CopyWords object bytes words) → step w.unit c ≡ Goes d
     → Comes p s index b (length (copy_code w.storage w.held object bytes words) + 5 * words) (copy_code w.storage w.held object bytes words) w c.memory h d
 copy_arrives p s index b w c d h object bytes words rest storage frame stands code is valid goes =

@@ -9,9 +9,9 @@ use Rattle.memory_map.specs.Maps.{bytes_end, bytes_size, bytes_start, code_start
 use Rattle.memory_map.proofs.Facts.{map_facts}
 use Rattle.rv_code.specs.declared.instruction.StoreOperation.{StoreOperation}
 use Rattle.rv_code.specs.declared.instruction.StoreOperation.TheVariants.{Sb, Sh, Sw}
-use Rattle.rv_machine.specs.State.{State}
+use Rattle.rv_machine.specs.State.{MachineState}
 use Rattle.rv_machine.specs.Memory.{with_half, with_word}
-use Rattle.rv_machine.specs.Table.{location_of, stored, stored_in, store_size}
+use Rattle.rv_machine.specs.Table.{location_of, store_result, stored_in, store_size}
 use Rattle.rv_machine.proofs.Laws.{length_stored_in}
 use Rattle.rv_machine.proofs.Memory.{written_bytes, byte_other}
 use Rattle.rv_machine.proofs.Narrow.{byte_in_with_byte, byte_in_other, byte_in_with_half_other}
@@ -97,9 +97,9 @@ memory_with_stack m n xs ys bytes a v low h = written_memory n a v (memory_of m 
         (cases_lt b (bytes_start m))
 
 -- A store that is carried out: the state behind it differs in memory alone, and by the bytes that were written.
-pub record Stored (s : State) (op : StoreOperation) (a v : ℕ) : Type 0 where
-  pub state : State
-  pub is : stored s op a v ≡ Some state
+pub record Stored (s : MachineState) (op : StoreOperation) (a v : ℕ) : Type 0 where
+  pub state : MachineState
+  pub is : store_result s op a v ≡ Some state
   pub code : state.code ≡ s.code
   pub map : state.map ≡ s.map
   pub registers : state.registers ≡ s.registers
@@ -114,9 +114,9 @@ store_size_few Sh = (omega arith, omega arith)
 store_size_few Sw = (omega arith, omega arith)
 
 -- A store at an address of static memory or of the stack is carried out.
-pub stores : (s : State) (op : StoreOperation) (a v : ℕ) → length s.code ≤ most_words s.map → length s.bytes ≡ bytes_size → length s.stack ≡ stack_size
+pub stores : (s : MachineState) (op : StoreOperation) (a v : ℕ) → length s.code ≤ most_words s.map → length s.bytes ≡ bytes_size → length s.stack ≡ stack_size
     → IsDataAt s.map (store_size op) a → Stored s op a v
-unfolding stored location_of
+unfolding store_result location_of
 stores s op a v short bytes stack (aligned, inl (low, high)) =
     let few = store_size_few op in
     let code = (map_facts s.map).code in

@@ -7,14 +7,14 @@ use mir.Val.{sel}
 use Rattle.memory_map.specs.declared.map.Map.{Map}
 use Rattle.memory_map.specs.Maps.{bytes_end, bytes_start, stack_end, stack_start}
 use Rattle.memory_map.proofs.Facts.{map_facts}
-use Rattle.word_base.specs.Words.{signed, word_of_test}
-use Rattle.word_base.specs.WordOperations.{operated, truncated}
+use Rattle.word_base.specs.Words.{signed_number, word_of_test}
+use Rattle.word_base.specs.WordOperations.{word_operation, truncated}
 use Rattle.word_base.specs.declared.operation.Operation.{Operation}
 use Rattle.word_base.specs.declared.operation.Operation.TheVariants.{Add, Sub, Mul, Div, Divu, Rem, Remu, Sll, Srl, Sra, And, Or, Xor, Slt, Sltu}
 use Rattle.word_base.specs.declared.operation.Truncation.{Truncation}
 use Rattle.graph_core.specs.declared.value.Value.{Value}
 use Rattle.graph_core.specs.declared.value.Value.TheVariants.{Number, Pointer, Odd}
-use Rattle.graph_core.specs.Values.{word, truth, pointer_at, moved_by, moving, between, operate, truncate, same}
+use Rattle.graph_core.specs.Values.{word, truth_word, pointer_at, moved_by, moving, between, operate, truncate, same}
 use Rattle.graph_core.specs.Memory.{Memory, Object, bytes_of, is_live}
 use Rattle.rv_emit_steps.specs.Meaning.{size_at, Means, AreLaid}
 
@@ -58,7 +58,7 @@ module _ {m : Map} (addresses : ℕ → ℕ) (memory : Memory) (laid : AreLaid m
       by_test true e = let le : offset ≤ size = leb-true offset size e in (at, le, is le)
       by_test false e = tt
 
-  test_means : (b c : Bool) (w : ℕ) → b ≡ c → w ≡ word_of_test c → Means addresses memory (truth b) w
+  test_means : (b c : Bool) (w : ℕ) → b ≡ c → w ≡ word_of_test c → Means addresses memory (truth_word b) w
   test_means true true w e is = is
   test_means false false w e is = is
   test_means true false w e is = cc
@@ -81,11 +81,11 @@ module _ {m : Map} (addresses : ℕ → ℕ) (memory : Memory) (laid : AreLaid m
   same_order : (a m n : ℕ) → nat_lt m n ≡ nat_lt (a + m) (a + n)
   same_order a m n = ⊎_elim (λ (l : m < n). lt-ltb m n l ∙ sym (lt-ltb (a + m) (a + n) (omega arith))) (λ (g : n ≤ m). le-ltb m n g ∙ sym (le-ltb (a + m) (a + n) (omega arith))) (cases_lt m n)
 
-  signed_low : (x : ℕ) → x < 2147483648 → signed x ≡ pos x
+  signed_low : (x : ℕ) → x < 2147483648 → signed_number x ≡ pos x
   signed_low x low = ap (λ b. sel b (pos x) (negsuc (4294967296 - suc x))) (lt-ltb x 2147483648 low)
 
-  between_means : (o : Operation) (object size m n x y : ℕ) → Means addresses memory (Pointer object size m) x → Means addresses memory (Pointer object size n) y → Means addresses memory (between o m n) (operated o x y)
-  unfolding operated
+  between_means : (o : Operation) (object size m n x y : ℕ) → Means addresses memory (Pointer object size m) x → Means addresses memory (Pointer object size n) y → Means addresses memory (between o m n) (word_operation o x y)
+  unfolding word_operation
   between_means Sub object size m n x y (at, le, is) (at2, le2, is2) =
       let low = lies_low addresses memory object size laid at in
       let l = low.0 in let r = low.1 in
@@ -94,7 +94,7 @@ module _ {m : Map} (addresses : ℕ → ℕ) (memory : Memory) (laid : AreLaid m
       let low = lies_low addresses memory object size laid at in
       let l = low.0 in let r = low.1 in
       test_means (nat_lt m n) (nat_lt x y) _ (same_order (addresses object) m n ∙ ap (λ p. nat_lt p (addresses object + n)) (sym is) ∙ ap (nat_lt x) (sym is2))
-      (ap (λ p. word_of_test (int_lt p (signed y))) (signed_low x (omega arith)) ∙ ap (λ p. word_of_test (int_lt (pos x) p)) (signed_low y (omega arith)))
+      (ap (λ p. word_of_test (int_lt p (signed_number y))) (signed_low x (omega arith)) ∙ ap (λ p. word_of_test (int_lt (pos x) p)) (signed_low y (omega arith)))
   between_means Sltu object size m n x y (at, le, is) (at2, le2, is2) = test_means (nat_lt m n) (nat_lt x y) _ (same_order (addresses object) m n ∙ ap (λ p. nat_lt p (addresses object + n)) (sym is) ∙ ap (nat_lt x) (sym is2)) refl
   between_means Add object size m n x y a b = tt
   between_means Mul object size m n x y a b = tt
@@ -109,8 +109,8 @@ module _ {m : Map} (addresses : ℕ → ℕ) (memory : Memory) (laid : AreLaid m
   between_means Or object size m n x y a b = tt
   between_means Xor object size m n x y a b = tt
 
-  moved_means : (o : Operation) (object size offset by x : ℕ) → Means addresses memory (Pointer object size offset) x → by < 4294967296 → Means addresses memory (moved_by o object size offset by) (operated o x by)
-  unfolding operated
+  moved_means : (o : Operation) (object size offset by x : ℕ) → Means addresses memory (Pointer object size offset) x → by < 4294967296 → Means addresses memory (moved_by o object size offset by) (word_operation o x by)
+  unfolding word_operation
   moved_means Add object size offset by x a fits = sum_means object size offset by x a fits
   moved_means Sub object size offset by x a fits = difference_means object size offset by x a fits
   moved_means Mul object size offset by x a fits = tt
@@ -127,8 +127,8 @@ module _ {m : Map} (addresses : ℕ → ℕ) (memory : Memory) (laid : AreLaid m
   moved_means Slt object size offset by x a fits = tt
   moved_means Sltu object size offset by x a fits = tt
 
-  moving_means : (o : Operation) (object size offset by x : ℕ) → Means addresses memory (Pointer object size offset) x → by < 4294967296 → Means addresses memory (moving o by object size offset) (operated o by x)
-  unfolding operated
+  moving_means : (o : Operation) (object size offset by x : ℕ) → Means addresses memory (Pointer object size offset) x → by < 4294967296 → Means addresses memory (moving o by object size offset) (word_operation o by x)
+  unfolding word_operation
   moving_means Add object size offset by x a fits =
       let e : (x + by) % 4294967296 ≡ (by + x) % 4294967296 = omega arith in
       subst (λ w. Means addresses memory (pointer_at object size (word (offset + by))) w) e (sum_means object size offset by x a fits)
@@ -153,14 +153,14 @@ module _ {m : Map} (addresses : ℕ → ℕ) (memory : Memory) (laid : AreLaid m
       (at, subst (λ s. n ≤ s) sizes le, is ∙ ap (λ k. addresses k + n) (sym one))
 
   -- What an operation makes of two values.
-  pub operation_means : (o : Operation) (a b : Value) (x y : ℕ) → x < 4294967296 → y < 4294967296 → Means addresses memory a x → Means addresses memory b y → Means addresses memory (operate o a b) (operated o x y)
-  operation_means o (Number a) (Number b) x y hx hy ma mb = ap (λ n. operated o n y) ma ∙ ap (operated o a) mb
-  operation_means o (Number a) (Pointer object size n) x y hx hy ma mb = subst (λ k. Means addresses memory (moving o k object size n) (operated o x y)) ma (moving_means o object size n x y mb hx)
+  pub operation_means : (o : Operation) (a b : Value) (x y : ℕ) → x < 4294967296 → y < 4294967296 → Means addresses memory a x → Means addresses memory b y → Means addresses memory (operate o a b) (word_operation o x y)
+  operation_means o (Number a) (Number b) x y hx hy ma mb = ap (λ n. word_operation o n y) ma ∙ ap (word_operation o a) mb
+  operation_means o (Number a) (Pointer object size n) x y hx hy ma mb = subst (λ k. Means addresses memory (moving o k object size n) (word_operation o x y)) ma (moving_means o object size n x y mb hx)
   operation_means o (Number a) Odd x y hx hy ma mb = tt
-  operation_means o (Pointer object size m) (Number b) x y hx hy ma mb = subst (λ k. Means addresses memory (moved_by o object size m k) (operated o x y)) mb (moved_means o object size m y x ma hy)
+  operation_means o (Pointer object size m) (Number b) x y hx hy ma mb = subst (λ k. Means addresses memory (moved_by o object size m k) (word_operation o x y)) mb (moved_means o object size m y x ma hy)
   operation_means o (Pointer object size m) (Pointer other size' n) x y hx hy ma mb = by_test (object == other) refl
     where
-      by_test : (b : Bool) → (object == other) ≡ b → Means addresses memory (cond b (between o m n) Odd) (operated o x y)
+      by_test : (b : Bool) → (object == other) ≡ b → Means addresses memory (cond b (between o m n) Odd) (word_operation o x y)
       by_test true is =
           let one : object ≡ other = eqb-true object other is in
           between_means o object size m n x y ma (same_object object size other size' n y one ma.0 mb)
@@ -213,7 +213,7 @@ module _ {m : Map} (addresses : ℕ → ℕ) (memory : Memory) (laid : AreLaid m
       by_test false e = tt
   same_means (Pointer object size m) (Pointer other size' n) x y (at, le, is) (at2, le2, is2) = by_test (is_live memory object) (is_live memory other) refl refl
     where
-      by_test : (c d : Bool) → is_live memory object ≡ c → is_live memory other ≡ d → Means addresses memory (cond (c && d) (truth (object == other && m == n)) Odd) (word_of_test (x == y))
+      by_test : (c d : Bool) → is_live memory object ≡ c → is_live memory other ≡ d → Means addresses memory (cond (c && d) (truth_word (object == other && m == n)) Odd) (word_of_test (x == y))
       by_test true true ec ed = test_means (object == other && m == n) (x == y) _ (by_object (object == other) refl) refl
         where
           by_object : (c : Bool) → (object == other) ≡ c → (c && m == n) ≡ (x == y)

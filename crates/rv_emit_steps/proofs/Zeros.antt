@@ -11,7 +11,7 @@ use Rattle.rv_code.specs.declared.instruction.StoreOperation.TheVariants.{Sw}
 use Rattle.rv_code.specs.declared.instruction.ImmediateOperation.TheVariants.{Addi}
 use Rattle.rv_code.specs.declared.instruction.RegisterOperation.TheVariants.{Add}
 use Rattle.rv_emit_words.specs.Constants.{low_part, high_part}
-use Rattle.rv_machine.specs.State.{State}
+use Rattle.rv_machine.specs.State.{MachineState}
 use Rattle.graph_core.specs.declared.value.Value.{Value}
 use Rattle.graph_core.specs.declared.value.Value.TheVariants.{Number}
 use Rattle.graph_core.specs.declared.instruction.Element.{Element}
@@ -138,7 +138,7 @@ module _ (w : Setting) (c : Configuration) (h : Holding) (storage : IsStorage w)
 
 -- The machine comes behind the words of an instruction, in at most so many instructions, unseen, and holds the frame of a configuration. Registers but t0 to t2 and a0, and the input, are as they were,
 -- and so is memory outside of the slots and of the words of the objects that lived before.
-pub record Comes (p : Program) (s : State) (index : ℕ) (b : Bool) (most : ℕ) (code : List Instruction) (w : Setting) (before : Memory) (h : Holding) (d : Configuration) : Type 0 where
+pub record Comes (p : Program) (s : MachineState) (index : ℕ) (b : Bool) (most : ℕ) (code : List Instruction) (w : Setting) (before : Memory) (h : Holding) (d : Configuration) : Type 0 where
   pub count : ℕ
   pub few : count ≤ most
   pub holding : Holding
@@ -190,7 +190,7 @@ set_up h limit offset words some n6 n2 n0 none fits =
 
 -- ---- Zero
 
-module _ (p : Program) (s : State) (index : ℕ) (b : Bool) (w : Setting) (c : Configuration) (h : Holding) (storage : IsStorage w) (frame : HoldsFrame w c h) (object words : ℕ) (later : Memory) (valid : object < length w.graph.objects)
+module _ (p : Program) (s : MachineState) (index : ℕ) (b : Bool) (w : Setting) (c : Configuration) (h : Holding) (storage : IsStorage w) (frame : HoldsFrame w c h) (object words : ℕ) (later : Memory) (valid : object < length w.graph.objects)
     (stands : Stands p s index h) (made : zeroed c.memory (c.here.first_object + object) words ≡ Some later) where
   is_filled : IsFilled c.memory (c.here.first_object + object) words (λ o. replicate (4 * words / size_of o.element) (Number 0)) later
   is_filled = filled_is c.memory (c.here.first_object + object) words (λ o. replicate (4 * words / size_of o.element) (Number 0)) later made

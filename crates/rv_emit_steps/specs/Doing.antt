@@ -3,7 +3,7 @@ use Rattle.std.specs.Prelude.{ℕ, ◌+◌, ◌*◌, List, [], ◌∷◌}
 use Rattle.rv_code.specs.declared.instruction.Instruction.{Instruction}
 use Rattle.rv_code.specs.declared.instruction.Instruction.TheVariants.{Lui, Auipc, Jal, Jalr, Branch, Load, Store, Immediate, Register, Fence, Ecall, Ebreak}
 use Rattle.rv_machine.specs.State.{word}
-use Rattle.rv_machine.specs.Table.{operated, operated_immediate, load_size, store_size}
+use Rattle.rv_machine.specs.Table.{operation_result, operated_immediate, load_size, store_size}
 use Rattle.rv_emit_steps.specs.Holding.{Holding, with_register, with_bytes, loaded_at, IsDataAt}
 
 -- A value is written to a register.
@@ -14,7 +14,8 @@ writing r v h = record h { registers = with_register r v h.registers }
 abbrev pub storing : (size address value : ℕ) → Holding → Holding
 storing n a v h = record h { memory = with_bytes n a v h.memory }
 
--- What one of these instructions makes of what the machine holds. The others, which may go elsewhere or be seen, are not told of here.
+-- What one of these instructions makes of what the machine holds. The others, which may go elsewhere or be seen, are
+-- not told of here.
 abbrev pub done_by : Instruction → Holding → Holding
 done_by (Lui r n) h = writing r (n * 4096) h
 done_by (Auipc r n) h = h
@@ -24,7 +25,7 @@ done_by (Branch op a b n) h = h
 done_by (Load op r a n) h = writing r (loaded_at op h.memory (word (h.registers a + n))) h
 done_by (Store op b a n) h = storing (store_size op) (word (h.registers a + n)) (h.registers b) h
 done_by (Immediate op r a n) h = writing r (operated_immediate op (h.registers a) n) h
-done_by (Register op r a b) h = writing r (operated op (h.registers a) (h.registers b)) h
+done_by (Register op r a b) h = writing r (operation_result op (h.registers a) (h.registers b)) h
 done_by (Fence r a n) h = h
 done_by Ecall h = h
 done_by Ebreak h = h

@@ -11,7 +11,8 @@ use Rattle.rv_emit_storage.specs.Storages.{StorageForm, slot_at}
 use Rattle.rv_emit_steps.specs.Holding.{Holding, word_at, with_bytes}
 use Rattle.rv_emit_steps.specs.Doing.{done_by_all, CanDoAll}
 
--- Behind the words a register holds a value. No other register but t0, which is 5, and one more is written, and memory and input are as they were.
+-- Behind the words a register holds a value. No other register but t0, which is 5, and one more is written, and memory
+-- and input are as they were.
 pub record Brings (code : List Instruction) (h : Holding) (written r v : ℕ) : Type 0 where
   pub can : CanDoAll code h
   pub value : (done_by_all code h).registers r ≡ v
@@ -19,7 +20,8 @@ pub record Brings (code : List Instruction) (h : Holding) (written r v : ℕ) : 
   pub memory : (done_by_all code h).memory ≡ h.memory
   pub input : (done_by_all code h).input ≡ h.input
 
--- Behind the words a word of memory is a value. No register but t0 is written, and the rest of memory and the input are as they were.
+-- Behind the words a word of memory is a value. No register but t0 is written, and the rest of memory and the input are
+-- as they were.
 pub record Stores (code : List Instruction) (h : Holding) (address v : ℕ) : Type 0 where
   pub can : CanDoAll code h
   pub kept : (q : ℕ) → q ≢ 5 → (done_by_all code h).registers q ≡ h.registers q
@@ -62,7 +64,8 @@ abbrev pub memory_with : StorageForm → Holding → Home → (value : ℕ) → 
 memory_with g h (Register r) v = h.memory
 memory_with g h (Slot k) v = with_bytes 4 (h.registers 2 + slot_at g k) v h.memory
 
--- Behind the words a home holds a value. No other register but t0 is written, and the rest of memory and the input are as they were.
+-- Behind the words a home holds a value. No other register but t0 is written, and the rest of memory and the input are
+-- as they were.
 pub record Writes (g : StorageForm) (code : List Instruction) (h : Holding) (home : Home) (v : ℕ) : Type 0 where
   pub can : CanDoAll code h
   pub value : value_of_home g (done_by_all code h) home ≡ v
@@ -99,7 +102,8 @@ pub record CanFetch (g : StorageForm) (held : List Held) (h : Holding) : Type 0 
   pub all : HoldsAll held h
   pub left : AreLeft held
 
--- Behind the words a register holds a value. No other register but t0 to t2 is written, and memory and input are as they were.
+-- Behind the words a register holds a value. No other register but t0 to t2 is written, and memory and input are as
+-- they were.
 pub record Computes (code : List Instruction) (h : Holding) (r v : ℕ) : Type 0 where
   pub can : CanDoAll code h
   pub value : (done_by_all code h).registers r ≡ v
@@ -107,7 +111,8 @@ pub record Computes (code : List Instruction) (h : Holding) (r v : ℕ) : Type 0
   pub memory : (done_by_all code h).memory ≡ h.memory
   pub input : (done_by_all code h).input ≡ h.input
 
--- Behind the words a home holds a value. No other register but t0 to t2 is written, and the rest of memory and the input are as they were.
+-- Behind the words a home holds a value. No other register but t0 to t2 is written, and the rest of memory and the
+-- input are as they were.
 pub record Makes (g : StorageForm) (code : List Instruction) (h : Holding) (home : Home) (v : ℕ) : Type 0 where
   pub can : CanDoAll code h
   pub value : value_of_home g (done_by_all code h) home ≡ v

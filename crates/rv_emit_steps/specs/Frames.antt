@@ -17,8 +17,8 @@ use Rattle.rv_emit_steps.specs.Doing.{done_by_all, CanDoAll}
 use Rattle.rv_emit_steps.specs.EmitMovesDoing.{CanFetch, IsLeft, IsNoHome, value_of_home}
 use Rattle.rv_emit_steps.specs.Meaning.{size_at, Means, HoldsObjects, AreLaid}
 
--- What the code of a function rests on: its unit, its graph, where it finds values, how many slots and how many bytes its frame has, which constants scratch
--- registers hold, and the addresses of objects.
+-- What the code of a function rests on: its unit, its graph, where it finds values, how many slots and how many bytes
+-- its frame has, which constants scratch registers hold, and the addresses of objects.
 pub record Setting : Type 0 where
   pub unit : UnitForm
   pub graph : Graph
@@ -43,18 +43,21 @@ abbrev pub AreScratch : List Held → Type 0
 AreScratch [] = Unit {0}
 AreScratch (x ∷ more) = IsScratch x.register × AreScratch more
 
--- The bytes that initialise an array stand in static memory, with zeros behind them up to a whole word, and apart from all live objects.
+-- The bytes that initialise an array stand in static memory, with zeros behind them up to a whole word, and apart from
+-- all live objects.
 pub record HasArray (w : Setting) (memory : Memory) (m : ℕ → ℕ) (n : ℕ) (all : List ℕ) : Type 0 where
   pub aligned : array_bytes_at w.storage n % 4 ≡ 0
   pub low : bytes_start (map_of_unit w.unit) ≤ array_bytes_at w.storage n
   pub high : array_bytes_at w.storage n + 4 * words_of (length all) ≤ bytes_end (map_of_unit w.unit)
   pub bytes : (i : ℕ) → i < 4 * words_of (length all) → m (array_bytes_at w.storage n + i) ≡ slice_index all i
   pub apart : (k : ℕ) (o : Object) → slice_get memory k ≡ Some o → o.live ≡ true
-      → (w.addresses k + 4 * words_of (bytes_of o) ≤ array_bytes_at w.storage n) ⊎ (array_bytes_at w.storage n + 4 * words_of (length all) ≤ w.addresses k)
+      → (w.addresses k + 4 * words_of (bytes_of o) ≤ array_bytes_at w.storage n)
+      ⊎ (array_bytes_at w.storage n + 4 * words_of (length all) ≤ w.addresses k)
 
--- The machine holds the innermost activation of a configuration: its regions lie as the unit's map has them, its frame stands at sp, its homes hold words that mean the values of their names, which are their numbers, and the live
--- objects of all activations what they hold. None of these lies in the part of the frame below its objects.
--- Static objects and the bytes that initialise arrays stand at their addresses.
+-- The machine holds the innermost activation of a configuration: its regions lie as the unit's map has them, its frame
+-- stands at sp, its homes hold words that mean the values of their names, which are their numbers, and the live objects
+-- of all activations what they hold. None of these lies in the part of the frame below its objects. Static objects and
+-- the bytes that initialise arrays stand at their addresses.
 pub record HoldsFrame (w : Setting) (c : Configuration) (h : Holding) : Type 0 where
   pub fetch : CanFetch w.storage w.held h
   pub scratch : AreScratch w.held
@@ -62,13 +65,16 @@ pub record HoldsFrame (w : Setting) (c : Configuration) (h : Holding) : Type 0 w
   pub map : h.regions ≡ map_of_unit w.unit
   pub low : stack_start (map_of_unit w.unit) ≤ h.registers 2
   pub high : h.registers 2 + w.size ≤ stack_end (map_of_unit w.unit)
-  pub homes : (home : Home) → IsHomeAmong w.slots home → Means w.addresses c.memory (c.here.names (home_number home)) (value_of_home w.storage h home)
+  pub homes : (home : Home) → IsHomeAmong w.slots home
+      → Means w.addresses c.memory (c.here.names (home_number home)) (value_of_home w.storage h home)
   pub objects : HoldsObjects w.addresses c.memory h.memory
   pub laid : AreLaid (map_of_unit w.unit) w.addresses c.memory
   pub free : (n : ℕ) (o : Object) → slice_get c.memory n ≡ Some o → o.live ≡ true
       → (w.addresses n + bytes_of o ≤ h.registers 2) ⊎ (h.registers 2 + (w.storage.slots + 4 * w.slots) ≤ w.addresses n)
-  pub own : (k : ℕ) → k < length w.graph.objects → w.addresses (c.here.first_object + k) ≡ h.registers 2 + object_at w.storage k
-  pub static : (n : ℕ) (o : StaticObject) → slice_get w.unit.statics n ≡ Some o → (size_at c.memory n ≡ Some (static_bytes o)) × (w.addresses n ≡ static_object_at w.storage n)
+  pub own : (k : ℕ) → k < length w.graph.objects
+      → w.addresses (c.here.first_object + k) ≡ h.registers 2 + object_at w.storage k
+  pub static : (n : ℕ) (o : StaticObject) → slice_get w.unit.statics n ≡ Some o
+      → (size_at c.memory n ≡ Some (static_bytes o)) × (w.addresses n ≡ static_object_at w.storage n)
   pub arrays : (n : ℕ) (all : List ℕ) → slice_get w.unit.array_bytes n ≡ Some all → HasArray w c.memory h.memory n all
 
 -- ---- Steps
@@ -77,16 +83,20 @@ pub record HoldsFrame (w : Setting) (c : Configuration) (h : Holding) : Type 0 w
 abbrev pub IsOutside : Setting → Configuration → Holding → (address : ℕ) → Type 0
 IsOutside w c h b =
     ((b < h.registers 2 + w.storage.slots) ⊎ (h.registers 2 + (w.storage.slots + 4 * w.slots) ≤ b))
-    × ((n : ℕ) (o : Object) → slice_get c.memory n ≡ Some o → o.live ≡ true → (b < w.addresses n) ⊎ (w.addresses n + 4 * words_of (bytes_of o) ≤ b))
+    ×
+    ((n : ℕ) (o : Object) → slice_get c.memory n ≡ Some o → o.live ≡ true
+    → (b < w.addresses n) ⊎ (w.addresses n + 4 * words_of (bytes_of o) ≤ b))
 
 -- A register is not the home that is written, if one is.
 abbrev pub IsNoTarget : Option Home → (register : ℕ) → Type 0
 IsNoTarget None q = Unit {0}
 IsNoTarget (Some home) q = IsNoHome home q
 
--- Code leads from one configuration to another: it can be done, and behind it the machine holds the other. It leaves registers, but t0 to t2 and the home that is written, memory
--- outside of the slots and of the words of live objects, and the input.
-pub record Performs (w : Setting) (c : Configuration) (h : Holding) (target : Option Home) (code : List MachineInstruction) (d : Configuration) : Type 0 where
+-- Code leads from one configuration to another: it can be done, and behind it the machine holds the other. It leaves
+-- registers, but t0 to t2 and the home that is written, memory outside of the slots and of the words of live objects,
+-- and the input.
+pub record Performs (w : Setting) (c : Configuration) (h : Holding) (target : Option Home)
+    (code : List MachineInstruction) (d : Configuration) : Type 0 where
   pub can : CanDoAll code h
   pub frame : HoldsFrame w d (done_by_all code h)
   pub kept : (q : ℕ) → IsNoTarget target q → IsLeft q → (done_by_all code h).registers q ≡ h.registers q

@@ -5,10 +5,11 @@ use Rattle.rv_code.specs.declared.instruction.LoadOperation.{LoadOperation}
 use Rattle.rv_code.specs.declared.instruction.LoadOperation.TheVariants.{Lb, Lh, Lw, Lbu, Lhu}
 use Rattle.memory_map.specs.declared.map.Map.{Map}
 use Rattle.memory_map.specs.Maps.{bytes_start, bytes_end, stack_start, stack_end}
-use Rattle.rv_machine.specs.State.{State, reg}
+use Rattle.rv_machine.specs.State.{MachineState, reg}
 use Rattle.rv_machine.specs.Table.{signed_byte, signed_half}
 
--- The word of each register, the byte at each address of static memory and of the stack, the input that is left, and where the regions of memory lie.
+-- The word of each register, the byte at each address of static memory and of the stack, the input that is left, and
+-- where the regions of memory lie.
 pub record Holding : Type 0 where
   pub registers : ℕ → ℕ
   pub memory : ℕ → ℕ
@@ -23,7 +24,7 @@ memory_of m bytes stack a =
     else slice_index stack (a - stack_start m)
 
 -- What a state of the machine holds.
-abbrev pub held : State → Holding
+abbrev pub held : MachineState → Holding
 held s = record { registers = reg s; memory = memory_of s.map s.bytes s.stack; input = s.input; regions = s.map }
 
 -- Register 0 holds 0, each register a word, each byte of memory and of the input a byte.

@@ -12,11 +12,12 @@ use Rattle.rv_emit_steps.specs.Holding.{half_at, word_at}
 abbrev pub size_at : Memory → (object : ℕ) → Option ℕ
 size_at memory n = option_map bytes_of (slice_get memory n)
 
--- A word is that of a value, where objects have addresses: a pointer's is an address in its object or directly behind it, also where the object has ended.
--- Nothing is said of what is not known.
+-- A word is that of a value, where objects have addresses: a pointer's is an address in its object or directly behind
+-- it, also where the object has ended. Nothing is said of what is not known.
 abbrev pub Means : (addresses : ℕ → ℕ) → Memory → Value → (word : ℕ) → Type 0
 Means addresses memory (Number n) w = w ≡ n
-Means addresses memory (Pointer object size offset) w = (size_at memory object ≡ Some size) × (offset ≤ size) × (w ≡ addresses object + offset)
+Means addresses memory (Pointer object size offset) w =
+    (size_at memory object ≡ Some size) × (offset ≤ size) × (w ≡ addresses object + offset)
 Means addresses memory Odd w = Unit {0}
 
 -- ---- Objects
@@ -39,7 +40,9 @@ HoldsBits addresses memory size Odd bits = Unit {0}
 abbrev pub HoldsObjects : (addresses : ℕ → ℕ) → Memory → (ℕ → ℕ) → Type 0
 HoldsObjects addresses memory m =
     (n : ℕ) (o : Object) → slice_get memory n ≡ Some o → o.live ≡ true
-    → (i : ℕ) (v : Value) → slice_get o.values i ≡ Some v → HoldsBits addresses memory (size_of o.element) v (bits_at m (size_of o.element) (addresses n + i * size_of o.element))
+    → (i : ℕ) (v : Value) → slice_get o.values i ≡ Some v
+    → HoldsBits addresses memory (size_of o.element) v
+    (bits_at m (size_of o.element) (addresses n + i * size_of o.element))
 
 -- So many bytes lie in static memory or in the stack, and a word behind them does too.
 abbrev pub IsInMemory : (regions : Map) → (address bytes : ℕ) → Type 0
@@ -49,5 +52,6 @@ IsInMemory m a n = ((bytes_start m ≤ a) × (a + n + 4 ≤ bytes_end m)) ⊎ ((
 pub record AreLaid (regions : Map) (addresses : ℕ → ℕ) (memory : Memory) : Type 0 where
   pub aligned : (n : ℕ) (o : Object) → slice_get memory n ≡ Some o → addresses n % 4 ≡ 0
   pub lie : (n : ℕ) (o : Object) → slice_get memory n ≡ Some o → IsInMemory regions (addresses n) (bytes_of o)
-  pub apart : (m n : ℕ) (o p : Object) → m ≢ n → slice_get memory m ≡ Some o → slice_get memory n ≡ Some p → o.live ≡ true → p.live ≡ true
+  pub apart : (m n : ℕ) (o p : Object) → m ≢ n → slice_get memory m ≡ Some o → slice_get memory n ≡ Some p
+      → o.live ≡ true → p.live ≡ true
       → (addresses m + bytes_of o < addresses n) ⊎ (addresses n + bytes_of p < addresses m)

@@ -5,7 +5,7 @@ use Rattle.memory_map.specs.Maps.{bytes_size, code_start, most_words, stack_size
 use Rattle.rv_code.specs.declared.instruction.Instruction.{Instruction}
 use Rattle.rv_code.specs.InForm.{IsInForm}
 use Rattle.rv_code.specs.Encoding.{encoded}
-use Rattle.rv_machine.specs.State.{State, word}
+use Rattle.rv_machine.specs.State.{MachineState, word}
 use Rattle.rv_machine.specs.Run.{is_stop}
 use Rattle.rv_emit_steps.specs.Holding.{Holding, held, AreInRange}
 
@@ -30,7 +30,8 @@ pub record IsAt (p : Program) (index : ℕ) (stops : Bool) (i : Instruction) : T
   pub there : slice_get p.words index ≡ Some (encoded i)
   pub stop : is_stop p.stops (address_of index) ≡ stops
 
--- Instructions stand in the code, one behind the other, from an index on. There is a stop at the first of them if that is said, and at no other.
+-- Instructions stand in the code, one behind the other, from an index on. There is a stop at the first of them if that
+-- is said, and at no other.
 abbrev pub CodeAt : Program → (index : ℕ) → (stops : Bool) → List Instruction → Type 0
 CodeAt p index stops [] = Unit {0}
 CodeAt p index stops (i ∷ more) = IsAt p index stops i × CodeAt p (index + 1) false more
@@ -41,7 +42,7 @@ behind b [] = b
 behind b (i ∷ more) = false
 
 -- The machine stands at the word at an index of the code, and holds this.
-pub record Stands (p : Program) (s : State) (index : ℕ) (h : Holding) : Type 0 where
+pub record Stands (p : Program) (s : MachineState) (index : ℕ) (h : Holding) : Type 0 where
   pub code : s.code ≡ p.words
   pub pc : s.pc ≡ address_of index
   pub registers : length s.registers ≡ 32

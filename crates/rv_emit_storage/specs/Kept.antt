@@ -17,4 +17,5 @@ saved_in homes g = saved (home_in homes) g
 
 -- All offsets of the frame are words. So it is in a valid unit.
 abbrev pub FitsFrame : List Home → Graph → Type 0
-FitsFrame homes g = objects_start (length (saved_in homes g)) (slot_count homes) + total taken_by_object g.objects + 15 < 4294967296
+FitsFrame homes g =
+    objects_start (length (saved_in homes g)) (slot_count homes) + total taken_by_object g.objects + 15 < 4294967296

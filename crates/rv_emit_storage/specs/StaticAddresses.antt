@@ -51,16 +51,21 @@ relocation_at (r ∷ more) at = if r.at == at then Some r else relocation_at mor
 
 -- the four bytes of a word of an object: an address by the first relocation there, or what its bytes say
 abbrev pub word_there : UnitForm → StaticObject → (index : ℕ) → (bytes : List ℕ) → List ℕ
-word_there u o index bytes = option_map_or (λ (r : Relocation). word_bytes (static_at u r.object + r.offset)) (relocation_at o.relocations (4 * index)) bytes
+word_there u o index bytes =
+    option_map_or (λ (r : Relocation). word_bytes (static_at u r.object + r.offset))
+    (relocation_at o.relocations (4 * index)) bytes
 
 -- the four bytes of a word of an object
 abbrev pub word_of_bytes : List ℕ → (index : ℕ) → List ℕ
-word_of_bytes bytes index = slice_index bytes (4 * index) ∷ slice_index bytes (4 * index + 1) ∷ slice_index bytes (4 * index + 2) ∷ slice_index bytes (4 * index + 3) ∷ []
+word_of_bytes bytes index =
+    slice_index bytes (4 * index) ∷ slice_index bytes (4 * index + 1) ∷ slice_index bytes (4 * index + 2)
+    ∷ slice_index bytes (4 * index + 3) ∷ []
 
 -- so many words of an object from an index on, with addresses where it has relocations
 abbrev pub words_there : UnitForm → StaticObject → (index count : ℕ) → List ℕ
 words_there u o index zero = []
-words_there u o index (suc count) = word_there u o index (word_of_bytes o.bytes index) ++ words_there u o (index + 1) count
+words_there u o index (suc count) =
+    word_there u o index (word_of_bytes o.bytes index) ++ words_there u o (index + 1) count
 
 -- An object's first bytes: only an object of words holds addresses.
 abbrev pub bytes_by_element : UnitForm → StaticObject → Element → List ℕ
@@ -76,4 +81,5 @@ object_bytes u o = padded (taken_by (static_bytes o)) (bytes_by_element u o o.el
 
 -- the initial bytes of a unit
 abbrev pub initial_bytes : UnitForm → List ℕ
-initial_bytes u = flat_map (object_bytes u) u.statics ++ flat_map (λ (b : List ℕ). padded (taken_by (length b)) b) u.array_bytes
+initial_bytes u =
+    flat_map (object_bytes u) u.statics ++ flat_map (λ (b : List ℕ). padded (taken_by (length b)) b) u.array_bytes

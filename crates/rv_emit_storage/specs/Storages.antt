@@ -7,8 +7,8 @@ use Rattle.rv_emit_storage.specs.declared.storage.Source.{Source}
 use Rattle.rv_emit_storage.specs.declared.storage.Source.TheVariants.{Home as OfHome, Word}
 use Rattle.rv_emit_storage.specs.Kept.{home_in}
 
--- The homes of a function's names, the offset of slot 0 in its frame and that of each memory object, the addresses of the static objects and of the bytes that initialise arrays,
--- and the address that gp holds.
+-- The homes of a function's names, the offset of slot 0 in its frame and that of each memory object, the addresses of
+-- the static objects and of the bytes that initialise arrays, and the address that gp holds.
 pub record StorageForm : Type 0 where
   pub homes : List Home
   pub slots : ℕ

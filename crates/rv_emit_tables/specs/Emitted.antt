@@ -27,7 +27,16 @@ pub record EmittedForm : Type 0 where
   pub functions : List FunctionCode
 
 abbrev pub function_view : declared-function.EmittedFunction → FunctionCode
-function_view f = record { first = f.first; end = f.end; frame = f.frame; slots = f.slots; objects = f.objects.items; bindings = f.bindings.items; writers = f.writers.items }
+function_view f =
+    record {
+      first = f.first;
+      end = f.end;
+      frame = f.frame;
+      slots = f.slots;
+      objects = f.objects.items;
+      bindings = f.bindings.items;
+      writers = f.writers.items;
+    }
 
 abbrev pub emitted_view : declared-emitted.Emitted → EmittedForm
 emitted_view e = record {

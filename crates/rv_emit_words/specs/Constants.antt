@@ -37,7 +37,8 @@ one_word_constant r w base =
 
 -- One word, or LUI of the upper part and ADDI of the lower one.
 abbrev pub constant_by : (words register word base : ℕ) → List Instruction
-constant_by n r w base = if n == 1 then one_word_constant r w base ∷ [] else Lui r (high_part w) ∷ Immediate Addi r r (low_part w) ∷ []
+constant_by n r w base =
+    if n == 1 then one_word_constant r w base ∷ [] else Lui r (high_part w) ∷ Immediate Addi r r (low_part w) ∷ []
 
 -- The words that bring a constant into a register, whatever scratch registers hold.
 abbrev pub constant_code : (register word base : ℕ) → List Instruction
@@ -45,17 +46,23 @@ constant_code r w base = constant_by (words_of_constant w base) r w base
 
 -- ---- Where scratch registers hold constants
 
--- A register that has a constant: register 0 and gp have theirs, another one may hold it, and else it is brought into a scratch register.
+-- A register that has a constant: register 0 and gp have theirs, another one may hold it, and else it is brought into a
+-- scratch register.
 abbrev pub constant_register : (word base scratch : ℕ) → List Held → ℕ
-constant_register w base scratch held = if w == 0 then 0 else if w == base then 3 else option_map_or (λ r. r) (holder_of w held) scratch
+constant_register w base scratch held =
+    if w == 0 then 0 else if w == base then 3 else option_map_or (λ r. r) (holder_of w held) scratch
 
 -- the words that bring a constant into a register, none where one holds it already
 abbrev pub fetched_constant : (word base scratch : ℕ) → List Held → List Instruction
-fetched_constant w base scratch held = if w == 0 then [] else if w == base then [] else option_map_or (λ r. []) (holder_of w held) (constant_code scratch w base)
+fetched_constant w base scratch held =
+    if w == 0 then [] else if w == base then []
+    else option_map_or (λ r. []) (holder_of w held) (constant_code scratch w base)
 
 -- A constant is brought into a register: moved from one that holds it, if it is not small, or made by so many words.
 abbrev pub set_constant_by : (words register word base : ℕ) → List Held → List Instruction
-set_constant_by n r w base held = if is_small w then constant_by n r w base else option_map_or (λ q. Immediate Addi r q 0 ∷ []) (holder_of w held) (constant_by n r w base)
+set_constant_by n r w base held =
+    if is_small w then constant_by n r w base
+    else option_map_or (λ q. Immediate Addi r q 0 ∷ []) (holder_of w held) (constant_by n r w base)
 
 -- a constant is brought into a register by as few words as it takes
 abbrev pub set_constant_code : (register word base : ℕ) → List Held → List Instruction

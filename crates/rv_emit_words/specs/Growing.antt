@@ -9,7 +9,8 @@ use Rattle.rv_emit_words.specs.declared.piece.Piece.TheVariants.{Word}
 use Rattle.rv_emit_words.specs.declared.piece.PlacedPiece.{PlacedPiece}
 use Rattle.rv_emit_words.specs.declared.code.Code.{Code}
 
--- The pieces so far, what scratch registers hold behind them, the place in force, and whether that is a stop which has no word yet.
+-- The pieces so far, what scratch registers hold behind them, the place in force, and whether that is a stop which has
+-- no word yet.
 pub record CodeState : Type 0 where
   pub pieces : List PlacedPiece
   pub held : List Held

@@ -14,22 +14,28 @@ use Rattle.rv_emit_storage.specs.declared.storage.Source.TheVariants.{Home as Of
 use Rattle.rv_emit_storage.specs.Storages.{StorageForm, slot_at}
 use Rattle.rv_emit_words.specs.Constants.{low_part, high_part, constant_register, fetched_constant, set_constant_code}
 
--- Registers 2 and 5 to 7 are sp and t0 to t2. What lies less than 2,048 bytes behind sp is reached from sp, and else from t0, which gets sp and the upper part of the offset.
+-- Registers 2 and 5 to 7 are sp and t0 to t2. What lies less than 2,048 bytes behind sp is reached from sp, and else
+-- from t0, which gets sp and the upper part of the offset.
 
 -- A word of the frame into a register.
 abbrev pub load_slot_code : (register offset : ℕ) → List Instruction
-load_slot_code r offset = if nat_lt offset 2048 then Load Lw r 2 offset ∷ [] else Lui 5 (high_part offset) ∷ OnRegisters Add 5 5 2 ∷ Load Lw r 5 (low_part offset) ∷ []
+load_slot_code r offset =
+    if nat_lt offset 2048 then Load Lw r 2 offset ∷ []
+    else Lui 5 (high_part offset) ∷ OnRegisters Add 5 5 2 ∷ Load Lw r 5 (low_part offset) ∷ []
 
 -- A register into a word of the frame.
 abbrev pub store_slot_code : (register offset : ℕ) → List Instruction
-store_slot_code r offset = if nat_lt offset 2048 then Store Sw r 2 offset ∷ [] else Lui 5 (high_part offset) ∷ OnRegisters Add 5 5 2 ∷ Store Sw r 5 (low_part offset) ∷ []
+store_slot_code r offset =
+    if nat_lt offset 2048 then Store Sw r 2 offset ∷ []
+    else Lui 5 (high_part offset) ∷ OnRegisters Add 5 5 2 ∷ Store Sw r 5 (low_part offset) ∷ []
 
 -- The address of a byte of the frame into a register, by way of a scratch register where it lies far from sp.
 abbrev pub address_code : (register scratch offset : ℕ) → List Instruction
 address_code r scratch offset =
     if nat_lt offset 2048 then Immediate Addi r 2 offset ∷ []
     else if low_part offset == 0 then Lui scratch (high_part offset) ∷ OnRegisters Add r scratch 2 ∷ []
-    else Lui scratch (high_part offset) ∷ Immediate Addi scratch scratch (low_part offset) ∷ OnRegisters Add r scratch 2 ∷ []
+    else Lui scratch (high_part offset) ∷ Immediate Addi scratch scratch (low_part offset) ∷ OnRegisters Add r scratch 2
+    ∷ []
 
 -- ---- What is read
 

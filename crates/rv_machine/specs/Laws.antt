@@ -2,7 +2,7 @@
 use Rattle.std.specs.Prelude.{◌≡◌, length}
 use Rattle.rv_machine.specs.declared.event.Event.{Event}
 use Rattle.rv_machine.specs.declared.event.Event.TheVariants.{Went, Out, Exited, Depth, Fault}
-use Rattle.rv_machine.specs.State.{State, reg}
+use Rattle.rv_machine.specs.State.{MachineState, reg}
 use Rattle.rv_machine.specs.Table.{effect}
 
 -- The program does not go on after the event.
@@ -15,10 +15,10 @@ IsEnding (Fault a) = Unit {0}
 
 -- After an ending the same comes of every further step.
 abbrev pub EndingsRepeat : Type 0
-EndingsRepeat = (s : State) → IsEnding (effect s).event → effect (effect s).after ≡ effect s
+EndingsRepeat = (s : MachineState) → IsEnding (effect s).event → effect (effect s).after ≡ effect s
 
 -- What an instruction leaves as it was: the code, the sizes of the other lists, and register 0.
-pub record Kept (s t : State) : Type 0 where
+pub record Kept (s t : MachineState) : Type 0 where
   pub code : t.code ≡ s.code
   pub registers : length t.registers ≡ length s.registers
   pub bytes : length t.bytes ≡ length s.bytes
@@ -27,4 +27,4 @@ pub record Kept (s t : State) : Type 0 where
 
 -- Every instruction leaves these as they were.
 abbrev pub EffectsKeep : Type 0
-EffectsKeep = (s : State) → Kept s (effect s).after
+EffectsKeep = (s : MachineState) → Kept s (effect s).after

@@ -12,7 +12,8 @@ half_in xs i = slice_index xs i + slice_index xs (i + 1) * 256
 
 -- The word of the four bytes from an offset on.
 unfoldable pub word_in : List ℕ → ℕ → ℕ
-word_in xs i = slice_index xs i + slice_index xs (i + 1) * 256 + slice_index xs (i + 2) * 65536 + slice_index xs (i + 3) * 16777216
+word_in xs i =
+    slice_index xs i + slice_index xs (i + 1) * 256 + slice_index xs (i + 2) * 65536 + slice_index xs (i + 3) * 16777216
 
 -- The bytes with the low byte of a value written at an offset.
 abbrev pub with_byte : List ℕ → ℕ → ℕ → List ℕ
@@ -24,7 +25,9 @@ with_half xs i v = slice_set (slice_set xs i (v % 256)) (i + 1) (v / 256 % 256)
 
 -- The bytes with the low four bytes of a value written from an offset on.
 unfoldable pub with_word : List ℕ → ℕ → ℕ → List ℕ
-with_word xs i v = slice_set (slice_set (slice_set (slice_set xs i (v % 256)) (i + 1) (v / 256 % 256)) (i + 2) (v / 65536 % 256)) (i + 3) (v / 16777216 % 256)
+with_word xs i v =
+    slice_set (slice_set (slice_set (slice_set xs i (v % 256)) (i + 1) (v / 256 % 256)) (i + 2) (v / 65536 % 256))
+    (i + 3) (v / 16777216 % 256)
 
 -- The bytes of words, each word's lowest byte first.
 unfoldable pub bytes_of_words : List ℕ → List ℕ

@@ -4,7 +4,7 @@ use Rattle.memory_map.specs.declared.map.Map.{Map}
 use Rattle.std.specs.Prelude.{ℕ, zero, suc, ◌%◌, List, slice_index, slice_set}
 
 -- The machine between two instructions.
-pub record State : Type 0 where
+pub record MachineState : Type 0 where
   -- the words of the code, of which the first stands at `code_start`
   pub code : List ℕ
   -- the address of the instruction that comes next
@@ -21,7 +21,7 @@ pub record State : Type 0 where
   pub map : Map
 
 -- The value of a register. Register 0 starts as 0 and is never written, so it reads as 0.
-abbrev pub reg : State → ℕ → ℕ
+abbrev pub reg : MachineState → ℕ → ℕ
 reg s r = slice_index s.registers r
 
 -- The registers with a value written to one of them. A write to register 0 is lost.

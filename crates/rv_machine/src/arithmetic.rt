@@ -1,14 +1,14 @@
 //! What the operations of instructions compute.
 
 ghost use Rattle.std.specs.Prelude.{◌≡◌};
-ghost use Rattle.rv_machine.specs.Table.{operated, operated_immediate, taken};
+ghost use Rattle.rv_machine.specs.Table.{operation_result, operated_immediate, taken};
 
 use rv_code::{BranchOperation, ImmediateOperation, RegisterOperation};
 
 /// What an operation computes of the values of two registers.
-#[tactic(auto, unfolding(crate::specs::Table::operated))]
+#[tactic(auto, unfolding(crate::specs::Table::operation_result))]
 pub fn operate(operation: RegisterOperation, left: u32, right: u32) -> u32
-    ensures { result ≡ operated operation left right }
+    ensures { result ≡ operation_result operation left right }
 {
     match operation {
         RegisterOperation::Add => word_base::add(left, right),

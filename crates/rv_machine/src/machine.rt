@@ -3,9 +3,9 @@
 ghost use Rattle.std.specs.Prelude.{◌≡◌, ◌+◌, ◌-◌, ◌≤◌, ◌<◌, ◌*◌, ◌/◌, ◌%◌, ◌++◌, ℕ, length, map, drop, option_and_then, All, IfSome, IfOk};
 ghost use Rattle.rv_code.specs.InForm.{IsRegister, IsInForm};
 ghost use Rattle.rv_code.specs.Decoding.{decoded};
-ghost use Rattle.rv_machine.specs.State.{State, reg, word};
+ghost use Rattle.rv_machine.specs.State.{MachineState, reg, word};
 ghost use Rattle.rv_machine.specs.Memory.{words_in};
-ghost use Rattle.rv_machine.specs.Table.{Effect, goes, jumps, stays, zeros, started, fetched, loaded, stored, on_load, on_store, on_input, on_call, acted, effect};
+ghost use Rattle.rv_machine.specs.Table.{Effect, goes, jumps, stays, zeros, started, fetched, load_result, store_result, on_load, on_store, on_input, on_call, acted, effect};
 ghost use Rattle.rv_machine.specs.Reading.{byte_at, stack_rest};
 ghost use Rattle.memory_map.specs.Maps.{bytes_size, bytes_start, code_start, most_words, stack_size};
 
@@ -25,7 +25,7 @@ const A0: u8 = 10;
 /// The register of its number.
 const A7: u8 = 17;
 
-/// A machine between two instructions. Contracts see it as its `State`.
+/// A machine between two instructions. Contracts see it as its `MachineState`.
 #[derive(Drop)]
 pub struct Machine {
     regions: Map,
@@ -40,7 +40,7 @@ pub struct Machine {
 }
 
 impl Model for Machine {
-    ghost Value = { State };
+    ghost Value = { MachineState };
 
     ghost view = { λ m. record {
       map = m.regions;
@@ -318,7 +318,7 @@ impl Machine {
     fn load_into(&mut self, rd: u8, operation: LoadOperation, address: u32) -> Event
         requires { IsRegister rd }
         ensures { record { event = result; after = self.new }
-            ≡ on_load self.old rd (loaded self.old operation address) }
+            ≡ on_load self.old rd (load_result self.old operation address) }
     {
         match self.load_at(operation, address) {
             None => Event::Fault(self.pc),
@@ -327,9 +327,9 @@ impl Machine {
     }
 
     // What a load gets at an address, if it may read there.
-    #[tactic(auto, unfolding(crate::specs::Table::loaded, crate::specs::Table::location_of))]
+    #[tactic(auto, unfolding(crate::specs::Table::load_result, crate::specs::Table::location_of))]
     fn load_at(&self, operation: LoadOperation, address: u32) -> Option<u32>
-        ensures { result ≡ loaded self.now operation address }
+        ensures { result ≡ load_result self.now operation address }
     {
         if address % size_of_load(operation) != 0 || address < CODE_START {
             None
@@ -350,10 +350,10 @@ impl Machine {
     }
 
     // Stores a value at an address and goes on, if it may write there.
-    #[tactic(auto, unfolding(crate::specs::Table::stored, crate::specs::Table::location_of))]
+    #[tactic(auto, unfolding(crate::specs::Table::store_result, crate::specs::Table::location_of))]
     fn store_at(&mut self, operation: StoreOperation, address: u32, value: u32) -> Event
         ensures { record { event = result; after = self.new }
-            ≡ on_store self.old (stored self.old operation address value) }
+            ≡ on_store self.old (store_result self.old operation address value) }
     {
         if address % size_of_store(operation) != 0 || address < self.regions.bytes_start() {
             return Event::Fault(self.pc);

@@ -9,7 +9,7 @@ use Rattle.debug_records.specs.declared.code.TheConstants.Code.{UNKNOWN_COMMAND,
 use Rattle.script_form.specs.Reading.{◌>>=◌, begins_with_digit, mark_of, name_of, order_in, order_of_words}
 use Rattle.script_form.specs.Refusal.{WordsBreak, unknown, too_many, no_line, no_function, no_name, missing, most_arguments}
 use Rattle.script_form.specs.Script.{Order, Break, Step, Continue, Next, Finish, Print, Locals, Where, Quit, IsOrder, is_name, mark_word, order_words}
-use Rattle.script_form.specs.Words.{is_blank, is_word, words}
+use Rattle.script_form.specs.Words.{is_space_or_tab, is_word, words}
 use Rattle.script_form.proofs.Arguments.{MarkCases, marks, mark_cases, mark_complete, mark_broken_line, mark_no_name, name_broken, name_complete}
 use Rattle.script_form.proofs.Arguments as argument
 use Rattle.script_form.proofs.Heads.{Heads, IsPlain, IsNoHead, a_break, a_print, a_plain, none, heads, is_step, is_continue, is_next, is_finish, is_locals, is_where, is_quit}
@@ -19,7 +19,7 @@ abbrev pub AreWords : List (List ℕ) → Type 0
 AreWords ws = All (λ w. is_word w ≡ true) ws
 
 pub are_words : (line : List ℕ) → AreWords (words line)
-are_words line = filter_passes is_word (slice_split is_blank line)
+are_words line = filter_passes is_word (slice_split is_space_or_tab line)
 
 -- The words ask for an order, or there are none.
 abbrev pub Ask : List (List ℕ) → Option Order → Type 0

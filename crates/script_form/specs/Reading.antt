@@ -64,7 +64,8 @@ unfoldable pub order_of_words : List ℕ → List ℕ → Result Order Code
 order_of_words head word =
     if bytes_eq head (codes "break") then (mark_of word >>= λ m. Ok (Break m))
     else (if bytes_eq head (codes "print") then (name_of word >>= λ name. Ok (Print name))
-    else option_map_or (λ o. if length word == 0 then Ok o else Err UNKNOWN_COMMAND) (order_of_word head) (Err UNKNOWN_COMMAND))
+    else option_map_or (λ o. if length word == 0 then Ok o else Err UNKNOWN_COMMAND) (order_of_word head)
+    (Err UNKNOWN_COMMAND))
 
 -- the one word, or the empty one where there is none
 abbrev pub only_word : List (List ℕ) → Option (List ℕ)
@@ -90,7 +91,8 @@ with_front (Some o) os = o ∷ os
 -- the orders of lines, of which the first has that number
 abbrev pub orders_from : ℕ → List (List ℕ) → Result (List Order) Fault
 orders_from n [] = Ok []
-orders_from n (line ∷ more) = at_line n (order_of_line line) >>= λ o. orders_from (n + 1) more >>= λ os. Ok (with_front o os)
+orders_from n (line ∷ more) =
+    at_line n (order_of_line line) >>= λ o. orders_from (n + 1) more >>= λ os. Ok (with_front o os)
 
 -- the orders of a script, or its first fault
 abbrev pub script_of : List ℕ → Result (List Order) Fault

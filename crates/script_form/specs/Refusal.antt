@@ -22,7 +22,8 @@ most_arguments head =
 -- The words of a line break the rule of the code.
 pub data WordsBreak : List (List ℕ) → Code → Type 0 where
   -- the first word is none of a command
-  unknown : {head : List ℕ} {rest : List (List ℕ)} → most_arguments head ≡ None → WordsBreak (head ∷ rest) UNKNOWN_COMMAND
+  unknown : {head : List ℕ} {rest : List (List ℕ)} → most_arguments head ≡ None
+      → WordsBreak (head ∷ rest) UNKNOWN_COMMAND
   -- there are words too many
   too_many : {head : List ℕ} {rest : List (List ℕ)} {n : ℕ} → most_arguments head ≡ Some n → n < length rest
       → WordsBreak (head ∷ rest) UNKNOWN_COMMAND

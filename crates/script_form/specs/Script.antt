@@ -110,7 +110,7 @@ pub record AskFor (ls : List (List ℕ)) (os : List Order) : Type 0 where
   pub spelled : filter has_words (map words ls) ≡ map order_words os
   pub named : All IsOrder os
 
--- The text is a script that asks for these orders. A line ends with a line feed, before which a carriage return is dropped; the last
--- line may lack its end.
+-- The text is a script that asks for these orders. A line ends with a line feed, before which a carriage return is
+-- dropped; the last line may lack its end.
 abbrev pub IsScript : List ℕ → List Order → Type 0
 IsScript text os = AskFor (lines text) os

@@ -3,26 +3,26 @@
 ghost use Rattle.std.specs.Prelude.{◌≡◌, not, [], ◌∷◌, IfNone, IfSome, position};
 ghost use Rattle.std.specs.List.{list_all};
 ghost use Rattle.script_form.specs.Script.{begins_name, is_name, is_name_byte};
-ghost use Rattle.script_form.specs.Words.{is_blank, words};
+ghost use Rattle.script_form.specs.Words.{is_space_or_tab, words};
 ghost use Rattle.script_form.specs.Reading.{only_word};
 
 /// A space or a tab.
 fn is_blank(byte: u8) -> bool
-    ensures { result ≡ is_blank byte }
+    ensures { result ≡ is_space_or_tab byte }
 {
     byte == b' ' || byte == b'\t'
 }
 
 /// How many blanks stand before the first word, if there is one.
 fn blank_length(line: &[u8]) -> Option<usize>
-    ensures { result ≡ position (λ byte. not (is_blank byte)) line.now }
+    ensures { result ≡ position (λ byte. not (is_space_or_tab byte)) line.now }
 {
     line.iter().position(|byte| !is_blank(*byte))
 }
 
 /// How many bytes stand before the first blank, if there is one.
 fn word_length(line: &[u8]) -> Option<usize>
-    ensures { result ≡ position is_blank line.now }
+    ensures { result ≡ position is_space_or_tab line.now }
 {
     line.iter().position(|byte| is_blank(*byte))
 }

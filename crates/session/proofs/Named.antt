@@ -9,9 +9,9 @@ use Rattle.debug_records.specs.Change.{IsPassName, is_lower_case}
 use Rattle.debug_records.specs.declared.change.PassName.{PassName}
 use Rattle.debug_records.specs.declared.mode.Mode.{Mode}
 use Rattle.command_line.specs.Words.{Text}
-use Rattle.command_line.specs.Values.{all_named, is_pass_name, pieces}
+use Rattle.command_line.specs.Values.{all_named, is_pass_name, comma_pieces}
 use Rattle.command_line.specs.Grammar.{IsJob}
-use Rattle.command_line.specs.Job.{JobGiven, DebugGiven, CompileGiven, PassesGiven, AttachGiven, SweepGiven, debug, compile, attach, passes, sweep, debug_from, debug_of, compile_from, compile_of, attach_of, passes_from, passes_of, sweep_of, limit_given, mode_given, names_given, word_of}
+use Rattle.command_line.specs.Job.{JobGiven, DebugGiven, CompileGiven, PassesGiven, AttachGiven, SweepGiven, debug, compile, attach, passes, sweep, debug_from, debug_of, compile_from, compile_of, attach_of, passes_from, passes_of, sweep_of, limit_given, mode_given, names_given, word_of_option}
 use Rattle.session.specs.Served.{AreServed, CanRun, default_names, needed}
 
 -- At most 32 names, each of 1 to 16 lower-case letters.
@@ -54,9 +54,9 @@ listed : (texts : List Text) (b : Bool) (names : List Text) → nat_le (length t
 listed texts true names few e = named_if texts (list_all is_pass_name texts) names refl (at_most (length texts) 32 few) e
 listed texts false names few e = absurd cc
 
-few_in : (t : Text) (none : Bool) (names : List Text) → ◌≡◌ {A = Option (List Text)} (if none then Some [] else (if nat_le (length (pieces t)) 32 then all_named (pieces t) else None)) (Some names) → AreNames names
+few_in : (t : Text) (none : Bool) (names : List Text) → ◌≡◌ {A = Option (List Text)} (if none then Some [] else (if nat_le (length (comma_pieces t)) 32 then all_named (comma_pieces t) else None)) (Some names) → AreNames names
 few_in t true names e = let same : ◌≡◌ {A = List Text} [] names = cc in subst AreNames same no_names
-few_in t false names e = listed (pieces t) (nat_le (length (pieces t)) 32) names refl e
+few_in t false names e = listed (comma_pieces t) (nat_le (length (comma_pieces t)) 32) names refl e
 
 few_given : (value : Option Text) (names : List Text) → names_given value ≡ Some names → AreNames names
 few_given value names e = let t = unwrap_or value (codes "copy,motion,dead") in few_in t (bytes_eq t (codes "none")) names e
@@ -110,7 +110,7 @@ by_few word job false false false false false e = absurd cc
 -- no job of the command line names more
 few_needed : (words : List Text) (job : JobGiven) → IsJob words job → AreNames (needed job)
 few_needed words job is =
-    by_few (word_of is.uses) job (bytes_eq is.name (codes "debug")) (bytes_eq is.name (codes "compile")) (bytes_eq is.name (codes "attach")) (bytes_eq is.name (codes "passes")) (bytes_eq is.name (codes "sweep")) is.job_is
+    by_few (word_of_option is.uses) job (bytes_eq is.name (codes "debug")) (bytes_eq is.name (codes "compile")) (bytes_eq is.name (codes "attach")) (bytes_eq is.name (codes "passes")) (bytes_eq is.name (codes "sweep")) is.job_is
 
 -- The passes that a job which is served needs can be run.
 pub served_runs : {P : Type 0} (named : P → PassName) (handed_in : List P) (words : List Text) (job : JobGiven) → AreServed named handed_in words job → CanRun named handed_in (needed job)

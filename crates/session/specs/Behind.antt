@@ -27,4 +27,5 @@ module _ {P : Type 0} (named : P → PassName) (steps : P → UnitForm → UnitF
 
   -- it comes of the program of a source
   abbrev pub ComesOfSource : (source : List ℕ) → (names : List Text) → Mode → Form → Type 0
-  ComesOfSource source names mode form = (p : ProgramTree) → program_of_source source ≡ Ok p → ComesOfProgram p names mode form
+  ComesOfSource source names mode form =
+      (p : ProgramTree) → program_of_source source ≡ Ok p → ComesOfProgram p names mode form

@@ -18,9 +18,10 @@ IsListReason named passes names (Source code line) = ⊥
 IsListReason named passes names (UnknownPass index) = IsFirstUnknown named passes names index
 IsListReason named passes names NoMemory = ⊤
 
--- Why a source is not compiled: it is refused for the first rule that it breaks; else a name of the list is no pass's, of
--- which this is the first; or memory was refused.
-abbrev pub IsBuildReason : {P : Type 0} → (P → PassName) → List P → (text : List ℕ) → (names : List PassName) → BuildErr → Type 0
+-- Why a source is not compiled: it is refused for the first rule that it breaks; else a name of the list is no pass's,
+-- of which this is the first; or memory was refused.
+abbrev pub IsBuildReason : {P : Type 0} → (P → PassName) → List P → (text : List ℕ) → (names : List PassName) → BuildErr
+    → Type 0
 IsBuildReason named passes text names (Source code line) = program_of_source text ≡ Err (code, line)
 IsBuildReason named passes text names (UnknownPass index) = HasProgram text × IsFirstUnknown named passes names index
 IsBuildReason named passes text names NoMemory = ⊤

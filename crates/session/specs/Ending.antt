@@ -1,4 +1,5 @@
--- How a job ends: one record of what its status says, what stays, and what it leaves. The top call says each part of it of the job that its words ask for.
+-- How a job ends: one record of what its status says, what stays, and what it leaves. The top call says each part of it
+-- of the job that its words ask for.
 use Rattle.std.specs.Prelude.{◌≡◌, ◌≢◌, ◌⊎◌, ℕ, true, List, [], String, string_bytes}
 use Rattle.std.specs.Global.{Global}
 use Rattle.outside.specs.Counts.{RoseOrStands}
@@ -25,14 +26,20 @@ pub record IsCaused (job : JobGiven) (old : World) (result : Status) (new : Worl
   pub audit : (rule : Code) (line : ℕ) → result ≢ AuditFailed rule line
   pub read : result ≡ ReadFault → RoseOrStands old.shelf.load_count new.shelf.load_count
   pub read_only : result ≢ ReadFault → new.shelf.load_count ≡ old.shelf.load_count
-  pub too_long : (name : String Global) → result ≡ TooLong name → old.shelf.tells ≡ true → IsTooLong old.shelf.held job (string_bytes name)
+  pub too_long : (name : String Global) → result ≡ TooLong name → old.shelf.tells ≡ true
+      → IsTooLong old.shelf.held job (string_bytes name)
   pub within : HasLoaded result → old.shelf.tells ≡ true → AreWithin old.shelf.held job
-  pub image : (code : Code) (offset : ℕ) → result ≡ ImageRefused code offset → old.shelf.tells ≡ true → ImageIsRefused old.shelf.held job code offset
-  pub source : (code : Code) (line : ℕ) → result ≡ SourceRefused code line → old.shelf.tells ≡ true → TextIsRefused old.shelf.held job code line
-  pub script : (code : Code) (line : ℕ) → result ≡ ScriptRefused code line → old.shelf.tells ≡ true → ScriptIsRefused old.shelf.held job code line
+  pub image : (code : Code) (offset : ℕ) → result ≡ ImageRefused code offset → old.shelf.tells ≡ true
+      → ImageIsRefused old.shelf.held job code offset
+  pub source : (code : Code) (line : ℕ) → result ≡ SourceRefused code line → old.shelf.tells ≡ true
+      → TextIsRefused old.shelf.held job code line
+  pub script : (code : Code) (line : ℕ) → result ≡ ScriptRefused code line → old.shelf.tells ≡ true
+      → ScriptIsRefused old.shelf.held job code line
   pub accepted : (result ≡ Done) ⊎ (result ≡ WriteFault) → old.shelf.tells ≡ true → AreAccepted old.shelf.held job
-  pub write : result ≡ WriteFault → RoseOrStands old.shelf.save_count new.shelf.save_count ⊎ RoseOrStands old.sink.fault_count new.sink.fault_count
-  pub write_only : result ≢ WriteFault → (new.shelf.save_count ≡ old.shelf.save_count) × (new.sink.fault_count ≡ old.sink.fault_count)
+  pub write : result ≡ WriteFault
+      → RoseOrStands old.shelf.save_count new.shelf.save_count ⊎ RoseOrStands old.sink.fault_count new.sink.fault_count
+  pub write_only : result ≢ WriteFault
+      → (new.shelf.save_count ≡ old.shelf.save_count) × (new.sink.fault_count ≡ old.sink.fault_count)
 
 -- before anything was saved or put out nothing changes, and only the image's name of a `debug` ever does
 pub record Stays (job : JobGiven) (old : World) (result : Status) (new : World) : Type 0 where
@@ -43,14 +50,18 @@ pub record Stays (job : JobGiven) (old : World) (result : Status) (new : World) 
 module _ {P : Type 0} (named : P → PassName) (steps : P → UnitForm → UnitForm → Type 0) (handed_in : List P) where
   -- what stands under the name of the image in the end
   pub record LeavesImage (job : JobGiven) (old : World) (result : Status) (new : World) : Type 0 where
-    pub saved : result ≡ Done → old.shelf.tells ≡ true → HasSaved named steps handed_in old.shelf.held new.shelf.held job
-    pub whole : result ≡ WriteFault → ¬ RoseOrStands old.shelf.save_count new.shelf.save_count → old.shelf.tells ≡ true → HasSaved named steps handed_in old.shelf.held new.shelf.held job
+    pub saved : result ≡ Done → old.shelf.tells ≡ true
+        → HasSaved named steps handed_in old.shelf.held new.shelf.held job
+    pub whole : result ≡ WriteFault → ¬ RoseOrStands old.shelf.save_count new.shelf.save_count → old.shelf.tells ≡ true
+        → HasSaved named steps handed_in old.shelf.held new.shelf.held job
     pub left : IsCut result → old.shelf.tells ≡ true → HasLeft named steps handed_in old.shelf.held new.shelf.held job
 
   -- what the sink took in the end
   pub record LeavesTranscript (job : JobGiven) (old : World) (result : Status) (new : World) : Type 0 where
-    pub part : IsCut result → old.shelf.tells ≡ true → old.sink.tells ≡ true → TookPart named steps handed_in old.shelf.held new.shelf.held job old.sink.taken new.sink.taken
-    pub done : result ≡ Done → old.shelf.tells ≡ true → old.sink.tells ≡ true → IsDone named steps handed_in old.shelf.held new.shelf.held job old.sink.taken new.sink.taken
+    pub part : IsCut result → old.shelf.tells ≡ true → old.sink.tells ≡ true
+        → TookPart named steps handed_in old.shelf.held new.shelf.held job old.sink.taken new.sink.taken
+    pub done : result ≡ Done → old.shelf.tells ≡ true → old.sink.tells ≡ true
+        → IsDone named steps handed_in old.shelf.held new.shelf.held job old.sink.taken new.sink.taken
 
   -- how a job ends where these passes were handed in
   pub record Ends (job : JobGiven) (old : World) (result : Status) (new : World) : Type 0 where

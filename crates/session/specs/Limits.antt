@@ -74,6 +74,7 @@ pub record InputIsTooLong (held : Held) (job : JobGiven) (name : List ℕ) : Typ
   pub script : IfGiven (script_of job) (λ given. IsWithin script_limit (held given))
   pub cause : IsThisBeyond held (input_of job) input_limit name
 
--- The text of this name is the first that is too long, of the image that is attached, the script and the input, and each text before it is there.
+-- The text of this name is the first that is too long, of the image that is attached, the script and the input, and
+-- each text before it is there.
 abbrev pub IsTooLong : Held → JobGiven → List ℕ → Type 0
 IsTooLong held job name = ImageIsTooLong held job name ⊎ (ScriptIsTooLong held job name ⊎ InputIsTooLong held job name)

@@ -11,8 +11,9 @@ use Rattle.image_build.specs.Tables.{HasShapeOf}
 use Rattle.session_lines.specs.ChangeLinesLines.{lines_of}
 
 module _ {P : Type 0} (named : P → PassName) (steps : P → UnitForm → UnitForm → Type 0) (handed_in : List P) where
-  -- The lines are those of all changes that the passes of these names log of a program, in order and numbered from 1: of a valid unit that comes of the program after them, with the program's
-  -- functions, flow and assignments, and of one without changes where no pass is named.
+  -- The lines are those of all changes that the passes of these names log of a program, in order and numbered from 1:
+  -- of a valid unit that comes of the program after them, with the program's functions, flow and assignments, and of
+  -- one without changes where no pass is named.
   pub record AreLinesOf (p : ProgramTree) (names : List Text) (lines : List (List ℕ)) : Type 0 where
     pub unit : UnitForm
     pub comes : ComesOf named steps handed_in names p unit

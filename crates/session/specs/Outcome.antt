@@ -44,8 +44,8 @@ abbrev pub IsAttached : Held → AttachGiven → List ℕ → Type 0
 IsAttached held given printed = IsPlayed (held given.image) (held given.script) (held given.input) given.limit printed
 
 module _ {P : Type 0} (named : P → PassName) (steps : P → UnitForm → UnitForm → Type 0) (handed_in : List P) where
-  -- From the source, the script and the input that the shelf held before, the session saved an image that is truthful to the source, and
-  -- what is printed is the transcript of that image.
+  -- From the source, the script and the input that the shelf held before, the session saved an image that is truthful
+  -- to the source, and what is printed is the transcript of that image.
   pub record IsDebugged (held held' : Held) (given : DebugGiven) (printed : List ℕ) : Type 0 where
     pub source : List ℕ
     pub source_held : held given.source ≡ Some source
@@ -80,10 +80,11 @@ module _ {P : Type 0} (named : P → PassName) (steps : P → UnitForm → UnitF
   abbrev pub HasSaved : (held held' : Held) → JobGiven → Type 0
   HasSaved held held' job = IfGiven (saving_of job) (HoldsImage held held')
 
-  -- what a job that is cut off leaves there: what stood there, or the first part of an image of the source, which may be
-  -- empty or whole
+  -- what a job that is cut off leaves there: what stood there, or the first part of an image of the source, which may
+  -- be empty or whole
   abbrev pub HasLeft : (held held' : Held) → JobGiven → Type 0
-  HasLeft held held' job = IfGiven (saving_of job) (λ (s : Saving). (held' s.image ≡ held s.image) ⊎ HoldsPart held held' s)
+  HasLeft held held' job =
+      IfGiven (saving_of job) (λ (s : Saving). (held' s.image ≡ held s.image) ⊎ HoldsPart held held' s)
 
   -- What the job `passes` prints: the lines of the changes that the passes make in the source that the shelf held.
   pub record ListsChanges (held : Held) (given : PassesGiven) (printed : List ℕ) : Type 0 where
@@ -93,7 +94,8 @@ module _ {P : Type 0} (named : P → PassName) (steps : P → UnitForm → UnitF
     pub lines_are : AreLinesFor named steps handed_in source given.passes lines
     pub printed_is : printed ≡ flat_map line lines
 
-  -- What the job `sweep` prints: the summary of the run, on no input, of an image that is truthful to the generated source after the default passes, with homes in registers.
+  -- What the job `sweep` prints: the summary of the run, on no input, of an image that is truthful to the generated
+  -- source after the default passes, with homes in registers.
   pub record IsSwept (given : SweepGiven) (printed : List ℕ) : Type 0 where
     pub form : Form
     pub image : IsImageFor named steps handed_in (generated given.seed given.size) default_names Registers form

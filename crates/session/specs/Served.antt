@@ -21,14 +21,16 @@ needed (attach given) = []
 needed (passes given) = given.passes
 needed (sweep given) = default_names
 
--- The passes of these names can be run one after the other: there are at most 32 names, each of 1 to 16 lower-case letters and of a pass that is handed in.
+-- The passes of these names can be run one after the other: there are at most 32 names, each of 1 to 16 lower-case
+-- letters and of a pass that is handed in.
 pub record CanRun {P : Type 0} (named : P → PassName) (handed_in : List P) (names : List Text) : Type 0 where
   pub few : length names ≤ 32
   pub spelled : AllByRecursion IsPassName names
   pub are_handed_in : AreHandedIn named handed_in names
 
 -- The words are a job, and each pass that it needs is handed in.
-pub record AreServed {P : Type 0} (named : P → PassName) (handed_in : List P) (words : List Text) (job : JobGiven) : Type 0 where
+pub record AreServed {P : Type 0} (named : P → PassName) (handed_in : List P) (words : List Text) (job : JobGiven)
+    : Type 0 where
   pub words_are : IsJob words job
   pub passes_are : AreHandedIn named handed_in (needed job)
 
@@ -52,7 +54,8 @@ input_of (attach given) = Some given.input
 input_of (passes given) = None
 input_of (sweep given) = None
 
--- Of a job that saves an image of a source: the names of both, the passes that the source goes through, and where variables are kept.
+-- Of a job that saves an image of a source: the names of both, the passes that the source goes through, and where
+-- variables are kept.
 pub record Saving : Type 0 where
   pub source : Text
   pub passes : List Text
@@ -61,8 +64,10 @@ pub record Saving : Type 0 where
 
 -- which image of which source a job saves, where it saves one
 abbrev pub saving_of : JobGiven → Option Saving
-saving_of (debug given) = Some (record { source = given.source; passes = given.passes; mode = given.mode; image = given.image })
-saving_of (compile given) = Some (record { source = given.source; passes = given.passes; mode = given.mode; image = given.image })
+saving_of (debug given) =
+    Some (record { source = given.source; passes = given.passes; mode = given.mode; image = given.image })
+saving_of (compile given) =
+    Some (record { source = given.source; passes = given.passes; mode = given.mode; image = given.image })
 saving_of (attach given) = None
 saving_of (passes given) = None
 saving_of (sweep given) = None

@@ -32,7 +32,8 @@ use Rattle.command_line.specs.declared.job.Job.{Job}
 use Rattle.command_line.specs.Job.{SweepGiven, job_given}
 use Rattle.session.specs.declared.preparing.Made.{Made}
 
--- a load ends well, or with a fault that the count of loads shows, or wants memory, or finds a text of this kind too long
+-- a load ends well, or with a fault that the count of loads shows, or wants memory, or finds a text of this kind too
+-- long
 abbrev pub LoadEnds : {A : Type 0} → Result A Status → (old new : ℕ) → (List ℕ → Type 0) → Type 0
 LoadEnds (Ok x) old new Long = new ≡ old
 LoadEnds (Err ReadFault) old new Long = RoseOrStands old new
@@ -103,7 +104,9 @@ module _ {P : Type 0} (named : P → PassName) (steps : P → UnitForm → UnitF
   -- The summary is that of the run, on no input, of an image that is truthful to the generated source after the default
   -- passes, with homes in registers.
   abbrev pub IsSummaryOf : (seed size : ℕ) → Summary → Type 0
-  IsSummaryOf seed size summary = (m : Form) × IsImageFor named steps handed_in (generated seed size) default_names Registers m × IsSummed m [] sweep_limit summary
+  IsSummaryOf seed size summary =
+      (m : Form) × IsImageFor named steps handed_in (generated seed size) default_names Registers m
+      × IsSummed m [] sweep_limit summary
 
   -- the summary of the run of an image of the generated source, or that source is refused, or memory was wanting
   abbrev pub SweepEnds : Result Summary Status → SweepGiven → Type 0
@@ -114,5 +117,6 @@ module _ {P : Type 0} (named : P → PassName) (steps : P → UnitForm → UnitF
 
   -- the lines of the changes that passes of these names make in the source, or the list fails
   abbrev pub ListEnds : Result (Vec (Vec ℕ Global) Global) Status → (source : List ℕ) → (names : List Text) → Type 0
-  ListEnds (Ok lines) source names = AreLinesFor named steps handed_in source names (map (λ (l : Vec ℕ Global). l.items) lines.items)
+  ListEnds (Ok lines) source names =
+      AreLinesFor named steps handed_in source names (map (λ (l : Vec ℕ Global). l.items) lines.items)
   ListEnds (Err status) source names = SourceFails status source

@@ -21,5 +21,7 @@ ending_line halt.Limit = limit_line sweep_limit
 -- the five lines
 abbrev pub summary_lines : (seed size : ℕ) → Summary → List (List ℕ)
 summary_lines seed size s =
-    seed_line seed size ∷ stops_line s.counts.stops ∷ pairs_line s.counts.pairs.pairs s.counts.pairs.home s.counts.pairs.recovered s.counts.pairs.noncurrent s.counts.pairs.nonresident
+    seed_line seed size ∷ stops_line s.counts.stops
+    ∷ pairs_line s.counts.pairs.pairs s.counts.pairs.home s.counts.pairs.recovered s.counts.pairs.noncurrent
+    s.counts.pairs.nonresident
     ∷ out_count_line s.counts.out ∷ ending_line s.ending ∷ []

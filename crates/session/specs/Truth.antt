@@ -18,14 +18,15 @@ use Rattle.session.specs.Behind.{ComesOfSource}
 abbrev pub RunsAsItsSource : (source : List ℕ) → Form → Type 0
 RunsAsItsSource source form = (p : ProgramTree) → program_of_source source ≡ Ok p → RunsTrue p form
 
--- The tables of the image are those of the source's program: its places, its flow, its assignments, and the variables that are visible at each place.
+-- The tables of the image are those of the source's program: its places, its flow, its assignments, and the variables
+-- that are visible at each place.
 abbrev pub HasTablesOfSource : (source : List ℕ) → Form → Type 0
 HasTablesOfSource source form = (p : ProgramTree) → program_of_source source ≡ Ok p → HasTablesOf p form
 
 module _ {P : Type 0} (named : P → PassName) (steps : P → UnitForm → UnitForm → Type 0) (handed_in : List P) where
-  -- WHAT IS PROMISED OF AN IMAGE AND ITS SOURCE, for every list of passes and both modes: it runs true to the source, its
-  -- tables are the source's, and it comes of it after just these passes, each by one step; and where no pass is run, with
-  -- slots, it shows every variable.
+  -- WHAT IS PROMISED OF AN IMAGE AND ITS SOURCE, for every list of passes and both modes: it runs true to the source,
+  -- its tables are the source's, and it comes of it after just these passes, each by one step; and where no pass is
+  -- run, with slots, it shows every variable.
   pub record IsTruthfulTo (source : List ℕ) (passes : List Text) (mode : Mode) (form : Form) : Type 0 where
     pub runs : RunsAsItsSource source form
     pub shows : passes ≡ [] → mode ≡ Slots → ShowsAll form

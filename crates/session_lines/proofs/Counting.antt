@@ -2,7 +2,7 @@
 use Rattle.std.proofs.Common.{◌≡◌, ℕ, suc, ◌≤◌, refl, sym, ap, ◌∙◌, subst, arith, List, [], ◌∷◌}
 use Rattle.std.specs.Prelude.{Bool, true, false, if◌then◌else◌, Option, Some, None, option_map}
 use Rattle.image_form.specs.Form.{Form}
-use Rattle.rv_machine.specs.State.{State}
+use Rattle.rv_machine.specs.State.{MachineState}
 use Rattle.rv_machine.specs.Run.{MachineEvent, Byte, Arrival, Exit, TooDeep, Faulted}
 use Rattle.stop_engine.specs.Halting.{halt_at, halt_of}
 use Rattle.stop_engine.specs.Transcript.{AnyStop, Ending, Exits, NestsTooDeep, Faults, Limit, Position, Fresh, Standing, Over, is_aim, ran, reached}
@@ -26,7 +26,7 @@ Stands Fresh = ⊥
 Stands (Standing s) = Unit {0}
 Stands (Over e) = ⊥
 
-fewer_at : (m : Form) (events : List MachineEvent) (t : State) (b : Bool) → (Stands (reached m AnyStop events).position → suc (arrivals (reached m AnyStop events).rest) ≤ arrivals events)
+fewer_at : (m : Form) (events : List MachineEvent) (t : MachineState) (b : Bool) → (Stands (reached m AnyStop events).position → suc (arrivals (reached m AnyStop events).rest) ≤ arrivals events)
     → Stands (if b then (record { output = []; position = Standing t; rest = events }) else reached m AnyStop events).position
     → suc (arrivals (if b then (record { output = []; position = Standing t; rest = events }) else reached m AnyStop events).rest) ≤ suc (arrivals events)
 fewer_at m events t true h stands = omega arith
@@ -73,7 +73,7 @@ abbrev or_limit : Option Halt → Halt
 or_limit None = halt.Limit
 or_limit (Some h) = h
 
-no_stop_there : (s : State) (o : Option ℕ) (h : Halt) → option_map (λ place. halt.At place (depth s)) o ≡ Some h → (IsStop h → ⊥) → ⊥
+no_stop_there : (s : MachineState) (o : Option ℕ) (h : Halt) → option_map (λ place. halt.At place (depth s)) o ≡ Some h → (IsStop h → ⊥) → ⊥
 no_stop_there s None h e other = subst HasNone e tt
 no_stop_there s (Some place) h e other = other (subst IsStopIf e tt)
 

@@ -10,8 +10,8 @@ seed_line seed size = codes "seed " ++ (decimal seed ++ (codes " size " ++ decim
 unfoldable pub stops_line : ℕ → List ℕ
 stops_line count = codes "stops " ++ decimal count
 
--- pairs COUNT home COUNT recovered COUNT noncurrent COUNT nonresident COUNT, for the pairs of a stop and a variable that is visible there,
--- all of them and by what was told of the variable
+-- pairs COUNT home COUNT recovered COUNT noncurrent COUNT nonresident COUNT, for the pairs of a stop and a variable
+-- that is visible there, all of them and by what was told of the variable
 unfoldable pub pairs_line : (pairs home recovered noncurrent nonresident : ℕ) → List ℕ
 pairs_line pairs home recovered noncurrent nonresident =
     codes "pairs " ++ (decimal pairs ++ (codes " home " ++ (decimal home ++ (codes " recovered " ++ (decimal recovered

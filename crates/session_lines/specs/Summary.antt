@@ -30,16 +30,18 @@ abbrev pub and_more : ℕ → ℕ → ℕ
 and_more n k = min (n + k) 18446744073709551615
 
 -- a visible variable more, by the verdict on it
-abbrev pub counted : Verdict → PairCounts → PairCounts
-counted Home c = record c { home = and_more c.home 1; pairs = and_more c.pairs 1 }
-counted (Recovered change node) c = record c { recovered = and_more c.recovered 1; pairs = and_more c.pairs 1 }
-counted (Noncurrent change start writer) c = record c { noncurrent = and_more c.noncurrent 1; pairs = and_more c.pairs 1 }
-counted (Nonresident change start writer) c = record c { nonresident = and_more c.nonresident 1; pairs = and_more c.pairs 1 }
+abbrev pub with_verdict : Verdict → PairCounts → PairCounts
+with_verdict Home c = record c { home = and_more c.home 1; pairs = and_more c.pairs 1 }
+with_verdict (Recovered change node) c = record c { recovered = and_more c.recovered 1; pairs = and_more c.pairs 1 }
+with_verdict (Noncurrent change start writer) c =
+    record c { noncurrent = and_more c.noncurrent 1; pairs = and_more c.pairs 1 }
+with_verdict (Nonresident change start writer) c =
+    record c { nonresident = and_more c.nonresident 1; pairs = and_more c.pairs 1 }
 
 -- some visible variables more, by their rows
 abbrev pub counted_all : List VisibleRow → PairCounts → PairCounts
 counted_all [] c = c
-counted_all (r ∷ rows) c = counted_all rows (counted r.verdict c)
+counted_all (r ∷ rows) c = counted_all rows (with_verdict r.verdict c)
 
 -- a stop more at a place, with the rows of its visible variables
 abbrev pub counted_here : Form → (place : ℕ) → Counts → Counts
@@ -74,13 +76,20 @@ IsStop halt.Limit = ⊥
 -- A run went on to the next stop or to its end, and is then the other; that was counted.
 pub record IsOneStep (old new : RunState) (before behind : Counts) (at : Halt) : Type 0 where
   pub went : HasRun AnyStop old new
-  pub counts : behind ≡ counted_reach new.form (record { output = new.output; position = new.position; rest = new.events }) before
+  pub counts : behind ≡ counted_reach new.form (record {
+    output = new.output;
+    position = new.position;
+    rest = new.events;
+  }) before
   pub halts : halt_at new.form new.position ≡ Some at
 
--- A run is stepped to its end: from where it stands to the next stop, and so on, until it is over. The counts go from the first to the second.
+-- A run is stepped to its end: from where it stands to the next stop, and so on, until it is over. The counts go from
+-- the first to the second.
 pub data IsStepped (m : Form) : Position → List MachineEvent → (before behind : Counts) → Ending → Type 0 where
   over : {e : Ending} {events : List MachineEvent} {c : Counts} → IsStepped m (Over e) events c c e
-  step : {p : Position} {events : List MachineEvent} {r : Reach} {c d : Counts} {e : Ending} → ran m AnyStop p events ≡ r → IsStepped m r.position r.rest (counted_reach m r c) d e → IsStepped m p events c d e
+  step : {p : Position} {events : List MachineEvent} {r : Reach} {c d : Counts} {e : Ending}
+      → ran m AnyStop p events ≡ r → IsStepped m r.position r.rest (counted_reach m r c) d e
+      → IsStepped m p events c d e
 
 -- The summary of a run is what stepping it to its end, from where it stands, comes to.
 pub record IsSummaryOf (run : RunState) (summary : Summary) : Type 0 where

@@ -5,7 +5,7 @@ ghost use Rattle.stop_engine.specs.EngineState.{HasExecuted};
 ghost use Rattle.image_form.specs.Rules.{IsImage};
 ghost use Rattle.image_form.specs.Views.{viewed};
 ghost use Rattle.stop_engine_view.specs.Rows.{rows_at};
-ghost use Rattle.session_lines.specs.Summary.{IsOneStep, IsStop, IsSummaryOf, IsSummed, counted, counted_all, counted_halt, nothing};
+ghost use Rattle.session_lines.specs.Summary.{IsOneStep, IsStop, IsSummaryOf, IsSummed, with_verdict, counted_all, counted_halt, nothing};
 
 use crate::lines::PairCounts;
 use image_form::{Verdict, View};
@@ -52,7 +52,7 @@ fn nothing() -> Counts
 
 /// Counts a visible variable by the verdict on it.
 fn count(counts: PairCounts, verdict: Verdict) -> PairCounts
-    ensures { result ≡ counted verdict counts }
+    ensures { result ≡ with_verdict verdict counts }
 {
     let mut more = counts;
     match verdict {

@@ -9,7 +9,7 @@ use Rattle.image_form.specs.Rules.{IsImage}
 use Rattle.image_form.specs.declared.tables.Place.{Place}
 use Rattle.image_form.specs.RulesOfFunctions.{IsPlaceNumber}
 use Rattle.line_form.specs.Lines.{frame_line}
-use Rattle.rv_machine.specs.State.{State, reg, word}
+use Rattle.rv_machine.specs.State.{MachineState, reg, word}
 use Rattle.stop_engine.specs.declared.activations.Frame.{Frame}
 use Rattle.stop_engine.specs.declared.run.Stop.{Stop}
 use Rattle.stop_engine.specs.Activations.{activation_at, activation_lines, activation_of, activations}
@@ -47,7 +47,7 @@ all_front P x xs first all zero d lt = first
 all_front P x xs first all (suc k) d lt = all k d (omega arith)
 
 -- activations stand at places of the image
-frames_number : (n : ℕ) (m : Form) (s : State) (place sp : ℕ) → IsImage m → IsPlaceNumber m place → All (IsPlaceNumber m) (frames_from n m s place sp)
+frames_number : (n : ℕ) (m : Form) (s : MachineState) (place sp : ℕ) → IsImage m → IsPlaceNumber m place → All (IsPlaceNumber m) (frames_from n m s place sp)
 frames_number zero m s place sp image is = λ k d lt. absurd (omega arith)
 frames_number (suc n) m s place sp image is =
     by_test (calling_place m s sp == 0) refl (λ some. frames_number n m s (calling_place m s sp) (word (sp + frame_of m place)) image (calling_number m s sp image some))
@@ -62,7 +62,7 @@ frames_number (suc n) m s place sp image is =
         subst (All (IsPlaceNumber m)) (sym next) (all_front (IsPlaceNumber m) place _ is (rest some))
 
 -- there are few activations
-pub activations_few : (m : Form) (s : State) (place : ℕ) (all : List Frame) → map activation_of all ≡ activations m s place → length all < 4294967296
+pub activations_few : (m : Form) (s : MachineState) (place : ℕ) (all : List Frame) → map activation_of all ≡ activations m s place → length all < 4294967296
 activations_few m s place all are =
     let same : length all ≡ length (frames m s place) = sym (length-map all activation_of) ∙ (ap length are ∙ length-map (frames m s place) (activation_at m)) in
     omega (arith, same, frames_few m s place)
@@ -77,13 +77,13 @@ where_said r stop all lines is seen said =
     at_stop-said r stop (where_lines r.form) lines is (said ∙ (ap (activation_lines 0) seen ∙ (lines_at m 0 (frames m s stop.place) numbers ∙ ap (λ (n : Form). where_lines n s stop.place) is.image)))
 
 -- there is an activation at each stop
-some_activation : (m : Form) (s : State) (place : ℕ) → activations m s place ≢ []
+some_activation : (m : Form) (s : MachineState) (place : ℕ) → activations m s place ≢ []
 unfolding greatest_depth
 some_activation m s place none =
     let next = ap (map (activation_at m)) (frames_next 1023 m s place (reg s 2)) in
     absurd (let same = sym next ∙ none in cc)
 
-at_stop-not_none : (p : Position) (s : State) → p ≡ Standing s → IsAtNoStop p → ⊥
+at_stop-not_none : (p : Position) (s : MachineState) → p ≡ Standing s → IsAtNoStop p → ⊥
 at_stop-not_none p s is none = subst IsAtNoStop is none
 
 -- at a stop there are activations

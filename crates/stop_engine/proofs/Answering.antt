@@ -9,7 +9,7 @@ use Rattle.image_form.specs.Form.{Form}
 use Rattle.image_form.specs.RulesOfFunctions.{IsPlaceNumber}
 use Rattle.line_form.specs.Lines.{no_stop_line, out_lines}
 use Rattle.rv_machine.specs.Run.{MachineEvent, Byte, Arrival, Exit, TooDeep, Faulted}
-use Rattle.rv_machine.specs.State.{State}
+use Rattle.rv_machine.specs.State.{MachineState}
 use Rattle.script_form.specs.Script.{Order, Break, Step, Continue, Next, Finish, Print, Locals, Where, Quit, Mark}
 use Rattle.stop_engine.specs.declared.halt.Halt.{Halt}
 use Rattle.stop_engine.specs.declared.halt.Halt.TheVariants.{At, Exited, Depth, Fault}
@@ -23,7 +23,7 @@ use Rattle.stop_engine.specs.EngineState.{Answers, EngineState, HasMarked, HasRu
 use Rattle.stop_engine.specs.Halting.{IsHaltOf, halt_at, halt_line, halt_of}
 use Rattle.stop_engine_view.specs.Reading.{depth, place_at}
 use Rattle.stop_engine.specs.Stopping.{IsAtNoStop, IsStopOf}
-use Rattle.stop_engine.specs.Transcript.{Aim, AnyStop, OneOf, Within, Ending, Exits, NestsTooDeep, Faults, Limit, Position, Fresh, Standing, Over, Reach, Session, after, aims_at, at_stop, behind, below, ending_line, finish_aim, is_aim, is_among, is_quit, lines_from, marked_line, next_aim, position_line, ran, reached, run_lines, run_of, said, with_output}
+use Rattle.stop_engine.specs.Transcript.{Aim, AnyStop, OneOf, Within, Ending, Exits, NestsTooDeep, Faults, Limit, Position, Fresh, Standing, Over, Reach, Session, session_after, aims_at, at_stop, session_behind, below, ending_line, finish_aim, is_aim, is_among_places, is_quit, lines_from, marked_line, next_aim, position_line, ran, reached, run_lines, run_of, said, with_output}
 use Rattle.stop_engine.proofs.MarkLaws.{among-append}
 use Rattle.stop_engine_view.proofs.PlacesByAddress.{place_from-found}
 
@@ -68,11 +68,11 @@ halt_at-says m limit (Standing s) h e = by_place (place_at m s.pc) refl
         subst (SaysPosition m limit (Standing s)) same (record { place = place_at-number m s.pc k at_pc; line = rw at_pc refl })
 
 -- what is known where a run halted at a stop
-pub record StandsAt (m : Form) (w : standing_type.Standing) (s : State) (place : ℕ) : Type 0 where
+pub record StandsAt (m : Form) (w : standing_type.Standing) (s : MachineState) (place : ℕ) : Type 0 where
   pub stands : position_of w s ≡ Standing s
   pub begins : place_at m s.pc ≡ Some place
 
-standing-place : (m : Form) (s : State) (place d : ℕ) → halt_at m (Standing s) ≡ Some (At place d) → place_at m s.pc ≡ Some place
+standing-place : (m : Form) (s : MachineState) (place d : ℕ) → halt_at m (Standing s) ≡ Some (At place d) → place_at m s.pc ≡ Some place
 standing-place m s place d e = by_place (place_at m s.pc) refl
   where
     by_place : (o : Option ℕ) → place_at m s.pc ≡ o → place_at m s.pc ≡ Some place
@@ -83,7 +83,7 @@ standing-place m s place d e = by_place (place_at m s.pc) refl
         let number : k ≡ place = cc in
         at_pc ∙ ap Some number
 
-pub stands_at : (m : Form) (w : standing_type.Standing) (s : State) (place : ℕ) → place_of w ≡ Some place → IsStanding m w s → StandsAt m w s place
+pub stands_at : (m : Form) (w : standing_type.Standing) (s : MachineState) (place : ℕ) → place_of w ≡ Some place → IsStanding m w s → StandsAt m w s place
 stands_at m standing.Fresh s place e is = absurd cc
 stands_at m standing.UnderWay s place e is = absurd cc
 stands_at m (standing.Halted (At k d)) s place e is = record { stands = refl; begins = standing-place m s k d is ∙ e }
@@ -94,7 +94,7 @@ stands_at m (standing.Halted Limited) s place e is = absurd cc
 
 -- ---- What is said at a stop
 
-pub at_stop-said : (r : RunState) (stop : Stop) (say : State → ℕ → List (List ℕ)) (lines : List (List ℕ)) → IsStopOf r stop → lines ≡ say stop.machine.now stop.place → lines ≡ at_stop r.form r.position say
+pub at_stop-said : (r : RunState) (stop : Stop) (say : MachineState → ℕ → List (List ℕ)) (lines : List (List ℕ)) → IsStopOf r stop → lines ≡ say stop.machine.now stop.place → lines ≡ at_stop r.form r.position say
 at_stop-said r stop say lines is e = rw (is.position, is.place) e
 
 -- the lines of a run, by what its halt says
@@ -111,13 +111,13 @@ lines-of_run old new aim halt out lines all line h at taken outs last pushed =
 
 -- a session stands where another does, and the same places are marked
 record SameSession (s t : Session) : Type 0 where
-  marks : (place : ℕ) → is_among s.marks place ≡ is_among t.marks place
+  marks : (place : ℕ) → is_among_places s.marks place ≡ is_among_places t.marks place
   position : s.position ≡ t.position
   events : s.events ≡ t.events
 
 -- the same places are marked
 abbrev SameMarks : List ℕ → List ℕ → Type 0
-SameMarks a b = (place : ℕ) → is_among a place ≡ is_among b place
+SameMarks a b = (place : ℕ) → is_among_places a place ≡ is_among_places b place
 
 -- two aims are at the same stops
 abbrev AreAlike : Aim → Aim → Type 0
@@ -160,9 +160,9 @@ ran-same m a b (Over e) events same = refl
 -- what two such sessions say of an order, and that they are alike behind it
 record SameAnswer (m : Form) (limit : ℕ) (s t : Session) (o : Order) : Type 0 where
   lines : said m limit s o ≡ said m limit t o
-  next : SameSession (after m s o) (after m t o)
+  next : SameSession (session_after m s o) (session_after m t o)
 
-same_run : (s t : Session) (r q : Reach) → r ≡ q → SameSession s t → SameSession (behind s r) (behind t q)
+same_run : (s t : Session) (r q : Reach) → r ≡ q → SameSession s t → SameSession (session_behind s r) (session_behind t q)
 same_run s t r q e same = record { marks = same.marks; position = ap (λ (x : Reach). x.position) e; events = ap (λ (x : Reach). x.rest) e }
 
 finish-none : (m : Form) (limit : ℕ) (s t : Session) → finish_aim s.marks s.position ≡ None → finish_aim t.marks t.position ≡ None
@@ -170,8 +170,8 @@ finish-none : (m : Form) (limit : ℕ) (s t : Session) → finish_aim s.marks s.
 finish-none m limit s t mine other same = record {
   lines = ap (λ o. option_map_or (λ aim. run_lines m limit (run_of m s aim)) o (no_stop_line ∷ [])) mine
       ∙ sym (ap (λ o. option_map_or (λ aim. run_lines m limit (run_of m t aim)) o (no_stop_line ∷ [])) other);
-  next = subst (λ u. SameSession u (after m t Finish)) (sym (ap (λ o. option_map_or (λ aim. behind s (run_of m s aim)) o s) mine))
-      (subst (SameSession s) (sym (ap (λ o. option_map_or (λ aim. behind t (run_of m t aim)) o t) other)) same);
+  next = subst (λ u. SameSession u (session_after m t Finish)) (sym (ap (λ o. option_map_or (λ aim. session_behind s (run_of m s aim)) o s) mine))
+      (subst (SameSession s) (sym (ap (λ o. option_map_or (λ aim. session_behind t (run_of m t aim)) o t) other)) same);
 }
 
 finish-ran : (m : Form) (limit : ℕ) (s t : Session) (a b : Aim) → finish_aim s.marks s.position ≡ Some a → finish_aim t.marks t.position ≡ Some b
@@ -179,8 +179,8 @@ finish-ran : (m : Form) (limit : ℕ) (s t : Session) (a b : Aim) → finish_aim
 finish-ran m limit s t a b mine other e same = record {
   lines = ap (λ o. option_map_or (λ aim. run_lines m limit (run_of m s aim)) o (no_stop_line ∷ [])) mine
       ∙ (ap (run_lines m limit) e ∙ sym (ap (λ o. option_map_or (λ aim. run_lines m limit (run_of m t aim)) o (no_stop_line ∷ [])) other));
-  next = subst (λ u. SameSession u (after m t Finish)) (sym (ap (λ o. option_map_or (λ aim. behind s (run_of m s aim)) o s) mine))
-      (subst (SameSession (behind s (run_of m s a))) (sym (ap (λ o. option_map_or (λ aim. behind t (run_of m t aim)) o t) other))
+  next = subst (λ u. SameSession u (session_after m t Finish)) (sym (ap (λ o. option_map_or (λ aim. session_behind s (run_of m s aim)) o s) mine))
+      (subst (SameSession (session_behind s (run_of m s a))) (sym (ap (λ o. option_map_or (λ aim. session_behind t (run_of m t aim)) o t) other))
       (same_run s t (run_of m s a) (run_of m t b) e same));
 }
 
@@ -205,7 +205,7 @@ answer-same : (m : Form) (limit : ℕ) (s t : Session) (o : Order) → SameSessi
 answer-same m limit s t (Break mark) same = record {
   lines = refl;
   next = record {
-    marks = λ place. among-append s.marks (break_places m mark) place ∙ (ap (λ b. b || is_among (break_places m mark) place) (same.marks place) ∙ sym (among-append t.marks (break_places m mark) place));
+    marks = λ place. among-append s.marks (break_places m mark) place ∙ (ap (λ b. b || is_among_places (break_places m mark) place) (same.marks place) ∙ sym (among-append t.marks (break_places m mark) place));
     position = same.position;
     events = same.events;
   };
@@ -233,18 +233,18 @@ lines-same : (m : Form) (limit : ℕ) (s t : Session) (orders : List Order) → 
 lines-same m limit s t [] same = refl
 lines-same m limit s t (o ∷ orders) same =
     let answer = answer-same m limit s t o same in
-    ap (λ l. l ++ (if is_quit o then [] else lines_from m limit (after m s o) orders)) answer.lines
-    ∙ ap (λ l. said m limit t o ++ (if is_quit o then [] else l)) (lines-same m limit (after m s o) (after m t o) orders answer.next)
+    ap (λ l. l ++ (if is_quit o then [] else lines_from m limit (session_after m s o) orders)) answer.lines
+    ∙ ap (λ l. said m limit t o ++ (if is_quit o then [] else l)) (lines-same m limit (session_after m s o) (session_after m t o) orders answer.next)
 
 -- ---- The answers of an engine
 
 pub answers-break : (e f : EngineState) (mark : Mark) (lines : List (List ℕ)) → e.has_quit ≡ false → HasMarked mark e f
     → lines ≡ marked_line mark (break_places e.run.form mark) ∷ [] → Answers e f (Break mark) lines
 answers-break e f mark lines unquit h is more =
-    let rest = lines-same e.run.form e.run.limit (after e.run.form (session_of e) (Break mark)) (session_of f) more (record { marks = λ place. sym (h.marks place); position = ap (λ (r : RunState). r.position) (sym h.run); events = ap (λ (r : RunState). r.events) (sym h.run) }) in
+    let rest = lines-same e.run.form e.run.limit (session_after e.run.form (session_of e) (Break mark)) (session_of f) more (record { marks = λ place. sym (h.marks place); position = ap (λ (r : RunState). r.position) (sym h.run); events = ap (λ (r : RunState). r.events) (sym h.run) }) in
     let there : lines_of f more ≡ lines_from e.run.form e.run.limit (session_of f) more = rw (h.quit, unquit, h.run) refl in
     ap (λ b. if b then [] else lines_from e.run.form e.run.limit (session_of e) (Break mark ∷ more)) unquit
-    ∙ (ap (λ l. l ++ lines_from e.run.form e.run.limit (after e.run.form (session_of e) (Break mark)) more) (sym is) ∙ ap (λ l. lines ++ l) (rest ∙ sym there))
+    ∙ (ap (λ l. l ++ lines_from e.run.form e.run.limit (session_after e.run.form (session_of e) (Break mark)) more) (sym is) ∙ ap (λ l. lines ++ l) (rest ∙ sym there))
 
 -- what holds of a value where a fact holds, and another of the value
 pub if_ok-with : {T E : Type 0} (r : Result T E) (P : Type 0) (Q R : T → Type 0) → OnOk r P → IfOk r Q → ((x : T) → P → Q x → R x) → IfOk r R

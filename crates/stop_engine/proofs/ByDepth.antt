@@ -1,6 +1,6 @@
 -- Where the commands halt that go by the depth of a stop.
 use Rattle.std.proofs.Common.{◌≡◌, ℕ, true, false, Option, Some, None, List, refl, ap, ◌∙◌}
-use Rattle.rv_machine.specs.State.{State}
+use Rattle.rv_machine.specs.State.{MachineState}
 use Rattle.stop_engine.specs.declared.halt.Halt.{Halt}
 use Rattle.stop_engine.specs.declared.halt.Halt.TheVariants.{At, Exited, Depth, Fault}
 use Rattle.stop_engine.specs.declared.halt.Halt.TheVariants.{Limit as Limited}
@@ -21,7 +21,7 @@ no_depth (Standing s) is = absurd is
 no_depth (Over e) is = refl
 
 -- a run that halted has come to a halt
-pub halted_once : (h : Halt) (s : State) → false ≡ is_fresh (halted_at h s)
+pub halted_once : (h : Halt) (s : MachineState) → false ≡ is_fresh (halted_at h s)
 halted_once (At place d) s = refl
 halted_once (Exited status) s = refl
 halted_once Depth s = refl

@@ -7,7 +7,7 @@ use Rattle.std.proofs.lemmas.Bool.Decides.{nat_tests}
 use Rattle.image_form.specs.Lists.{EachToNext}
 use Rattle.image_form.specs.RulesOfChanges.{IsPairBefore}
 use Rattle.image_form.specs.declared.tables.FlowPair.{FlowPair}
-use Rattle.stop_engine.specs.Breaks.{followers, least}
+use Rattle.stop_engine.specs.Breaks.{followers, least_of}
 use Rattle.stop_engine_tables.proofs.Records.{records_from}
 
 -- the pairs ascend
@@ -36,7 +36,7 @@ pub followers-elsewhere : (place : ℕ) (q : FlowPair) (pairs : List FlowPair) �
 followers-elsewhere place q pairs differ = let t : (q.from == place) ≡ false = grind (arith, nat_tests, differ) in rw t refl
 
 -- behind a pair of a place there is no lesser place that follows it
-later_follow : (p : FlowPair) (pairs : List FlowPair) → Ascend (p ∷ pairs) → AtLeast p.to (least (followers p.from pairs))
+later_follow : (p : FlowPair) (pairs : List FlowPair) → Ascend (p ∷ pairs) → AtLeast p.to (least_of (followers p.from pairs))
 later_follow p [] ascend = tt
 later_follow p (q ∷ pairs) ascend = by_test (q.from == p.from) refl (later_follow p pairs (behind pairs ascend))
   where
@@ -48,22 +48,22 @@ later_follow p (q ∷ pairs) ascend = by_test (q.from == p.from) refl (later_fol
     not_less (inl g) same = absurd (omega (arith, g, same))
     not_less (inr g) same = omega (arith, g.1)
 
-    by_test : (b : Bool) → (q.from == p.from) ≡ b → AtLeast p.to (least (followers p.from pairs)) → AtLeast p.to (least (followers p.from (q ∷ pairs)))
+    by_test : (b : Bool) → (q.from == p.from) ≡ b → AtLeast p.to (least_of (followers p.from pairs)) → AtLeast p.to (least_of (followers p.from (q ∷ pairs)))
     by_test true t rest =
         let same : q.from ≡ p.from = grind (arith, nat_tests, t) in
-        subst (λ l. AtLeast p.to (least l)) (sym (followers-there p.from q pairs same)) (least_of_two p.to q.to (least (followers p.from pairs)) (not_less ascend.0 same) rest)
+        subst (λ l. AtLeast p.to (least_of l)) (sym (followers-there p.from q pairs same)) (least_of_two p.to q.to (least_of (followers p.from pairs)) (not_less ascend.0 same) rest)
     by_test false t rest =
         let differ : q.from ≢ p.from = grind (arith, nat_tests, t) in
-        subst (λ l. AtLeast p.to (least l)) (sym (followers-elsewhere p.from q pairs differ)) rest
+        subst (λ l. AtLeast p.to (least_of l)) (sym (followers-elsewhere p.from q pairs differ)) rest
 
 min_first : (x : ℕ) (o : Option ℕ) → AtLeast x o → option_map_or (λ y. min x y) o x ≡ x
 min_first x None h = refl
 min_first x (Some y) h = grind (arith, nat_tests, h)
 
-pub least-first : (place : ℕ) (q : FlowPair) (pairs : List FlowPair) → Ascend (q ∷ pairs) → q.from ≡ place → least (followers place (q ∷ pairs)) ≡ Some q.to
+pub least-first : (place : ℕ) (q : FlowPair) (pairs : List FlowPair) → Ascend (q ∷ pairs) → q.from ≡ place → least_of (followers place (q ∷ pairs)) ≡ Some q.to
 least-first place q pairs ascend same =
-    ap least (followers-there place q pairs same)
-    ∙ ap Some (min_first q.to (least (followers place pairs)) (subst (λ n. AtLeast q.to (least (followers n pairs))) same (later_follow q pairs ascend)))
+    ap least_of (followers-there place q pairs same)
+    ∙ ap Some (min_first q.to (least_of (followers place pairs)) (subst (λ n. AtLeast q.to (least_of (followers n pairs))) same (later_follow q pairs ascend)))
 
 pub ascend-drop : (i : ℕ) (pairs : List FlowPair) → Ascend pairs → Ascend (drop i pairs)
 ascend-drop zero pairs h = h
@@ -71,11 +71,11 @@ ascend-drop (suc i) [] h = h
 ascend-drop (suc i) (p ∷ pairs) h = ascend-drop i pairs h.1
 
 -- the least place that follows, by the first pair of the place
-pub follower-found : (place i : ℕ) (pair : FlowPair) (pairs : List FlowPair) → Ascend pairs → slice_get pairs i ≡ Some pair → pair.from ≡ place → Some pair.to ≡ least (followers place (drop i pairs))
+pub follower-found : (place i : ℕ) (pair : FlowPair) (pairs : List FlowPair) → Ascend pairs → slice_get pairs i ≡ Some pair → pair.from ≡ place → Some pair.to ≡ least_of (followers place (drop i pairs))
 follower-found place i pair pairs ascend got same =
     let front : drop i pairs ≡ pair ∷ drop (i + 1) pairs = records_from pairs i pair got in
     let ascends = subst Ascend front (ascend-drop i pairs ascend) in
-    sym (ap (λ l. least (followers place l)) front ∙ least-first place pair (drop (i + 1) pairs) ascends same)
+    sym (ap (λ l. least_of (followers place l)) front ∙ least-first place pair (drop (i + 1) pairs) ascends same)
 
 -- the least of some numbers is within what they all are within
 abbrev pub AtMost : ℕ → Option ℕ → Type 0
@@ -86,14 +86,14 @@ most_of_two : (most x : ℕ) (o : Option ℕ) → x < most → AtMost most (Some
 most_of_two most x None le = le
 most_of_two most x (Some y) le = grind (arith, nat_tests, le)
 
-pub least-within : (place most : ℕ) (pairs : List FlowPair) → AllByRecursion (λ (p : FlowPair). p.to < most) pairs → AtMost most (least (followers place pairs))
+pub least-within : (place most : ℕ) (pairs : List FlowPair) → AllByRecursion (λ (p : FlowPair). p.to < most) pairs → AtMost most (least_of (followers place pairs))
 least-within place most [] all = tt
 least-within place most (q ∷ pairs) all = by_test (q.from == place) refl (least-within place most pairs all.1)
   where
-    by_test : (b : Bool) → (q.from == place) ≡ b → AtMost most (least (followers place pairs)) → AtMost most (least (followers place (q ∷ pairs)))
+    by_test : (b : Bool) → (q.from == place) ≡ b → AtMost most (least_of (followers place pairs)) → AtMost most (least_of (followers place (q ∷ pairs)))
     by_test true t rest =
         let same : q.from ≡ place = grind (arith, nat_tests, t) in
-        subst (λ l. AtMost most (least l)) (sym (followers-there place q pairs same)) (most_of_two most q.to (least (followers place pairs)) all.0)
+        subst (λ l. AtMost most (least_of l)) (sym (followers-there place q pairs same)) (most_of_two most q.to (least_of (followers place pairs)) all.0)
     by_test false t rest =
         let differ : q.from ≢ place = grind (arith, nat_tests, t) in
-        subst (λ l. AtMost most (least l)) (sym (followers-elsewhere place q pairs differ)) rest
+        subst (λ l. AtMost most (least_of l)) (sym (followers-elsewhere place q pairs differ)) rest

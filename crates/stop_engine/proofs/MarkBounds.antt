@@ -13,7 +13,7 @@ use Rattle.image_form.specs.declared.tables.Function.{Function}
 use Rattle.image_form.specs.declared.tables.Place.{Place}
 use Rattle.image_form.proofs.TableLaws.{each_at}
 use Rattle.script_form.specs.Script as script
-use Rattle.stop_engine.specs.Breaks.{break_places, first_place, followers, function_called, is_stop_on, least, one_or_none, stops_on}
+use Rattle.stop_engine.specs.Breaks.{break_places, first_place, followers, function_called, is_stop_on, least_of, one_or_none, stops_on}
 use Rattle.stop_engine.proofs.Followers.{AtMost, least-within}
 
 wider : (a b : ℕ) (xs : List ℕ) → a ≤ b → AllByRecursion (λ p. p < a) xs → AllByRecursion (λ p. p < b) xs
@@ -36,7 +36,7 @@ one-within : (most : ℕ) (o : Option ℕ) → AtMost most o → AllByRecursion 
 one-within most None h = tt
 one-within most (Some x) h = (h, tt)
 
-first-within : (m : Form) (o : Option Function) → IsImage m → AtMost (length m.places + 1) (option_map_or (λ (f : Function). least (followers f.entry m.flow)) o None)
+first-within : (m : Form) (o : Option Function) → IsImage m → AtMost (length m.places + 1) (option_map_or (λ (f : Function). least_of (followers f.entry m.flow)) o None)
 first-within m None image = tt
 first-within m (Some f) image = least-within f.entry (length m.places + 1) m.flow (flow-within m m.flow image.flow.each)
 

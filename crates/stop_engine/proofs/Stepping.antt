@@ -3,9 +3,9 @@ use Rattle.std.proofs.Common.{◌≡◌, ℕ, suc, true, false, None, Some, List
 use Rattle.std.specs.List.{AllByRecursion}
 use Rattle.std.specs.Option.{option_map_or}
 use Rattle.image_form.specs.Form.{Form}
-use Rattle.rv_machine.specs.State.{State}
+use Rattle.rv_machine.specs.State.{MachineState}
 use Rattle.rv_machine.specs.Table.{Effect, effect}
-use Rattle.rv_machine.specs.Run.{MachineEvent, Byte, Arrival, Exit, TooDeep, Faulted, arrival, goes_on, is_stop, run}
+use Rattle.rv_machine.specs.Run.{MachineEvent, Byte, Arrival, Exit, TooDeep, Faulted, arrival, goes_on, is_stop, machine_run}
 use Rattle.rv_machine.specs.declared.event.Event.{Event}
 use Rattle.rv_machine.specs.declared.event.Event.TheVariants as event
 use Rattle.stop_engine.specs.EngineState.{Wants, run_state}
@@ -35,7 +35,7 @@ bytes-and_byte (Exit v ∷ front) b = bytes-and_byte front b
 bytes-and_byte (TooDeep ∷ front) b = bytes-and_byte front b
 bytes-and_byte (Faulted a ∷ front) b = bytes-and_byte front b
 
-bytes-and_arrival : (front : List MachineEvent) (s : State) → bytes_among (front ++ Arrival s ∷ []) ≡ bytes_among front
+bytes-and_arrival : (front : List MachineEvent) (s : MachineState) → bytes_among (front ++ Arrival s ∷ []) ≡ bytes_among front
 bytes-and_arrival [] s = refl
 bytes-and_arrival (Byte c ∷ front) s = ap (λ l. c ∷ l) (bytes-and_arrival front s)
 bytes-and_arrival (Arrival t ∷ front) s = bytes-and_arrival front s
@@ -62,7 +62,7 @@ passes-byte m aim events before now b rest pushed p = record {
 }
 
 -- a stop that is none of the aim is passed by
-pub passes-stop : (m : Form) (aim : Aim) (events : List MachineEvent) (output : List ℕ) (s : State) (rest : List MachineEvent) → is_aim m aim s ≡ false
+pub passes-stop : (m : Form) (aim : Aim) (events : List MachineEvent) (output : List ℕ) (s : MachineState) (rest : List MachineEvent) → is_aim m aim s ≡ false
     → PassesBy m aim events output (Arrival s ∷ rest) → PassesBy m aim events output rest
 passes-stop m aim events output s rest none p = record {
   front = p.front ++ Arrival s ∷ [];
@@ -71,12 +71,12 @@ passes-stop m aim events output s rest none p = record {
   passed = all_and_one (IsPassed m aim) p.front (Arrival s) p.passed none;
 }
 
-pub passes-there : (m : Form) (aim : Aim) (stops : List ℕ) (events : List MachineEvent) (output : List ℕ) (s : State) (rest : List MachineEvent) → is_stop stops s.pc ≡ true
+pub passes-there : (m : Form) (aim : Aim) (stops : List ℕ) (events : List MachineEvent) (output : List ℕ) (s : MachineState) (rest : List MachineEvent) → is_stop stops s.pc ≡ true
     → PassesBy m aim events output (arrival stops s ++ rest) → PassesBy m aim events output (Arrival s ∷ rest)
 passes-there m aim stops events output s rest some p = rw some at p
 
 -- a stop at which the run arrives is none of the aim
-pub passes-arrived : (m : Form) (aim : Aim) (stops : List ℕ) (events : List MachineEvent) (output : List ℕ) (s : State) (rest : List MachineEvent) (pc deep place : ℕ) → pc ≡ s.pc → deep ≡ depth s → is_stop stops pc ≡ true → place_at m pc ≡ Some place
+pub passes-arrived : (m : Form) (aim : Aim) (stops : List ℕ) (events : List MachineEvent) (output : List ℕ) (s : MachineState) (rest : List MachineEvent) (pc deep place : ℕ) → pc ≡ s.pc → deep ≡ depth s → is_stop stops pc ≡ true → place_at m pc ≡ Some place
     → aims_at aim deep place ≡ false → PassesBy m aim events output (arrival stops s ++ rest) → PassesBy m aim events output rest
 passes-arrived m aim stops events output s rest pc deep place at depth_is stop here none p =
     let there : place_at m s.pc ≡ Some place = ap (place_at m) (sym at) ∙ here in
@@ -85,16 +85,16 @@ passes-arrived m aim stops events output s rest pc deep place at depth_is stop h
     passes-stop m aim events output s rest not_aimed (passes-there m aim stops events output s rest (ap (is_stop stops) (sym at) ∙ stop) p)
 
 -- an instruction that puts out a byte
-pub passes-out : (m : Form) (aim : Aim) (stops : List ℕ) (events : List MachineEvent) (before now : List ℕ) (n b : ℕ) (s t : State) (e : Event) → record { event = e; after = t } ≡ effect s → e ≡ event.Out b → now ≡ before ++ b ∷ []
-    → PassesBy m aim events before (run stops (suc n) s) → PassesBy m aim events now (arrival stops t ++ run stops n t)
+pub passes-out : (m : Form) (aim : Aim) (stops : List ℕ) (events : List MachineEvent) (before now : List ℕ) (n b : ℕ) (s t : MachineState) (e : Event) → record { event = e; after = t } ≡ effect s → e ≡ event.Out b → now ≡ before ++ b ∷ []
+    → PassesBy m aim events before (machine_run stops (suc n) s) → PassesBy m aim events now (arrival stops t ++ machine_run stops n t)
 passes-out m aim stops events before now n b s t e step is pushed p =
-    let out : run stops (suc n) s ≡ Byte b ∷ (arrival stops t ++ run stops n t) =
-    ap (λ (x : Effect). goes_on stops x.event x.after (run stops n)) (sym step) ∙ ap (λ x. goes_on stops x t (run stops n)) is in
-    passes-byte m aim events before now b (arrival stops t ++ run stops n t) pushed (subst (PassesBy m aim events before) out p)
+    let out : machine_run stops (suc n) s ≡ Byte b ∷ (arrival stops t ++ machine_run stops n t) =
+    ap (λ (x : Effect). goes_on stops x.event x.after (machine_run stops n)) (sym step) ∙ ap (λ x. goes_on stops x t (machine_run stops n)) is in
+    passes-byte m aim events before now b (arrival stops t ++ machine_run stops n t) pushed (subst (PassesBy m aim events before) out p)
 
 -- ---- What is reached
 
-reached-front : (m : Form) (aim : Aim) (front : List MachineEvent) (h : Halt) (s : State) (rest : List MachineEvent) → AllByRecursion (IsPassed m aim) front → IsAimed m aim h s
+reached-front : (m : Form) (aim : Aim) (front : List MachineEvent) (h : Halt) (s : MachineState) (rest : List MachineEvent) → AllByRecursion (IsPassed m aim) front → IsAimed m aim h s
     → reached m aim (front ++ from_halt h s rest) ≡ record { output = bytes_among front; position = halted_at h s; rest = left_behind h rest }
 reached-front m aim [] (At place d) s rest passed aimed = rw aimed refl
 reached-front m aim [] (Exited status) s rest passed aimed = refl
@@ -107,7 +107,7 @@ reached-front m aim (Exit v ∷ front) h s rest passed aimed = absurd passed.0
 reached-front m aim (TooDeep ∷ front) h s rest passed aimed = absurd passed.0
 reached-front m aim (Faulted a ∷ front) h s rest passed aimed = absurd passed.0
 
-reached-halt : (m : Form) (aim : Aim) (events : List MachineEvent) (output : List ℕ) (h : Halt) (s : State) (rest : List MachineEvent) → PassesBy m aim events output (from_halt h s rest) → IsAimed m aim h s
+reached-halt : (m : Form) (aim : Aim) (events : List MachineEvent) (output : List ℕ) (h : Halt) (s : MachineState) (rest : List MachineEvent) → PassesBy m aim events output (from_halt h s rest) → IsAimed m aim h s
     → reached m aim events ≡ record { output = output; position = halted_at h s; rest = left_behind h rest }
 reached-halt m aim events output h s rest p aimed =
     ap (reached m aim) p.whole ∙ (reached-front m aim p.front h s rest p.passed aimed ∙ ap (λ o. record { output = o; position = halted_at h s; rest = left_behind h rest }) (sym p.bytes))
@@ -115,7 +115,7 @@ reached-halt m aim events output h s rest p aimed =
 -- ---- From where a run stands
 
 -- A run that is not over goes on from its unanswered output.
-pub ran-from_here : (m : Form) (aim : Aim) (w : Standing) (s : State) (events : List MachineEvent) → ending_of w ≡ None → ran m aim (position_of w s) events ≡ reached m aim events
+pub ran-from_here : (m : Form) (aim : Aim) (w : Standing) (s : MachineState) (events : List MachineEvent) → ending_of w ≡ None → ran m aim (position_of w s) events ≡ reached m aim events
 ran-from_here m aim Fresh s events e = refl
 ran-from_here m aim UnderWay s events e = refl
 ran-from_here m aim (Halted (At place d)) s events e = refl
@@ -136,31 +136,31 @@ passes-unanswered m aim (Halted (Fault address)) output now events none e = absu
 passes-unanswered m aim (Halted Limit) output now events none e = absurd (cc)
 
 -- A run to a halt, from where it stood.
-pub ran-to_halt : (m : Form) (aim : Aim) (w : Standing) (s t : State) (output now : List ℕ) (events rest : List MachineEvent) (h : Halt) → ending_of w ≡ None
+pub ran-to_halt : (m : Form) (aim : Aim) (w : Standing) (s t : MachineState) (output now : List ℕ) (events rest : List MachineEvent) (h : Halt) → ending_of w ≡ None
     → PassesBy m aim (unanswered w output events) now (from_halt h t rest) → IsAimed m aim h t
     → ran m aim (position_of w s) (unanswered w output events) ≡ record { output = now; position = halted_at h t; rest = left_behind h rest }
 ran-to_halt m aim w s t output now events rest h none p aimed = ran-from_here m aim w s (unanswered w output events) none ∙ reached-halt m aim (unanswered w output events) now h t rest p aimed
 
 -- A run that wanted memory before it moved has forgotten at most the output of a call that was answered.
-pub wants-before_moving : (m : Form) (aim : Aim) (limit left : ℕ) (w : Standing) (s : State) (output now : List ℕ) → ending_of w ≡ None → now ≡ not_answered w output
+pub wants-before_moving : (m : Form) (aim : Aim) (limit left : ℕ) (w : Standing) (s : MachineState) (output now : List ℕ) → ending_of w ≡ None → now ≡ not_answered w output
     → Wants aim (run_state m limit left w s output) (run_state m limit left w s now)
 wants-before_moving m aim limit left Fresh s output now none e =
-    record { image = refl; limit = refl; rest = run (stop_addresses m) left s; passed = passes-unanswered m aim Fresh output now (run (stop_addresses m) left s) none e; events = rw e refl; stands = inl (record { position = refl; events = refl }) }
+    record { image = refl; limit = refl; rest = machine_run (stop_addresses m) left s; passed = passes-unanswered m aim Fresh output now (machine_run (stop_addresses m) left s) none e; events = rw e refl; stands = inl (record { position = refl; events = refl }) }
 wants-before_moving m aim limit left UnderWay s output now none e =
-    record { image = refl; limit = refl; rest = run (stop_addresses m) left s; passed = passes-unanswered m aim UnderWay output now (run (stop_addresses m) left s) none e; events = refl; stands = inl (record { position = refl; events = rw e refl }) }
+    record { image = refl; limit = refl; rest = machine_run (stop_addresses m) left s; passed = passes-unanswered m aim UnderWay output now (machine_run (stop_addresses m) left s) none e; events = refl; stands = inl (record { position = refl; events = rw e refl }) }
 wants-before_moving m aim limit left (Halted (At place d)) s output now none e =
-    record { image = refl; limit = refl; rest = run (stop_addresses m) left s; passed = passes-unanswered m aim (Halted (At place d)) output now (run (stop_addresses m) left s) none e; events = rw e refl; stands = inl (record { position = refl; events = refl }) }
+    record { image = refl; limit = refl; rest = machine_run (stop_addresses m) left s; passed = passes-unanswered m aim (Halted (At place d)) output now (machine_run (stop_addresses m) left s) none e; events = rw e refl; stands = inl (record { position = refl; events = refl }) }
 wants-before_moving m aim limit left (Halted (Exited status)) s output now none e = absurd (cc)
 wants-before_moving m aim limit left (Halted Depth) s output now none e = absurd (cc)
 wants-before_moving m aim limit left (Halted (Fault address)) s output now none e = absurd (cc)
 wants-before_moving m aim limit left (Halted Limit) s output now none e = absurd (cc)
 
 -- A run that wanted memory on its way stands behind the output that it had room for.
-pub wants-on_its_way : (m : Form) (aim : Aim) (limit left more : ℕ) (w : Standing) (s t : State) (output now : List ℕ)
-    → PassesBy m aim (unanswered w output (run (stop_addresses m) left s)) now (run (stop_addresses m) more t) → ROOM ≤ length now
+pub wants-on_its_way : (m : Form) (aim : Aim) (limit left more : ℕ) (w : Standing) (s t : MachineState) (output now : List ℕ)
+    → PassesBy m aim (unanswered w output (machine_run (stop_addresses m) left s)) now (machine_run (stop_addresses m) more t) → ROOM ≤ length now
     → Wants aim (run_state m limit left w s output) (run_state m limit more UnderWay t now)
 wants-on_its_way m aim limit left more w s t output now p full =
-    record { image = refl; limit = refl; rest = run (stop_addresses m) more t; passed = p; events = refl; stands = inr (refl, full) }
+    record { image = refl; limit = refl; rest = machine_run (stop_addresses m) more t; passed = p; events = refl; stands = inr (refl, full) }
 
 -- what holds anyway holds of an error
 pub on_err-always : {T E : Type 0} (r : Result T E) (P : Type 0) → P → OnErr r P

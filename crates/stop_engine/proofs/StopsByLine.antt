@@ -13,7 +13,7 @@ use Rattle.image_form.specs.declared.tables.FlowPair.{FlowPair}
 use Rattle.image_form.specs.declared.tables.Place.{Place}
 use Rattle.stop_engine_tables.proofs.Records.{record_at, records_from}
 use Rattle.stop_engine_view.proofs.RowsByPlace.{kept_behind, none_kept}
-use Rattle.stop_engine.specs.Breaks.{followers, is_stop_on, least, stops_on}
+use Rattle.stop_engine.specs.Breaks.{followers, is_stop_on, least_of, stops_on}
 
 -- ---- What does not fall from one to the next is in order
 
@@ -45,9 +45,9 @@ less_before n xs bound i x order got less k d before within =
 -- and those from one on that is no less are no less
 pub not_less_behind : {A : Type 0} (n : A → ℕ) (xs : List A) (bound i : ℕ) (x : A) → IsNonDecreasingBy n xs → slice_get xs i ≡ Some x → bound ≤ n x
     → (k : ℕ) (d : A) → i ≤ k → k < length xs → bound ≤ n (get_or xs k d)
-not_less_behind n xs bound i x order got least k d behind within =
+not_less_behind n xs bound i x order got least_of k d behind within =
     let not_less = order i k d behind within in
-    omega (arith, not_less, ap n (record_at xs i x d got), least)
+    omega (arith, not_less, ap n (record_at xs i x d got), least_of)
 
 -- ---- Stops on a line
 
@@ -97,22 +97,22 @@ stops-other m line i place ps found more got none same =
 -- ---- Pairs that lead from a place
 
 -- no pair leads from it before the first that leads from no earlier place
-pub followers-behind : (place i : ℕ) (pairs : List FlowPair) → ((k : ℕ) (d : FlowPair) → k < i → k < length pairs → (get_or pairs k d).from < place) → least (followers place (drop i pairs)) ≡ least (followers place pairs)
+pub followers-behind : (place i : ℕ) (pairs : List FlowPair) → ((k : ℕ) (d : FlowPair) → k < i → k < length pairs → (get_or pairs k d).from < place) → least_of (followers place (drop i pairs)) ≡ least_of (followers place pairs)
 followers-behind place i pairs before =
     let same = kept_behind (λ (p : FlowPair). p.from == place) i pairs (λ k d lt within. let less = before k d lt within in ne_eqb (get_or pairs k d).from place (λ e. omega (arith, e, less))) in
-    ap (λ (l : List FlowPair). least (map (λ (p : FlowPair). p.to) l)) (sym same)
+    ap (λ (l : List FlowPair). least_of (map (λ (p : FlowPair). p.to) l)) (sym same)
 
 -- nor from one on that leads from a later place
 pub followers-none : (place i : ℕ) (d : FlowPair) (pairs : List FlowPair) → EachToNext (λ (a b : FlowPair). IsPairBefore a.from a.to b.from b.to) pairs → i < length pairs → place ≤ (get_or pairs i d).from → (get_or pairs i d).from ≢ place
-    → least (followers place (drop i pairs)) ≡ None
+    → least_of (followers place (drop i pairs)) ≡ None
 followers-none place i d pairs ascend lt le other =
     let none = none_kept (λ (p : FlowPair). p.from == place) (drop i pairs) (λ k e within.
     let order = in_order (λ (p : FlowPair). p.from) pairs (from_not_falling pairs ascend) i (i + k) d (omega arith) (omega (arith, within, length-drop i pairs, lt)) in
     let same : get_or (drop i pairs) k e ≡ get_or pairs (i + k) e = get_or-drop i pairs k e in
     let alike : get_or pairs (i + k) e ≡ get_or pairs (i + k) d = get_or_default pairs (i + k) e d (omega (arith, within, length-drop i pairs, lt)) in
     rw (same, alike) (ne_eqb (get_or pairs (i + k) d).from place (λ e. omega (arith, e, order, le, other)))) in
-    ap (λ (l : List FlowPair). least (map (λ (p : FlowPair). p.to) l)) none
+    ap (λ (l : List FlowPair). least_of (map (λ (p : FlowPair). p.to) l)) none
 
 -- and behind the last pair there is none
-pub followers-past : (place i : ℕ) (pairs : List FlowPair) → length pairs ≤ i → least (followers place (drop i pairs)) ≡ None
+pub followers-past : (place i : ℕ) (pairs : List FlowPair) → length pairs ≤ i → least_of (followers place (drop i pairs)) ≡ None
 followers-past place i pairs past = rw (drop_all i pairs past) refl

@@ -5,7 +5,7 @@ use Rattle.std.proofs.lemmas.List.{append_assoc, map-append}
 use Rattle.image_form.specs.Form.{Form}
 use Rattle.image_form.specs.Views.{viewed}
 use Rattle.image_form.specs.declared.verdicts.VisibleRow.{VisibleRow}
-use Rattle.rv_machine.specs.State.{State}
+use Rattle.rv_machine.specs.State.{MachineState}
 use Rattle.stop_engine.specs.EngineState.{RunState}
 use Rattle.stop_engine.specs.Shown.{lines_of_rows, locals_lines, or_no_locals, row_line}
 use Rattle.stop_engine.specs.Stopping.{IsStopOf}
@@ -24,7 +24,7 @@ rows-next rows n end row got within =
     ap (take (end - n)) (records_from rows n row got) ∙ ap (λ k. take k (row ∷ drop (n + 1) rows)) count
 
 -- one variable more is seen, by the next row
-pub seen-more : (m : Form) (s : State) (n end : ℕ) (row : VisibleRow) (found more : List Local) (local : Local) → slice_get m.rows n ≡ Some row → n < end → visible_of local ≡ visible_of_row m s row → more ≡ found ++ local ∷ []
+pub seen-more : (m : Form) (s : MachineState) (n end : ℕ) (row : VisibleRow) (found more : List Local) (local : Local) → slice_get m.rows n ≡ Some row → n < end → visible_of local ≡ visible_of_row m s row → more ≡ found ++ local ∷ []
     → map visible_of more ++ map (visible_of_row m s) (slice_range m.rows (n + 1) end) ≡ map visible_of found ++ map (visible_of_row m s) (slice_range m.rows n end)
 seen-more m s n end row found more local got within is pushed =
     let seen = map visible_of found in
@@ -33,13 +33,13 @@ seen-more m s n end row found more local got within is pushed =
     ap (λ l. l ++ rest) one_more ∙ (append_assoc seen (visible_of_row m s row ∷ []) rest ∙ ap (λ l. seen ++ map (visible_of_row m s) l) (sym (rows-next m.rows n end row got within)))
 
 -- and behind the last row no more
-pub seen-all : (m : Form) (s : State) (n end : ℕ) (found : List Local) → end ≤ n → map visible_of found ≡ map visible_of found ++ map (visible_of_row m s) (slice_range m.rows n end)
+pub seen-all : (m : Form) (s : MachineState) (n end : ℕ) (found : List Local) → end ≤ n → map visible_of found ≡ map visible_of found ++ map (visible_of_row m s) (slice_range m.rows n end)
 seen-all m s n end found past =
     let none : end - n ≡ 0 = omega (arith, past) in
     sym (append-nil (map visible_of found)) ∙ ap (λ k. map visible_of found ++ map (visible_of_row m s) (take k (drop n m.rows))) (sym none)
 
 -- the lines of the variables that are visible at a place
-pub lines_of_place : (m : Form) (s : State) (place : ℕ) (rows : List VisibleRow) → map visible_line (map (visible_of_row m s) (rows_at place rows)) ≡ lines_of_rows m s place rows
+pub lines_of_place : (m : Form) (s : MachineState) (place : ℕ) (rows : List VisibleRow) → map visible_line (map (visible_of_row m s) (rows_at place rows)) ≡ lines_of_rows m s place rows
 lines_of_place m s place [] = refl
 lines_of_place m s place (r ∷ rows) = by_test (r.place == place) refl (lines_of_place m s place rows)
   where

@@ -5,7 +5,7 @@ use Rattle.image_form.specs.Form.{Form, numbered}
 use Rattle.image_form.specs.Names.{function_name}
 use Rattle.image_form.specs.declared.tables.Place.{Place}
 use Rattle.line_form.specs.Lines.{frame_line}
-use Rattle.rv_machine.specs.State.{State}
+use Rattle.rv_machine.specs.State.{MachineState}
 use Rattle.stop_engine.specs.declared.activations.Frame.{Frame}
 use Rattle.stop_engine_view.specs.Reading.{frames}
 
@@ -18,10 +18,14 @@ pub record Activation : Type 0 where
 -- the activation that stands at a place; at a number of no place it has no name
 abbrev pub activation_at : Form → (place : ℕ) → Activation
 activation_at m place =
-    option_map_or (λ (p : Place). record { function = function_name m p.function; line = p.line; place = place }) (numbered m.places place) (record { function = []; line = 0; place = place })
+    option_map_or (λ (p : Place). record {
+      function = function_name m p.function;
+      line = p.line;
+      place = place;
+    }) (numbered m.places place) (record { function = []; line = 0; place = place })
 
 -- the activations that are live at a stop, the innermost first
-abbrev pub activations : Form → State → (place : ℕ) → List Activation
+abbrev pub activations : Form → MachineState → (place : ℕ) → List Activation
 activations m s place = map (activation_at m) (frames m s place)
 
 -- the lines of activations, the first of which has this number

@@ -18,25 +18,28 @@ is_stop_on m line p = p.line == line && is_stop (stop_addresses m) p.address
 -- the numbers of the stops on a line, of places that are counted on from a number
 abbrev pub stops_on : Form → (line number : ℕ) → List Place → List ℕ
 stops_on m line number [] = []
-stops_on m line number (p ∷ places) = if is_stop_on m line p then number ∷ stops_on m line (number + 1) places else stops_on m line (number + 1) places
+stops_on m line number (p ∷ places) =
+    if is_stop_on m line p then number ∷ stops_on m line (number + 1) places else stops_on m line (number + 1) places
 
 -- the first function of a name, of functions that are counted on from a number
 abbrev pub function_called : Form → (name : List ℕ) → (number : ℕ) → List Function → Option Function
 function_called m name number [] = None
-function_called m name number (f ∷ functions) = if bytes_eq (function_name m number) name then Some f else function_called m name (number + 1) functions
+function_called m name number (f ∷ functions) =
+    if bytes_eq (function_name m number) name then Some f else function_called m name (number + 1) functions
 
 -- the places to which execution may go from a place
 abbrev pub followers : (place : ℕ) → List FlowPair → List ℕ
 followers place flow = map (λ (f : FlowPair). f.to) (filter (λ (f : FlowPair). f.from == place) flow)
 
 -- the least of some numbers
-abbrev pub least : List ℕ → Option ℕ
-least [] = None
-least (x ∷ xs) = Some (option_map_or (λ y. min x y) (least xs) x)
+abbrev pub least_of : List ℕ → Option ℕ
+least_of [] = None
+least_of (x ∷ xs) = Some (option_map_or (λ y. min x y) (least_of xs) x)
 
 -- the least place that follows the entry of the first function of a name
 abbrev pub first_place : Form → (name : List ℕ) → Option ℕ
-first_place m name = option_map_or (λ (f : Function). least (followers f.entry m.flow)) (function_called m name 0 m.functions) None
+first_place m name =
+    option_map_or (λ (f : Function). least_of (followers f.entry m.flow)) (function_called m name 0 m.functions) None
 
 -- a list of the one or of none
 abbrev pub one_or_none : Option ℕ → List ℕ

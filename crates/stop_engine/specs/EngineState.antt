@@ -1,8 +1,8 @@
 -- A run of an image and an engine, as their callers see them.
 use Rattle.std.specs.Prelude.{◌≡◌, ℕ, ◌≤◌, ◌⊎◌, Bool, false, if◌then◌else◌, List, length, [], ◌∷◌, ◌++◌}
 use Rattle.image_form.specs.Form.{Form}
-use Rattle.rv_machine.specs.State.{State}
-use Rattle.rv_machine.specs.Run.{MachineEvent, run}
+use Rattle.rv_machine.specs.State.{MachineState}
+use Rattle.rv_machine.specs.Run.{MachineEvent, machine_run as run}
 use Rattle.rv_machine.specs.Table.{started}
 use Rattle.stop_engine.specs.declared.course.TheConstants.{ROOM}
 use Rattle.stop_engine.specs.declared.halt.Standing.{Standing}
@@ -13,7 +13,7 @@ use Rattle.stop_engine.specs.Passing.{PassesBy}
 use Rattle.stop_engine.specs.Standing.{position_of, unanswered}
 use Rattle.script_form.specs.Script.{Mark, Order}
 use Rattle.stop_engine_view.specs.Run.{image_run, stop_addresses}
-use Rattle.stop_engine.specs.Transcript.{Aim, Position, Fresh, Session, is_among, lines_from, ran}
+use Rattle.stop_engine.specs.Transcript.{Aim, Position, Fresh, Session, is_among_places, lines_from, ran}
 
 -- An image and the run of it that is under way.
 pub record RunState : Type 0 where
@@ -23,7 +23,7 @@ pub record RunState : Type 0 where
   -- how many of these it has not executed yet
   pub left : ℕ
   -- its machine, in the state behind those that it has executed
-  pub machine : State
+  pub machine : MachineState
   -- where it stands
   pub position : Position
   -- the events that no call has answered yet
@@ -32,7 +32,7 @@ pub record RunState : Type 0 where
   pub output : List ℕ
 
 -- The run of this image with this limit, where so many instructions are left.
-abbrev pub run_state : Form → (limit left : ℕ) → Standing → State → (output : List ℕ) → RunState
+abbrev pub run_state : Form → (limit left : ℕ) → Standing → MachineState → (output : List ℕ) → RunState
 run_state m limit left standing s output = record {
   form = m;
   limit = limit;
@@ -59,10 +59,14 @@ fresh_run m input limit = record {
 pub record HasRun (aim : Aim) (old new : RunState) : Type 0 where
   pub image : new.form ≡ old.form
   pub limit : new.limit ≡ old.limit
-  pub reach : ran old.form aim old.position old.events ≡ record { output = new.output; position = new.position; rest = new.events }
+  pub reach : ran old.form aim old.position old.events ≡ record {
+    output = new.output;
+    position = new.position;
+    rest = new.events;
+  }
 
--- One run executed some of the instructions that it had left, or none, and is then the other: its machine stands as many instructions
--- further on as are now fewer left. So no more were executed than were left.
+-- One run executed some of the instructions that it had left, or none, and is then the other: its machine stands as
+-- many instructions further on as are now fewer left. So no more were executed than were left.
 abbrev pub HasExecuted : (old new : RunState) → Type 0
 HasExecuted old new = Executes old.left old.machine new.left new.machine
 
@@ -71,8 +75,9 @@ pub record IsUnmoved (old new : RunState) : Type 0 where
   pub position : new.position ≡ old.position
   pub events : new.events ≡ old.events
 
--- The run wanted memory for its output. It has not moved, or it stands at no stop, behind as much output as it took room for. Stops that
--- are none of the aim were passed by; the output so far comes first of the events that are still unanswered.
+-- The run wanted memory for its output. It has not moved, or it stands at no stop, behind as much output as it took
+-- room for. Stops that are none of the aim were passed by; the output so far comes first of the events that are still
+-- unanswered.
 pub record Wants (aim : Aim) (old new : RunState) : Type 0 where
   pub image : new.form ≡ old.form
   pub limit : new.limit ≡ old.limit
@@ -101,7 +106,8 @@ session_of e = record { marks = e.marks; position = e.run.position; events = e.r
 abbrev pub lines_of : EngineState → List Order → List (List ℕ)
 lines_of e orders = if e.has_quit then [] else lines_from e.run.form e.run.limit (session_of e) orders
 
--- These are the lines of an order: whatever is ordered after it, its lines come first, and the rest is said from where the engine then stands.
+-- These are the lines of an order: whatever is ordered after it, its lines come first, and the rest is said from where
+-- the engine then stands.
 abbrev pub Answers : (old new : EngineState) → Order → List (List ℕ) → Type 0
 Answers old new order lines = (more : List Order) → lines_of old (order ∷ more) ≡ lines ++ lines_of new more
 
@@ -109,7 +115,8 @@ Answers old new order lines = (more : List Order) → lines_of old (order ∷ mo
 pub record HasMarked (mark : Mark) (old new : EngineState) : Type 0 where
   pub run : new.run ≡ old.run
   pub quit : new.has_quit ≡ old.has_quit
-  pub marks : (place : ℕ) → is_among new.marks place ≡ is_among (old.marks ++ break_places old.run.form mark) place
+  pub marks : (place : ℕ)
+      → is_among_places new.marks place ≡ is_among_places (old.marks ++ break_places old.run.form mark) place
 
 -- the run of an engine came to be another, and the rest stayed
 abbrev pub with_run : EngineState → RunState → EngineState

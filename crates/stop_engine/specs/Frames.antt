@@ -8,7 +8,9 @@ use Rattle.line_form.specs.Lines.{frame_line}
 
 -- The line of the activation of a number that stands at a place.
 abbrev pub frame_line_at : Form → (number place : ℕ) → List ℕ
-frame_line_at m number place = option_map_or (λ (p : Place). frame_line number (function_name m p.function) p.line place) (numbered m.places place) []
+frame_line_at m number place =
+    option_map_or (λ (p : Place). frame_line number (function_name m p.function) p.line place) (numbered m.places place)
+    []
 
 -- The lines of the activations that stand at these places, the first with this number.
 abbrev pub frame_lines : Form → (number : ℕ) → List ℕ → List (List ℕ)

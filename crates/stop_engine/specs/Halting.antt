@@ -6,7 +6,7 @@ use Rattle.image_form.specs.Names.{function_name}
 use Rattle.image_form.specs.RulesOfFunctions.{IsPlaceNumber}
 use Rattle.image_form.specs.declared.tables.Place.{Place}
 use Rattle.line_form.specs.Lines.{stop_line, exit_line, depth_line, fault_line, limit_line}
-use Rattle.rv_machine.specs.State.{State}
+use Rattle.rv_machine.specs.State.{MachineState}
 use Rattle.rv_machine.specs.Run.{MachineEvent, Byte, Arrival, Exit, TooDeep, Faulted}
 use Rattle.stop_engine.specs.declared.halt.Halt.{Halt}
 use Rattle.stop_engine.specs.declared.halt.Halt.TheVariants as halt
@@ -20,14 +20,15 @@ halt_of NestsTooDeep = halt.Depth
 halt_of (Faults address) = halt.Fault address
 halt_of Limit = halt.Limit
 
--- The halt of a position: at a stop the number of its place and the depth there; before the first instruction there is none.
+-- The halt of a position: at a stop the number of its place and the depth there; before the first instruction there is
+-- none.
 abbrev pub halt_at : Form → Position → Option Halt
 halt_at m Fresh = None
 halt_at m (Standing s) = option_map (λ place. halt.At place (depth s)) (place_at m s.pc)
 halt_at m (Over e) = Some (halt_of e)
 
 -- the position of a session that came to this halt, with the machine in this state
-abbrev pub halted_at : Halt → State → Position
+abbrev pub halted_at : Halt → MachineState → Position
 halted_at (halt.At place d) s = Standing s
 halted_at (halt.Exited status) s = Over (Exits status)
 halted_at halt.Depth s = Over NestsTooDeep
@@ -44,7 +45,8 @@ IsHaltOf m halt.Limit = Unit {0}
 
 -- the line that says where a run halted
 abbrev pub halt_line : Form → (limit : ℕ) → Halt → List ℕ
-halt_line m limit (halt.At place d) = option_map_or (λ (p : Place). stop_line place p.line (function_name m p.function) d) (numbered m.places place) []
+halt_line m limit (halt.At place d) =
+    option_map_or (λ (p : Place). stop_line place p.line (function_name m p.function) d) (numbered m.places place) []
 halt_line m limit (halt.Exited status) = exit_line status
 halt_line m limit halt.Depth = depth_line
 halt_line m limit (halt.Fault address) = fault_line address
@@ -55,7 +57,7 @@ abbrev pub byte_events : List ℕ → List MachineEvent
 byte_events bytes = map Byte bytes
 
 -- the events from a halt on, the halt's own first; that no instruction is left is no event
-abbrev pub from_halt : Halt → State → List MachineEvent → List MachineEvent
+abbrev pub from_halt : Halt → MachineState → List MachineEvent → List MachineEvent
 from_halt (halt.At place d) s events = Arrival s ∷ events
 from_halt (halt.Exited status) s events = Exit status ∷ []
 from_halt halt.Depth s events = TooDeep ∷ []
@@ -63,7 +65,7 @@ from_halt (halt.Fault address) s events = Faulted address ∷ []
 from_halt halt.Limit s events = []
 
 -- the events from an instruction's end on, where it may have come to a halt
-abbrev pub from_here : Option Halt → State → List MachineEvent → List MachineEvent
+abbrev pub from_here : Option Halt → MachineState → List MachineEvent → List MachineEvent
 from_here None s events = events
 from_here (Some h) s events = from_halt h s events
 

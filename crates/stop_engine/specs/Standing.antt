@@ -1,7 +1,7 @@
 -- Where a session stands between two runs.
 use Rattle.std.specs.Prelude.{◌≡◌, ℕ, Option, Some, None, List, [], ◌++◌}
 use Rattle.image_form.specs.Form.{Form}
-use Rattle.rv_machine.specs.State.{State}
+use Rattle.rv_machine.specs.State.{MachineState}
 use Rattle.rv_machine.specs.Run.{MachineEvent}
 use Rattle.stop_engine.specs.declared.halt.Halt.{Halt}
 use Rattle.stop_engine.specs.declared.halt.Halt.TheVariants as halt
@@ -11,13 +11,13 @@ use Rattle.stop_engine.specs.Halting.{byte_events, halt_at, halted_at, left_behi
 use Rattle.stop_engine.specs.Transcript as transcript
 
 -- where a session stands that has run so far
-abbrev pub position_of : Standing → State → transcript.Position
+abbrev pub position_of : Standing → MachineState → transcript.Position
 position_of Fresh s = transcript.Fresh
 position_of UnderWay s = transcript.Fresh
 position_of (Halted h) s = halted_at h s
 
 -- A session that stands where it halted says so.
-abbrev pub IsStanding : Form → Standing → State → Type 0
+abbrev pub IsStanding : Form → Standing → MachineState → Type 0
 IsStanding m Fresh s = Unit {0}
 IsStanding m UnderWay s = Unit {0}
 IsStanding m (Halted h) s = halt_at m (halted_at h s) ≡ Some h

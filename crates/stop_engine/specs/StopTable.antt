@@ -16,9 +16,12 @@ entry_at table a = if a % 4 == 0 && nat_le code_start a then slice_index table (
 
 -- a function's entry is at this address
 abbrev pub is_entry_address : Form → ℕ → Bool
-is_entry_address m a = list_any (λ (f : Function). option_map_or (λ (p : Place). p.address == a) (numbered m.places f.entry) false) m.functions
+is_entry_address m a =
+    list_any (λ (f : Function). option_map_or (λ (p : Place). p.address == a) (numbered m.places f.entry) false)
+    m.functions
 
 -- At each address the table has the number of the stop place there, or 0 where no stop place begins.
 pub record TellsStops (m : Form) (table : List ℕ) : Type 0 where
   pub none : (a : ℕ) → entry_at table a ≡ 0 → is_stop (stop_addresses m) a ≡ false
-  pub some : (a : ℕ) → entry_at table a ≢ 0 → (is_stop (stop_addresses m) a ≡ true) × (place_at m a ≡ Some (entry_at table a))
+  pub some : (a : ℕ) → entry_at table a ≢ 0
+      → (is_stop (stop_addresses m) a ≡ true) × (place_at m a ≡ Some (entry_at table a))

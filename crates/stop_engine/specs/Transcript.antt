@@ -5,7 +5,7 @@ use Rattle.std.specs.List.{flat_map, list_any}
 use Rattle.image_form.specs.Form.{Form, numbered}
 use Rattle.image_form.specs.Names.{function_name}
 use Rattle.image_form.specs.declared.tables.Place.{Place}
-use Rattle.rv_machine.specs.State.{State}
+use Rattle.rv_machine.specs.State.{MachineState}
 use Rattle.rv_machine.specs.Run.{MachineEvent, Byte, Arrival, Exit, TooDeep, Faulted}
 use Rattle.line_form.specs.Lines.{line, out_lines, stop_line, exit_line, depth_line, fault_line, limit_line, no_stop_line, break_line, no_place_line, no_function_line}
 use Rattle.script_form.specs.Script.{Order, Break, Step, Continue, Next, Finish, Print, Locals, Where, Quit, Mark, OnLine, InFunction}
@@ -16,7 +16,8 @@ use Rattle.stop_engine_texts.specs.Sight.{Sight, NoStop, sight_line}
 use Rattle.stop_engine_view.specs.Reading.{place_at, depth}
 use Rattle.stop_engine_view.specs.Run.{image_run}
 
--- why a run is over: it exited with a status, its calls nested too deep, it faulted at an address, or its instructions are used up
+-- why a run is over: it exited with a status, its calls nested too deep, it faulted at an address, or its instructions
+-- are used up
 pub data Ending : Type 0 where
   Exits : (status : ℤ) → Ending
   NestsTooDeep : Ending
@@ -26,27 +27,28 @@ pub data Ending : Type 0 where
 -- where a session stands: before the first instruction, at a stop, or behind the end
 pub data Position : Type 0 where
   Fresh : Position
-  Standing : State → Position
+  Standing : MachineState → Position
   Over : Ending → Position
 
--- where a run is to halt: at any stop; at one of these places; or at one of these places and where the depth is at most so
+-- where a run is to halt: at any stop; at one of these places; or at one of these places and where the depth is at most
+-- so
 pub data Aim : Type 0 where
   AnyStop : Aim
   OneOf : List ℕ → Aim
   Within : (most : ℕ) → List ℕ → Aim
 
 -- whether a place is one of some
-abbrev pub is_among : List ℕ → (place : ℕ) → Bool
-is_among places place = list_any (λ p. p == place) places
+abbrev pub is_among_places : List ℕ → (place : ℕ) → Bool
+is_among_places places place = list_any (λ p. p == place) places
 
 -- whether a run with this aim halts at a stop, by its depth and its place
 abbrev pub aims_at : Aim → (deep place : ℕ) → Bool
 aims_at AnyStop deep place = true
-aims_at (OneOf places) deep place = is_among places place
-aims_at (Within most places) deep place = is_among places place || nat_le deep most
+aims_at (OneOf places) deep place = is_among_places places place
+aims_at (Within most places) deep place = is_among_places places place || nat_le deep most
 
 -- whether it halts where it arrives at a stop in this state
-abbrev pub is_aim : Form → Aim → State → Bool
+abbrev pub is_aim : Form → Aim → MachineState → Bool
 is_aim m aim s = option_map_or (aims_at aim (depth s)) (place_at m s.pc) false
 
 -- what a run to a halt gives: the output before it, where it stands then, and the events that are left
@@ -59,11 +61,13 @@ pub record Reach : Type 0 where
 abbrev pub with_output : ℕ → Reach → Reach
 with_output byte r = record r { output = byte ∷ r.output }
 
--- From these events to the next stop of the aim or to the ending. Other stops are passed by; where no event is left, the instructions are used up.
+-- From these events to the next stop of the aim or to the ending. Other stops are passed by; where no event is left,
+-- the instructions are used up.
 abbrev pub reached : Form → Aim → List MachineEvent → Reach
 reached m aim [] = record { output = []; position = Over Limit; rest = [] }
 reached m aim (Byte b ∷ events) = with_output b (reached m aim events)
-reached m aim (Arrival s ∷ events) = if is_aim m aim s then (record { output = []; position = Standing s; rest = events }) else reached m aim events
+reached m aim (Arrival s ∷ events) =
+    if is_aim m aim s then (record { output = []; position = Standing s; rest = events }) else reached m aim events
 reached m aim (Exit v ∷ events) = record { output = []; position = Over (Exits v); rest = events }
 reached m aim (TooDeep ∷ events) = record { output = []; position = Over NestsTooDeep; rest = events }
 reached m aim (Faulted a ∷ events) = record { output = []; position = Over (Faults a); rest = events }
@@ -75,9 +79,10 @@ ran m aim (Standing s) events = reached m aim events
 ran m aim (Over e) events = record { output = []; position = Over e; rest = events }
 
 -- the line of a stop at a place
-abbrev pub place_line : Form → State → ℕ → List ℕ
+abbrev pub place_line : Form → MachineState → ℕ → List ℕ
 place_line m s number =
-    option_map_or (λ (p : Place). stop_line number p.line (function_name m p.function) (depth s)) (numbered m.places number) []
+    option_map_or (λ (p : Place). stop_line number p.line (function_name m p.function) (depth s))
+    (numbered m.places number) []
 
 -- the line that says where the session stands
 abbrev pub ending_line : (limit : ℕ) → Ending → List ℕ
@@ -107,16 +112,16 @@ marked_line mark [] = nothing_to_mark mark
 marked_line mark (place ∷ places) = break_line (place ∷ places)
 
 -- what is said of a stop, by the state and the place; where the session stands at none, that is said
-abbrev pub at_stop : Form → Position → (State → ℕ → List (List ℕ)) → List (List ℕ)
+abbrev pub at_stop : Form → Position → (MachineState → ℕ → List (List ℕ)) → List (List ℕ)
 at_stop m Fresh said = no_stop_line ∷ []
 at_stop m (Standing s) said = option_map_or (said s) (place_at m s.pc) []
 at_stop m (Over e) said = no_stop_line ∷ []
 
 -- what is seen of a name where the session stands
-abbrev pub sight : Form → Position → (name : List ℕ) → Sight
-sight m Fresh name = NoStop
-sight m (Standing s) name = option_map_or (λ place. name_sight m s place name) (place_at m s.pc) NoStop
-sight m (Over e) name = NoStop
+abbrev pub sight_of_name : Form → Position → (name : List ℕ) → Sight
+sight_of_name m Fresh name = NoStop
+sight_of_name m (Standing s) name = option_map_or (λ place. name_sight m s place name) (place_at m s.pc) NoStop
+sight_of_name m (Over e) name = NoStop
 
 -- `next` runs to a marked place, or to a stop that is no deeper than the present one; at no stop it is a `step`
 abbrev pub next_aim : (marks : List ℕ) → Position → Aim
@@ -129,7 +134,8 @@ abbrev pub below : (deep : ℕ) → (marks : List ℕ) → Aim
 below zero marks = OneOf marks
 below (suc deep) marks = Within deep marks
 
--- `finish` runs to a marked place, or to a stop that is less deep than the present one; before the first instruction it runs nowhere
+-- `finish` runs to a marked place, or to a stop that is less deep than the present one; before the first instruction it
+-- runs nowhere
 abbrev pub finish_aim : (marks : List ℕ) → Position → Option Aim
 finish_aim marks Fresh = None
 finish_aim marks (Standing s) = Some (below (depth s) marks)
@@ -151,27 +157,28 @@ said m limit s (Break mark) = marked_line mark (break_places m mark) ∷ []
 said m limit s Step = run_lines m limit (run_of m s AnyStop)
 said m limit s Continue = run_lines m limit (run_of m s (OneOf s.marks))
 said m limit s Next = run_lines m limit (run_of m s (next_aim s.marks s.position))
-said m limit s Finish = option_map_or (λ aim. run_lines m limit (run_of m s aim)) (finish_aim s.marks s.position) (no_stop_line ∷ [])
-said m limit s (Print name) = sight_line name (sight m s.position name) ∷ []
+said m limit s Finish =
+    option_map_or (λ aim. run_lines m limit (run_of m s aim)) (finish_aim s.marks s.position) (no_stop_line ∷ [])
+said m limit s (Print name) = sight_line name (sight_of_name m s.position name) ∷ []
 said m limit s Locals = at_stop m s.position (locals_lines m)
 said m limit s Where = at_stop m s.position (where_lines m)
 said m limit s Quit = []
 
 -- the session behind a run
-abbrev pub behind : Session → Reach → Session
-behind s r = record { marks = s.marks; position = r.position; events = r.rest }
+abbrev pub session_behind : Session → Reach → Session
+session_behind s r = record { marks = s.marks; position = r.position; events = r.rest }
 
 -- the session behind an order
-abbrev pub after : Form → Session → Order → Session
-after m s (Break mark) = record s { marks = s.marks ++ break_places m mark }
-after m s Step = behind s (run_of m s AnyStop)
-after m s Continue = behind s (run_of m s (OneOf s.marks))
-after m s Next = behind s (run_of m s (next_aim s.marks s.position))
-after m s Finish = option_map_or (λ aim. behind s (run_of m s aim)) (finish_aim s.marks s.position) s
-after m s (Print name) = s
-after m s Locals = s
-after m s Where = s
-after m s Quit = s
+abbrev pub session_after : Form → Session → Order → Session
+session_after m s (Break mark) = record s { marks = s.marks ++ break_places m mark }
+session_after m s Step = session_behind s (run_of m s AnyStop)
+session_after m s Continue = session_behind s (run_of m s (OneOf s.marks))
+session_after m s Next = session_behind s (run_of m s (next_aim s.marks s.position))
+session_after m s Finish = option_map_or (λ aim. session_behind s (run_of m s aim)) (finish_aim s.marks s.position) s
+session_after m s (Print name) = s
+session_after m s Locals = s
+session_after m s Where = s
+session_after m s Quit = s
 
 -- `quit` ends a session
 abbrev pub is_quit : Order → Bool
@@ -188,7 +195,8 @@ is_quit Quit = true
 -- the lines of orders, one after the other; what comes behind `quit` is not answered
 abbrev pub lines_from : Form → (limit : ℕ) → Session → List Order → List (List ℕ)
 lines_from m limit s [] = []
-lines_from m limit s (o ∷ orders) = said m limit s o ++ (if is_quit o then [] else lines_from m limit (after m s o) orders)
+lines_from m limit s (o ∷ orders) =
+    said m limit s o ++ (if is_quit o then [] else lines_from m limit (session_after m s o) orders)
 
 -- a session before its first order: nothing is marked, and nothing of the image has run
 abbrev pub fresh_session : Form → (input : List ℕ) → (limit : ℕ) → Session

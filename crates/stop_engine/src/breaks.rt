@@ -8,7 +8,7 @@ ghost use Rattle.image_form.specs.Rules.{IsImage};
 ghost use Rattle.image_form.specs.RulesOfChanges.{IsPairBefore};
 ghost use Rattle.image_form.specs.Views.{viewed};
 ghost use Rattle.script_form.specs.Script.{mark};
-ghost use Rattle.stop_engine.specs.Breaks.{break_places, first_place, followers, function_called, is_stop_on, least, one_or_none, stops_on};
+ghost use Rattle.stop_engine.specs.Breaks.{break_places, first_place, followers, function_called, is_stop_on, least_of, one_or_none, stops_on};
 ghost use Rattle.stop_engine.specs.FunctionNames.{AreFunctionNamesOf};
 ghost use Rattle.stop_engine.specs.Transcript.{marked_line};
 
@@ -105,7 +105,7 @@ fn first_from(image: &View<'_>, place: u32) -> usize
 /// The least place that follows a place, if one does: the pairs ascend, so it stands in the first of them.
 fn least_follower(image: &View<'_>, place: u32) -> Option<u32>
     requires { EachToNext (λ a b. IsPairBefore a.from a.to b.from b.to) (viewed image.now).flow }
-    ensures { result ≡ least (followers place (viewed image.now).flow) }
+    ensures { result ≡ least_of (followers place (viewed image.now).flow) }
 {
     let index = first_from(image, place);
     if index >= image.flow_count() {

@@ -1,7 +1,7 @@
 //! The course of a run from halt to halt.
 
 ghost use Rattle.std.specs.Prelude.{◌≡◌, ℕ, suc, ◌<◌, ◌≤◌, ◌++◌, List, Some, IfOk, IfSome, OnOk, OnErr, length, vec_len, vec_capacity};
-ghost use Rattle.rv_machine.specs.Run.{MachineEvent, arrival, run};
+ghost use Rattle.rv_machine.specs.Run.{MachineEvent, arrival, machine_run};
 ghost use Rattle.rv_machine.specs.Table.{effect};
 ghost use Rattle.stop_engine.specs.Executing.{Executes};
 ghost use Rattle.stop_engine.specs.Halting.{from_halt, from_here, halt_at, halted_at};
@@ -45,9 +45,9 @@ fn carry_out(
     requires { vec_len output.old < vec_capacity output.old }
     ensures passes { (events : List MachineEvent) (n : ℕ)
         → PassesBy table.now (aim_of aim.now) events output.old.items
-        (run (stop_addresses table.now) (suc n) machine.old)
+        (machine_run (stop_addresses table.now) (suc n) machine.old)
         → PassesBy table.now (aim_of aim.now) events output.new.items
-        (from_here result machine.new (run (stop_addresses table.now) n machine.new)) }
+        (from_here result machine.new (machine_run (stop_addresses table.now) n machine.new)) }
     ensures halted { IfSome result (λ halt. halt_at table.now (halted_at halt machine.new) ≡ Some halt) }
     ensures aimed { IfSome result (λ halt. IsAimed table.now (aim_of aim.now) halt machine.new) }
     ensures room { vec_capacity output.new ≡ vec_capacity output.old }
@@ -91,16 +91,16 @@ pub fn run_on(
     requires { ROOM ≤ vec_capacity output.old }
     ensures passes { IfOk result (λ halt. (events : List MachineEvent)
         → PassesBy table.now (aim_of aim.now) events output.old.items
-        (run (stop_addresses table.now) left.old machine.old)
+        (machine_run (stop_addresses table.now) left.old machine.old)
         → PassesBy table.now (aim_of aim.now) events output.new.items
-        (from_halt halt machine.new (run (stop_addresses table.now) left.new machine.new))) }
+        (from_halt halt machine.new (machine_run (stop_addresses table.now) left.new machine.new))) }
     ensures halted { IfOk result (λ halt. halt_at table.now (halted_at halt machine.new) ≡ Some halt) }
     ensures aimed { IfOk result (λ halt. IsAimed table.now (aim_of aim.now) halt machine.new) }
     ensures kept { OnErr result ((events : List MachineEvent)
         → PassesBy table.now (aim_of aim.now) events output.old.items
-        (run (stop_addresses table.now) left.old machine.old)
+        (machine_run (stop_addresses table.now) left.old machine.old)
         → PassesBy table.now (aim_of aim.now) events output.new.items
-        (run (stop_addresses table.now) left.new machine.new)) }
+        (machine_run (stop_addresses table.now) left.new machine.new)) }
     ensures full { OnErr result (ROOM ≤ length output.new.items) }
     ensures executed { Executes left.old machine.old left.new machine.new }
 {

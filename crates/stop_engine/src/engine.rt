@@ -13,7 +13,7 @@ ghost use Rattle.stop_engine.specs.Halting.{halt_at};
 ghost use Rattle.stop_engine.specs.Marking.{aim_of};
 ghost use Rattle.stop_engine.specs.Shown.{locals_lines, where_lines};
 ghost use Rattle.stop_engine.specs.Stopping.{IsAtNoStop};
-ghost use Rattle.stop_engine.specs.Transcript.{at_stop, marked_line, ran, run_lines, sight};
+ghost use Rattle.stop_engine.specs.Transcript.{at_stop, marked_line, ran, run_lines, sight_of_name};
 ghost use Rattle.stop_engine.specs.Visible.{visible_of};
 ghost use Rattle.stop_engine_tables.specs.Tables.{AreTablesOf};
 ghost use Rattle.stop_engine_texts.specs.Sight.{sight_line, sight_of};
@@ -107,7 +107,7 @@ impl<'a> Engine<'a> {
     /// What is shown of a name where the engine stands: at no stop nothing. `AllocError` where memory for the texts was
     /// refused.
     pub fn show(&self, alloc: Global, name: &str) -> Result<Shown, AllocError>
-        ensures { IfOk result (λ shown. sight_of shown ≡ sight self.now.run.form self.now.run.position name.now) }
+        ensures { IfOk result (λ shown. sight_of shown ≡ sight_of_name self.now.run.form self.now.run.position name.now) }
     {
         let Some(stop) = self.run.stop() else {
             return Ok(Shown::NoStop);
@@ -204,7 +204,7 @@ impl<'a> Engine<'a> {
     /// The line of a name where the engine stands.
     fn print(&self, alloc: Global, name: &str) -> Result<Vec<Vec<u8>>, AllocError>
         ensures { IfOk result (λ lines. map (λ line. line.items) lines.items
-            ≡ sight_line name.now (sight self.now.run.form self.now.run.position name.now) ∷ []) }
+            ≡ sight_line name.now (sight_of_name self.now.run.form self.now.run.position name.now) ∷ []) }
     {
         let shown = self.show(alloc, name)?;
         let line = shown_line(alloc, name.as_bytes(), &shown)?;

@@ -3,7 +3,7 @@
 ghost use Rattle.std.specs.Prelude.{◌≡◌, ◌<◌, ◌==◌, ◌||◌, ◌++◌, ℕ, All, IfOk, [], map};
 ghost use Rattle.stop_engine.specs.Marking.{aim_of};
 ghost use Rattle.stop_engine.specs.MarkTable.{MarkTable};
-ghost use Rattle.stop_engine.specs.Transcript.{aims_at, is_among};
+ghost use Rattle.stop_engine.specs.Transcript.{aims_at, is_among_places};
 
 use debug_records::Place;
 use std::alloc::{AllocError, Global};
@@ -37,7 +37,7 @@ impl Marks {
     /// Whether a place is marked.
     #[tactic(auto, using(crate::proofs::MarkLaws::marks_among))]
     pub fn has(&self, place: u32) -> bool
-        ensures { result ≡ is_among self.now.places place }
+        ensures { result ≡ is_among_places self.now.places place }
     {
         self.marked.get(place as usize).copied().unwrap_or(false)
     }
@@ -46,7 +46,7 @@ impl Marks {
     pub fn mark(&mut self, place: u32)
         requires { place < self.old.bound }
         ensures bound { self.new.bound ≡ self.old.bound }
-        ensures marked { (p : ℕ) → is_among self.new.places p ≡ (is_among self.old.places p || place == p) }
+        ensures marked { (p : ℕ) → is_among_places self.new.places p ≡ (is_among_places self.old.places p || place == p) }
     {
         self.marked[place as usize] = true;
     }
@@ -55,8 +55,8 @@ impl Marks {
     pub fn mark_all(&mut self, places: &[Place])
         requires { All (λ p. p.0 < self.old.bound) places.now }
         ensures bound { self.new.bound ≡ self.old.bound }
-        ensures marked { (p : ℕ) → is_among self.new.places p
-            ≡ is_among (self.old.places ++ map (λ q. q.0) places.now) p }
+        ensures marked { (p : ℕ) → is_among_places self.new.places p
+            ≡ is_among_places (self.old.places ++ map (λ q. q.0) places.now) p }
     {
         for place in places {
             self.mark(place.0);

@@ -16,23 +16,23 @@ use Rattle.image_form.proofs.RecordsBack.{kept_there}
 use Rattle.image_form.proofs.TableLaws.{each_at}
 use Rattle.stop_engine_tables.specs.VariableLists.{is_kept_statically, is_static, next_of}
 use Rattle.stop_engine_tables.proofs.Records.{record_at, records_from}
-use Rattle.stop_engine_view.specs.Pointers.{is_of, literals, local_offset, local_target, offset_within, static_offset, static_start, static_target}
+use Rattle.stop_engine_view.specs.Pointers.{is_variable_of, literal_count, local_offset, local_target, offset_within, static_offset, static_start, static_target}
 
 -- ---- The next variable of a function
 
 pub next-least : (f n : ℕ) (vs : List Variable) → n ≤ next_of f n vs
 next-least f n [] = omega arith
-next-least f n (v ∷ vs) = by_test (is_of f v) refl (next-least f (n + 1) vs)
+next-least f n (v ∷ vs) = by_test (is_variable_of f v) refl (next-least f (n + 1) vs)
   where
-    by_test : (b : Bool) → is_of f v ≡ b → n + 1 ≤ next_of f (n + 1) vs → n ≤ next_of f n (v ∷ vs)
+    by_test : (b : Bool) → is_variable_of f v ≡ b → n + 1 ≤ next_of f (n + 1) vs → n ≤ next_of f n (v ∷ vs)
     by_test true t rest = rw t (omega arith)
     by_test false t rest = rw t (omega (arith, rest))
 
 pub next-most : (f n : ℕ) (vs : List Variable) → next_of f n vs ≤ n + length vs
 next-most f n [] = omega arith
-next-most f n (v ∷ vs) = by_test (is_of f v) refl (next-most f (n + 1) vs)
+next-most f n (v ∷ vs) = by_test (is_variable_of f v) refl (next-most f (n + 1) vs)
   where
-    by_test : (b : Bool) → is_of f v ≡ b → next_of f (n + 1) vs ≤ n + 1 + length vs → next_of f n (v ∷ vs) ≤ n + length (v ∷ vs)
+    by_test : (b : Bool) → is_variable_of f v ≡ b → next_of f (n + 1) vs ≤ n + 1 + length vs → next_of f n (v ∷ vs) ≤ n + length (v ∷ vs)
     by_test true t rest = rw t (omega arith)
     by_test false t rest = rw t (omega (arith, rest))
 
@@ -43,9 +43,9 @@ behind n v vs whole e = ap (drop 1) e ∙ drop-drop 1 n whole
 -- it is a variable of the function, or there is none
 pub next-there : (f n : ℕ) (vs whole : List Variable) → vs ≡ drop n whole → next_of f (next_of f n vs) (drop (next_of f n vs) whole) ≡ next_of f n vs
 next-there f n [] whole e = rw (← e) refl
-next-there f n (v ∷ vs) whole e = by_test (is_of f v) refl (next-there f (n + 1) vs whole (behind n v vs whole e))
+next-there f n (v ∷ vs) whole e = by_test (is_variable_of f v) refl (next-there f (n + 1) vs whole (behind n v vs whole e))
   where
-    by_test : (b : Bool) → is_of f v ≡ b → next_of f (next_of f (n + 1) vs) (drop (next_of f (n + 1) vs) whole) ≡ next_of f (n + 1) vs
+    by_test : (b : Bool) → is_variable_of f v ≡ b → next_of f (next_of f (n + 1) vs) (drop (next_of f (n + 1) vs) whole) ≡ next_of f (n + 1) vs
         → next_of f (next_of f n (v ∷ vs)) (drop (next_of f n (v ∷ vs)) whole) ≡ next_of f n (v ∷ vs)
     by_test true t rest = rw (t, ← e, t) refl
     by_test false t rest = rw t rest
@@ -56,12 +56,12 @@ owned f (Some g) t = ap Some (eqb-true g f t)
 
 -- where it is the variable at which one stands, that is of the function
 pub next-owned : (f i : ℕ) (d : Variable) (vs : List Variable) → i < length vs → next_of f i (drop i vs) ≡ i → (slice_index_or vs i d).function ≡ Some f
-next-owned f i d vs lt there = by_test (is_of f (get_or vs i d)) refl
+next-owned f i d vs lt there = by_test (is_variable_of f (get_or vs i d)) refl
   where
     here : next_of f i (get_or vs i d ∷ drop (i + 1) vs) ≡ i
     here = ap (next_of f i) (sym (drop_more vs i d lt)) ∙ there
 
-    by_test : (b : Bool) → is_of f (get_or vs i d) ≡ b → (slice_index_or vs i d).function ≡ Some f
+    by_test : (b : Bool) → is_variable_of f (get_or vs i d) ≡ b → (slice_index_or vs i d).function ≡ Some f
     by_test true t = owned f (get_or vs i d).function t
     by_test false t = let past = next-least f (i + 1) (drop (i + 1) vs) in let same = rw t at here in absurd (omega (arith, past, same))
 
@@ -71,9 +71,9 @@ next-owned f i d vs lt there = by_test (is_of f (get_or vs i d)) refl
 pub local-skip : (address f frame deep n : ℕ) (vs whole : List Variable) → vs ≡ drop n whole
     → local_target address f frame deep n vs ≡ local_target address f frame deep (next_of f n vs) (drop (next_of f n vs) whole)
 local-skip address f frame deep n [] whole e = ap (local_target address f frame deep n) e
-local-skip address f frame deep n (v ∷ vs) whole e = by_test (is_of f v) refl (local-skip address f frame deep (n + 1) vs whole (behind n v vs whole e))
+local-skip address f frame deep n (v ∷ vs) whole e = by_test (is_variable_of f v) refl (local-skip address f frame deep (n + 1) vs whole (behind n v vs whole e))
   where
-    by_test : (b : Bool) → is_of f v ≡ b
+    by_test : (b : Bool) → is_variable_of f v ≡ b
         → local_target address f frame deep (n + 1) vs ≡ local_target address f frame deep (next_of f (n + 1) vs) (drop (next_of f (n + 1) vs) whole)
         → local_target address f frame deep n (v ∷ vs) ≡ local_target address f frame deep (next_of f n (v ∷ vs)) (drop (next_of f n (v ∷ vs)) whole)
     by_test true t rest =
@@ -96,10 +96,10 @@ pub record AreLinked (vs : List Variable) (left : ℕ) (firsts nexts : List ℕ)
   pub next : (i f : ℕ) (d : Variable) → left ≤ i → i < length vs → (slice_index_or vs i d).function ≡ Some f → slice_index nexts i ≡ next_of f (i + 1) (drop (i + 1) vs)
 
 -- the first variable of a function from one on, by whether that is one of the function
-next_at : (g k : ℕ) (v : Variable) (vs : List Variable) (b : Bool) → slice_get vs k ≡ Some v → is_of g v ≡ b → next_of g k (drop k vs) ≡ (if b then k else next_of g (k + 1) (drop (k + 1) vs))
+next_at : (g k : ℕ) (v : Variable) (vs : List Variable) (b : Bool) → slice_get vs k ≡ Some v → is_variable_of g v ≡ b → next_of g k (drop k vs) ≡ (if b then k else next_of g (k + 1) (drop (k + 1) vs))
 next_at g k v vs b at is = rw (records_from vs k v at, is) refl
 
-owner_tested : (g : ℕ) (v : Variable) (owner : Option ℕ) → v.function ≡ owner → is_of g v ≡ option_map_or (λ h. h == g) owner false
+owner_tested : (g : ℕ) (v : Variable) (owner : Option ℕ) → v.function ≡ owner → is_variable_of g v ≡ option_map_or (λ h. h == g) owner false
 owner_tested g v owner own = ap (λ (o : Option ℕ). option_map_or (λ h. h == g) o false) own
 
 -- a variable of a function is linked before the function's first one
@@ -188,7 +188,7 @@ pub static-none : (address n count : ℕ) (vs : List Variable) → All (λ (v : 
 static-none address n count [] none = refl
 static-none address n count (v ∷ vs) none =
     let other : static_offset v address ≡ None = unkept v address (none 0 v (omega arith)) in
-    rw other (static-none address (n + 1) (count + literals v) vs (λ k d lt. none (suc k) d (omega (arith, lt))))
+    rw other (static-none address (n + 1) (count + literal_count v) vs (λ k d lt. none (suc k) d (omega (arith, lt))))
 
 -- nor from a variable on that is not static
 pub none_static_more : (vs : List Variable) (n : ℕ) (v : Variable) → slice_get vs n ≡ Some v → is_static v ≡ false → All (λ (v : Variable). is_static v ≡ false) (drop (n + 1) vs)

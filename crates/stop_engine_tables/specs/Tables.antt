@@ -17,7 +17,8 @@ starts_from first (n ∷ lengths) = first ∷ starts_from (first + n) lengths
 pub record AreStartsOf (m : Form) (s : NameStarts) : Type 0 where
   pub functions : s.functions.items ≡ starts_from 0 (function_name_lengths m)
   pub variables : s.variables.items ≡ starts_from (sum (function_name_lengths m)) (variable_name_lengths m)
-  pub passes : s.passes.items ≡ starts_from (sum (function_name_lengths m) + sum (variable_name_lengths m)) (pass_name_lengths m)
+  pub passes : s.passes.items
+      ≡ starts_from (sum (function_name_lengths m) + sum (variable_name_lengths m)) (pass_name_lengths m)
 
 -- the tables are the image's
 pub record AreTablesOf (m : Form) (t : Tables) : Type 0 where

@@ -6,7 +6,7 @@ ghost use Rattle.image_form.specs.RulesOfFunctions.{IsPlaceNumber};
 ghost use Rattle.image_form.specs.Views.{viewed};
 ghost use Rattle.rv_machine.specs.State.{word};
 ghost use Rattle.stop_engine_view.specs.Callers.{calling_place, place_before, return_address};
-ghost use Rattle.stop_engine_view.specs.Reading.{frame_of, frames, greatest_depth, is_stack_address, owner_of};
+ghost use Rattle.stop_engine_view.specs.Reading.{frame_of, frames, greatest_depth, is_stack_address, place_of_word};
 
 use crate::reading::{stack_pointer, word_in};
 use image_form::View;
@@ -16,7 +16,7 @@ use std::alloc::{AllocError, Global};
 
 /// The number of the place that a code word belongs to, by the word's address, or 0 for none.
 pub fn owner_of(image: &View<'_>, address: u32) -> u32
-    ensures { result ≡ owner_of (viewed image.now) address }
+    ensures { result ≡ place_of_word (viewed image.now) address }
 {
     if address % 4 != 0 {
         return 0;

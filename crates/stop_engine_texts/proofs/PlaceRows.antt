@@ -11,7 +11,7 @@ use Rattle.image_form.specs.Form.{Form}
 use Rattle.image_form.specs.Names.{variable_name}
 use Rattle.image_form.specs.declared.verdicts.VisibleRow.{VisibleRow}
 use Rattle.stop_engine_tables.proofs.Records.{record_at, records_from}
-use Rattle.stop_engine_texts.specs.Shown.{row_of}
+use Rattle.stop_engine_texts.specs.Shown.{first_row_of}
 use Rattle.stop_engine_view.specs.Rows.{rows_at}
 use Rattle.stop_engine_view.proofs.RowsByPlace.{side_by_side}
 
@@ -91,10 +91,10 @@ holds_at P rows start end n r all from lt at = subst P (sym (record_at rows n r 
 -- ---- The first row of a name among them
 
 -- none is left
-pub row_none : (m : Form) (place n end : ℕ) (name : List ℕ) → end ≤ n → row_of m place name (slice_range m.rows n end) ≡ None
+pub row_none : (m : Form) (place n end : ℕ) (name : List ℕ) → end ≤ n → first_row_of m place name (slice_range m.rows n end) ≡ None
 row_none m place n end name past =
     let count : end - n ≡ 0 = omega (arith, past) in
-    ap (λ k. row_of m place name (take k (drop n m.rows))) count
+    ap (λ k. first_row_of m place name (take k (drop n m.rows))) count
 
 -- the next one of a range of rows
 pub next_row : (n end : ℕ) (r : VisibleRow) (rows : List VisibleRow) → n < end → slice_get rows n ≡ Some r → slice_range rows n end ≡ r ∷ slice_range rows (n + 1) end
@@ -111,9 +111,9 @@ is_of_place : (place : ℕ) (r : VisibleRow) → r.place ≡ place → (r.place 
 is_of_place place r of = grind (arith, nat_tests, of)
 
 pub row_here : (m : Form) (place n end : ℕ) (name : List ℕ) (r : VisibleRow) → n < end → slice_get m.rows n ≡ Some r → r.place ≡ place → bytes_eq (variable_name m r.variable) name ≡ true
-    → row_of m place name (slice_range m.rows n end) ≡ Some r
+    → first_row_of m place name (slice_range m.rows n end) ≡ Some r
 row_here m place n end name r lt at of is = rw (next_row n end r m.rows lt at, is_of_place place r of, is) refl
 
 pub row_behind : (m : Form) (place n end : ℕ) (name : List ℕ) (r : VisibleRow) → n < end → slice_get m.rows n ≡ Some r → bytes_eq (variable_name m r.variable) name ≡ false
-    → row_of m place name (slice_range m.rows n end) ≡ row_of m place name (slice_range m.rows (n + 1) end)
+    → first_row_of m place name (slice_range m.rows n end) ≡ first_row_of m place name (slice_range m.rows (n + 1) end)
 row_behind m place n end name r lt at other = rw (next_row n end r m.rows lt at, other, and-false (r.place == place)) refl

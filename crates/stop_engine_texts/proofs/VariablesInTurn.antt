@@ -7,16 +7,16 @@ use Rattle.image_form.specs.Names.{variable_name}
 use Rattle.image_form.specs.declared.variables.Variable.{Variable}
 use Rattle.stop_engine_tables.proofs.Records.{records_from}
 use Rattle.stop_engine_texts.specs.Shown.{is_static_before, static_of}
-use Rattle.stop_engine_view.specs.Pointers.{literals, local_offset, local_target, static_offset, static_target, static_target_of}
+use Rattle.stop_engine_view.specs.Pointers.{literal_count, local_offset, local_target, static_offset, static_target, static_target_of}
 use Rattle.stop_engine_view.specs.declared.target.Target.TheVariants.{Local}
 
 -- the static object of an address is the next variable, or one behind it
 pub target_here : (address n count offset : ℕ) (v : Variable) (vs : List Variable) → slice_get vs n ≡ Some v → Some offset ≡ static_offset v address
-    → static_target address n count (drop n vs) ≡ Some (static_target_of v n (count + literals v) offset)
+    → static_target address n count (drop n vs) ≡ Some (static_target_of v n (count + literal_count v) offset)
 target_here address n count offset v vs at found = rw (records_from vs n v at, ← found) refl
 
 pub target_behind : (address n count : ℕ) (v : Variable) (vs : List Variable) → slice_get vs n ≡ Some v → None ≡ static_offset v address
-    → static_target address n count (drop n vs) ≡ static_target address (n + 1) (count + literals v) (drop (n + 1) vs)
+    → static_target address n count (drop n vs) ≡ static_target address (n + 1) (count + literal_count v) (drop (n + 1) vs)
 target_behind address n count v vs at none = rw (records_from vs n v at, ← none) refl
 
 -- the object of an address in a frame is the next variable

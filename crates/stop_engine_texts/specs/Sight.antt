@@ -6,9 +6,10 @@ use Rattle.places.specs.Path.{places}
 use Rattle.stop_engine_texts.specs.declared.shown.Shown.{Shown}
 use Rattle.stop_engine_texts.specs.declared.shown.Shown.TheVariants as shown
 
--- There is no stop; no variable of the name is visible; its value; its value computed anew, and the change; the change for which the home has
--- not its value, or has another's, and the places of the path that shows it, none where there is no path; where the home may have its value too, the same with the places of the path on
--- which nothing disturbs it. Values and changes are texts.
+-- There is no stop; no variable of the name is visible; its value; its value computed anew, and the change; the change
+-- for which the home has not its value, or has another's, and the places of the path that shows it, none where there is
+-- no path; where the home may have its value too, the same with the places of the path on which nothing disturbs it.
+-- Values and changes are texts.
 pub data Sight : Type 0 where
   NoStop : Sight
   NoName : Sight
@@ -36,4 +37,5 @@ sight_of (shown.Value text) = Value text.items
 sight_of (shown.Recovered text change) = Recovered text.items change.items
 sight_of (shown.Noncurrent change path) = Noncurrent change.items (unwrap_or (option_map places path) [])
 sight_of (shown.Nonresident change path) = Nonresident change.items (unwrap_or (option_map places path) [])
-sight_of (shown.Suspect change path current) = Suspect change.items (unwrap_or (option_map places path) []) (unwrap_or (option_map places current) [])
+sight_of (shown.Suspect change path current) =
+    Suspect change.items (unwrap_or (option_map places path) []) (unwrap_or (option_map places current) [])

@@ -7,7 +7,7 @@ ghost use Rattle.image_form.specs.Views.{viewed};
 ghost use Rattle.rv_machine.specs.State.{reg};
 ghost use Rattle.stop_engine_tables.specs.Tables.{AreTablesOf};
 ghost use Rattle.stop_engine_tables.specs.VariableLists.{AreListsOf};
-ghost use Rattle.stop_engine_view.specs.Pointers.{IsTargetOf, distance, function_of, is_of, is_within, literals, local_offset, local_start, local_target, object_size, offset_within, stack_target, static_offset, static_start, static_target, static_target_of, pointed_at, pointer_text, target_text};
+ghost use Rattle.stop_engine_view.specs.Pointers.{IsTargetOf, offset_from, function_of_place, is_variable_of, is_within, literal_count, local_offset, local_start, local_target, variable_size, offset_within, stack_target, static_offset, static_start, static_target, static_target_of, pointed_at, pointer_text, target_text};
 ghost use Rattle.stop_engine_view.specs.Reading.{depth, greatest_depth};
 ghost use Rattle.stop_engine_view.specs.Words.{element_size};
 
@@ -34,14 +34,14 @@ pub fn element_size(element: ElementType) -> u32
 
 /// How many bytes an address lies behind the start of an object, around the end of the addresses.
 fn distance(address: u32, start: u32) -> u32
-    ensures { result ≡ distance address start }
+    ensures { result ≡ offset_from address start }
 {
     address.wrapping_sub(start)
 }
 
 /// How many bytes a variable has.
 fn object_size(variable: &Variable) -> u64
-    ensures { result ≡ object_size variable.now }
+    ensures { result ≡ variable_size variable.now }
 {
     let count = if variable.count == 0 {
         1
@@ -80,7 +80,7 @@ fn local_start(frame: u32, storage: Storage) -> Option<u32>
 
 /// Whether a variable is one of a function.
 fn is_of(function: u32, variable: &Variable) -> bool
-    ensures { result ≡ is_of function variable.now }
+    ensures { result ≡ is_variable_of function variable.now }
 {
     match variable.function {
         Some(owner) => owner == function,
@@ -90,7 +90,7 @@ fn is_of(function: u32, variable: &Variable) -> bool
 
 /// 1 for a string literal, which has no name.
 fn literals(variable: &Variable) -> u32
-    ensures count { result ≡ literals variable.now }
+    ensures count { result ≡ literal_count variable.now }
     ensures small { result ≤ 1 }
 {
     if variable.name_length == 0 { 1 } else { 0 }
@@ -199,7 +199,7 @@ fn local_target(
 fn function_of(image: &View<'_>, place: u32) -> u32
     requires image { IsImage (viewed image.now) }
     requires place { IsPlaceNumber (viewed image.now) place }
-    ensures number { result ≡ function_of (viewed image.now) place }
+    ensures number { result ≡ function_of_place (viewed image.now) place }
     ensures within { result < length (viewed image.now).functions }
 {
     image.place_at(place as usize - 1).function

@@ -6,7 +6,7 @@ ghost use Rattle.image_form.specs.Rules.{IsImage};
 ghost use Rattle.image_form.specs.Views.{viewed};
 ghost use Rattle.stop_engine_tables.specs.Tables.{AreTablesOf};
 ghost use Rattle.stop_engine_texts.specs.Rows.{IsRow};
-ghost use Rattle.stop_engine_texts.specs.Shown.{row_of};
+ghost use Rattle.stop_engine_texts.specs.Shown.{first_row_of};
 ghost use Rattle.stop_engine_view.specs.Rows.{rows_at};
 
 use image_form::{View, VisibleRow};
@@ -50,7 +50,7 @@ pub fn rows_at(image: &View<'_>, place: u32) -> Range<usize>
 pub fn visible_row(image: &View<'_>, tables: &Tables, place: u32, name: &[u8]) -> Option<VisibleRow>
     requires image { IsImage (viewed image.now) }
     requires tables { AreTablesOf (viewed image.now) tables.now }
-    ensures found { result ≡ row_of (viewed image.now) place name.now (viewed image.now).rows }
+    ensures found { result ≡ first_row_of (viewed image.now) place name.now (viewed image.now).rows }
     ensures row { IfSome result (IsRow (viewed image.now)) }
 {
     let Range { start, end } = rows_at(image, place);

@@ -11,8 +11,8 @@ use Rattle.image_form.specs.declared.tables.Place.{Place}
 use Rattle.image_form.specs.Rules.{IsImage}
 use Rattle.image_form.specs.RulesOfFunctions.{IsPlaceNumber}
 use Rattle.image_form.specs.RulesOfPlaces.{IsInFunction, word_address}
-use Rattle.rv_machine.specs.State.{State, reg, word, code_start}
-use Rattle.stop_engine_view.specs.Reading.{frames, frames_from, frame_of, greatest_depth, is_stack_address, owner_of}
+use Rattle.rv_machine.specs.State.{MachineState, reg, word, code_start}
+use Rattle.stop_engine_view.specs.Reading.{frames, frames_from, frame_of, greatest_depth, is_stack_address, place_of_word}
 use Rattle.stop_engine_view.specs.Callers.{calling_place, return_address}
 
 -- a number of which something is known is a number of the places
@@ -28,26 +28,26 @@ owner_at m w image some = elim (cases_lt w (length m.owners)) [
 ]
 
 -- the owner of a word of code, if it has one, is a place of the image
-pub owner_number : (m : Form) (a : ℕ) → IsImage m → owner_of m a ≢ 0 → IsPlaceNumber m (owner_of m a)
+pub owner_number : (m : Form) (a : ℕ) → IsImage m → place_of_word m a ≢ 0 → IsPlaceNumber m (place_of_word m a)
 owner_number m a image some = by_test (a % 4 == 0 && nat_le code_start a) refl
   where
-    by_test : (b : Bool) → (a % 4 == 0 && nat_le code_start a) ≡ b → IsPlaceNumber m (owner_of m a)
+    by_test : (b : Bool) → (a % 4 == 0 && nat_le code_start a) ≡ b → IsPlaceNumber m (place_of_word m a)
     by_test true t =
-        let is : owner_of m a ≡ slice_index m.owners ((a - code_start) / 4) = rw t refl in
+        let is : place_of_word m a ≡ slice_index m.owners ((a - code_start) / 4) = rw t refl in
         subst (IsPlaceNumber m) (sym is) (owner_at m ((a - code_start) / 4) image (λ none. some (is ∙ none)))
     by_test false t = absurd (some (rw t refl))
 
-pub calling_number : (m : Form) (s : State) (sp : ℕ) → IsImage m → calling_place m s sp ≢ 0 → IsPlaceNumber m (calling_place m s sp)
+pub calling_number : (m : Form) (s : MachineState) (sp : ℕ) → IsImage m → calling_place m s sp ≢ 0 → IsPlaceNumber m (calling_place m s sp)
 calling_number m s sp image some = by_test (is_stack_address s sp && sp % 4 == 0) refl
   where
     by_test : (b : Bool) → (is_stack_address s sp && sp % 4 == 0) ≡ b → IsPlaceNumber m (calling_place m s sp)
     by_test true t =
-        let is : calling_place m s sp ≡ owner_of m (word (return_address s sp + 4294967292)) = rw t refl in
+        let is : calling_place m s sp ≡ place_of_word m (word (return_address s sp + 4294967292)) = rw t refl in
         subst (IsPlaceNumber m) (sym is) (owner_number m (word (return_address s sp + 4294967292)) image (λ none. some (is ∙ none)))
     by_test false t = absurd (some (rw t refl))
 
 -- an activation, and those that called it
-pub frames_next : (n : ℕ) (m : Form) (s : State) (place sp : ℕ) → frames_from (suc n) m s place sp
+pub frames_next : (n : ℕ) (m : Form) (s : MachineState) (place sp : ℕ) → frames_from (suc n) m s place sp
     ≡ place ∷ (if calling_place m s sp == 0 then [] else frames_from n m s (calling_place m s sp) (word (sp + frame_of m place)))
 frames_next n m s place sp = by_test (is_stack_address s sp && sp % 4 == 0) refl
   where
@@ -57,7 +57,7 @@ frames_next n m s place sp = by_test (is_stack_address s sp && sp % 4 == 0) refl
     by_test false t = rw t refl
 
 -- one activation more
-pub frames_more : (n : ℕ) (m : Form) (s : State) (place sp caller : ℕ) (before after whole : List ℕ) → caller ≡ calling_place m s sp → caller ≢ 0 → after ≡ before ++ place ∷ []
+pub frames_more : (n : ℕ) (m : Form) (s : MachineState) (place sp caller : ℕ) (before after whole : List ℕ) → caller ≡ calling_place m s sp → caller ≢ 0 → after ≡ before ++ place ∷ []
     → before ++ frames_from (suc n) m s place sp ≡ whole → after ++ frames_from n m s caller (word (sp + frame_of m place)) ≡ whole
 frames_more n m s place sp caller before after whole is some pushed so_far =
     let test : (calling_place m s sp == 0) ≡ false = grind (arith, nat_tests, is, some) in
@@ -66,7 +66,7 @@ frames_more n m s place sp caller before after whole is some pushed so_far =
     ap (λ b. b ++ frames_from n m s caller (word (sp + frame_of m place))) pushed ∙ append_assoc before (place ∷ []) (frames_from n m s caller (word (sp + frame_of m place))) ∙ ap (λ l. before ++ l) (sym next) ∙ so_far
 
 -- the outermost activation
-pub frames_last : (n : ℕ) (m : Form) (s : State) (place sp caller : ℕ) (before after whole : List ℕ) → caller ≡ calling_place m s sp → caller ≡ 0 → after ≡ before ++ place ∷ []
+pub frames_last : (n : ℕ) (m : Form) (s : MachineState) (place sp caller : ℕ) (before after whole : List ℕ) → caller ≡ calling_place m s sp → caller ≡ 0 → after ≡ before ++ place ∷ []
     → before ++ frames_from (suc n) m s place sp ≡ whole → after ≡ whole
 frames_last n m s place sp caller before after whole is none pushed so_far =
     let test : (calling_place m s sp == 0) ≡ true = grind (arith, nat_tests, is, none) in
@@ -84,7 +84,7 @@ all_more P xs ys y same last all = subst (All P) (sym same) (λ k d lt. elim (ca
 ])
 
 -- there are no more activations than are counted
-frames_short : (n : ℕ) (m : Form) (s : State) (place sp : ℕ) → length (frames_from n m s place sp) ≤ n
+frames_short : (n : ℕ) (m : Form) (s : MachineState) (place sp : ℕ) → length (frames_from n m s place sp) ≤ n
 frames_short zero m s place sp = omega arith
 frames_short (suc n) m s place sp = by_test (calling_place m s sp == 0) refl (frames_short n m s (calling_place m s sp) (word (sp + frame_of m place)))
   where
@@ -96,6 +96,6 @@ frames_short (suc n) m s place sp = by_test (calling_place m s sp == 0) refl (fr
         let next : frames_from (suc n) m s place sp ≡ place ∷ frames_from n m s (calling_place m s sp) (word (sp + frame_of m place)) = frames_next n m s place sp ∙ ap (λ b. place ∷ (if b then [] else frames_from n m s (calling_place m s sp) (word (sp + frame_of m place)))) t in
         omega (arith, ap length next, rest)
 
-pub frames_few : (m : Form) (s : State) (place : ℕ) → length (frames m s place) < 4294967296
+pub frames_few : (m : Form) (s : MachineState) (place : ℕ) → length (frames m s place) < 4294967296
 unfolding greatest_depth
 frames_few m s place = let most = frames_short greatest_depth m s place (reg s 2) in omega (arith, most)

@@ -5,12 +5,12 @@ use Rattle.std.specs.Global.{Global}
 use Rattle.std.proofs.lemmas.List.{map-append}
 use Rattle.image_form.specs.Form.{Form}
 use Rattle.image_form.specs.declared.variables.ElementType.{ElementType}
-use Rattle.rv_machine.specs.State.{State, word}
+use Rattle.rv_machine.specs.State.{MachineState, word}
 use Rattle.stop_engine_view.specs.Words.{element_size, element_word}
 use Rattle.stop_engine_view.specs.Values.{element_texts, word_text}
 
 -- one element more
-pub elements_more : (m : Form) (s : State) (place : ℕ) (element : ElementType) (n at w size : ℕ) (text : Vec ℕ Global) (texts more : List (Vec ℕ Global)) (whole : List (List ℕ))
+pub elements_more : (m : Form) (s : MachineState) (place : ℕ) (element : ElementType) (n at w size : ℕ) (text : Vec ℕ Global) (texts more : List (Vec ℕ Global)) (whole : List (List ℕ))
     → w ≡ element_word s element at → text.items ≡ word_text m s place element w → size ≡ element_size element → more ≡ texts ++ text ∷ []
     → map (λ (t : Vec ℕ Global). t.items) texts ++ element_texts m s place element (suc n) at ≡ whole
     → map (λ (t : Vec ℕ Global). t.items) more ++ element_texts m s place element n (word (at + size)) ≡ whole

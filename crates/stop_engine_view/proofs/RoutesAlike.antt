@@ -4,17 +4,17 @@ use Rattle.std.specs.Prelude.{◌||◌, ◌&&◌, ◌==◌, option_map}
 use Rattle.std.specs.List.{list_any}
 use Rattle.std.specs.Option.{option_map_or}
 use Rattle.places.specs.Path.{Quest}
-use Rattle.places.specs.Route.{after, goes_in, first_of, least_on, fewest, most_steps, route_of}
+use Rattle.places.specs.Route.{places_after, goes_in, first_that, least_on, fewest, most_steps, route_of}
 
 -- Tests that agree on each number find the same.
 any_alike : (s t : ℕ → Bool) → ((q : ℕ) → s q ≡ t q) → (places : List ℕ) → list_any s places ≡ list_any t places
 any_alike s t alike [] = refl
 any_alike s t alike (q ∷ places) = ap (λ b. b || list_any s places) (alike q) ∙ ap (λ b. t q || b) (any_alike s t alike places)
 
-first_alike : (s t : ℕ → Bool) → ((q : ℕ) → s q ≡ t q) → (places : List ℕ) → first_of s places ≡ first_of t places
+first_alike : (s t : ℕ → Bool) → ((q : ℕ) → s q ≡ t q) → (places : List ℕ) → first_that s places ≡ first_that t places
 first_alike s t alike [] = refl
 first_alike s t alike (q ∷ places) =
-    ap (λ b. if b then Some q else first_of s places) (alike q) ∙ ap (λ o. if t q then Some q else o) (first_alike s t alike places)
+    ap (λ b. if b then Some q else first_that s places) (alike q) ∙ ap (λ o. if t q then Some q else o) (first_alike s t alike places)
 
 -- given: what is asked for, and places that are blocked as its own are
 module _ (quest : Quest) (blocked : ℕ → Bool) (alike : (p : ℕ) → quest.blocked p ≡ blocked p) where
@@ -24,15 +24,15 @@ module _ (quest : Quest) (blocked : ℕ → Bool) (alike : (p : ℕ) → quest.b
   goes_alike : (steps : ℕ) (passed : Bool) (p : ℕ) → goes_in quest steps passed p ≡ goes_in other steps passed p
   goes_alike zero passed p = refl
   goes_alike (suc zero) passed p = refl
-  goes_alike (suc (suc n)) passed p = any_alike _ _ (λ q. ap (λ b. not b && goes_in quest (suc n) (passed || q == quest.via) q) (alike q) ∙ ap (λ b. not (blocked q) && b) (goes_alike (suc n) (passed || q == quest.via) q)) (after quest.steps p)
+  goes_alike (suc (suc n)) passed p = any_alike _ _ (λ q. ap (λ b. not b && goes_in quest (suc n) (passed || q == quest.via) q) (alike q) ∙ ap (λ b. not (blocked q) && b) (goes_alike (suc n) (passed || q == quest.via) q)) (places_after quest.steps p)
 
   least_alike : (steps : ℕ) (passed : Bool) (p : ℕ) → least_on quest steps passed p ≡ least_on other steps passed p
   least_alike zero passed p = refl
   least_alike (suc zero) passed p = refl
   least_alike (suc (suc n)) passed p =
       ap (λ o. option_map_or (λ q. q ∷ least_on quest (suc n) (passed || q == quest.via) q) o [])
-      (first_alike _ _ (λ q. ap (λ b. not b && goes_in quest (suc n) (passed || q == quest.via) q) (alike q) ∙ ap (λ b. not (blocked q) && b) (goes_alike (suc n) (passed || q == quest.via) q)) (after quest.steps p))
-      ∙ by_first (first_of (λ q. not (blocked q) && goes_in other (suc n) (passed || q == quest.via) q) (after quest.steps p)) (λ q. least_alike (suc n) (passed || q == quest.via) q)
+      (first_alike _ _ (λ q. ap (λ b. not b && goes_in quest (suc n) (passed || q == quest.via) q) (alike q) ∙ ap (λ b. not (blocked q) && b) (goes_alike (suc n) (passed || q == quest.via) q)) (places_after quest.steps p))
+      ∙ by_first (first_that (λ q. not (blocked q) && goes_in other (suc n) (passed || q == quest.via) q) (places_after quest.steps p)) (λ q. least_alike (suc n) (passed || q == quest.via) q)
     where
       by_first : (o : Option ℕ) → ((q : ℕ) → least_on quest (suc n) (passed || q == quest.via) q ≡ least_on other (suc n) (passed || q == quest.via) q)
           → option_map_or (λ q. q ∷ least_on quest (suc n) (passed || q == quest.via) q) o [] ≡ option_map_or (λ q. q ∷ least_on other (suc n) (passed || q == quest.via) q) o []

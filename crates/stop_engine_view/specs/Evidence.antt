@@ -10,7 +10,7 @@ use Rattle.places.specs.declared.flow.Assignment.{Assignment}
 use Rattle.places.specs.Flow.{assigns}
 use Rattle.places.specs.Path.{Quest}
 use Rattle.places.specs.Route.{route_of}
-use Rattle.stop_engine_view.specs.Reading.{owner_of}
+use Rattle.stop_engine_view.specs.Reading.{place_of_word}
 
 -- where execution may go, by a table of an image
 abbrev pub step_of : FlowPair → FlowStep
@@ -23,7 +23,7 @@ assignment_of pair = record { place = record { 0 = pair.place }; var = record { 
 -- the place by which a path goes: that of the change, or that of the code word that wrote
 abbrev pub via_of : Form → (change : ℕ) → (writer : Option ℕ) → ℕ
 via_of m change None = option_map_or (λ (c : Change). c.place) (numbered m.changes change) 0
-via_of m change (Some address) = owner_of m address
+via_of m change (Some address) = place_of_word m address
 
 -- the path that is looked for
 abbrev pub row_quest : Form → (variable change start : ℕ) → (writer : Option ℕ) → (place : ℕ) → Quest

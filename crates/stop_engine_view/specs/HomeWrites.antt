@@ -63,13 +63,18 @@ adds_sp _ = false
 
 -- whether the word of a number stores a word in the slot at an offset, from sp
 abbrev pub stores_near : List ℕ → (offset index : ℕ) → Bool
-stores_near code offset index = option_map_or (λ n. n == offset) (option_and_then (stored_behind 2) (spelled_at code index)) false
+stores_near code offset index =
+    option_map_or (λ n. n == offset) (option_and_then (stored_behind 2) (spelled_at code index)) false
 
--- how far behind sp the three words that end with that of a number store a word, if they do: t0 is set to the upper part of the distance, sp is added, and the word is stored behind that
+-- how far behind sp the three words that end with that of a number store a word, if they do: t0 is set to the upper
+-- part of the distance, sp is added, and the word is stored behind that
 abbrev pub far_offset : List ℕ → (index : ℕ) → Option ℕ
 far_offset code index =
     if nat_le 2 index && option_map_or adds_sp (spelled_at code (index - 1)) false
-    then option_and_then (λ upper. option_and_then (λ n. Some ((upper * 4096 + n) % 4294967296)) (option_and_then (stored_behind 5) (spelled_at code index))) (option_and_then upper_of (spelled_at code (index - 2)))
+    then option_and_then
+    (λ upper. option_and_then (λ n. Some ((upper * 4096 + n) % 4294967296))
+    (option_and_then (stored_behind 5) (spelled_at code index)))
+    (option_and_then upper_of (spelled_at code (index - 2)))
     else None
 
 -- whether the word of a number stores a word in the slot at an offset, as the last of three words
@@ -91,13 +96,16 @@ any_from test first (suc count) = test first || any_from test (first + 1) count
 -- whether a word of a function that belongs to a place writes a home
 abbrev pub is_written_in : Form → Storage → (place : ℕ) → Function → Bool
 is_written_in m storage place f =
-    any_from (λ index. slice_index m.owners index == place && writes_home m.code storage index) ((f.first - code_start) / 4) ((f.end - f.first) / 4)
+    any_from (λ index. slice_index m.owners index == place && writes_home m.code storage index)
+    ((f.first - code_start) / 4) ((f.end - f.first) / 4)
 
 -- whether a word that belongs to a place writes the home of a variable of a function
 abbrev pub owns_writer : Form → (place : ℕ) → Variable → Bool
-owns_writer m place v = option_map_or (is_written_in m v.storage place) (option_and_then (slice_get m.functions) v.function) false
+owns_writer m place v =
+    option_map_or (is_written_in m v.storage place) (option_and_then (slice_get m.functions) v.function) false
 
 -- WHETHER A PLACE DISTURBS A VARIABLE: it assigns it, or a word that belongs to the place writes its home.
 abbrev pub disturbs : Form → (variable place : ℕ) → Bool
 disturbs m variable place =
-    assigns (map assignment_of m.assigned) place variable || option_map_or (owns_writer m place) (slice_get m.variables variable) false
+    assigns (map assignment_of m.assigned) place variable
+    || option_map_or (owns_writer m place) (slice_get m.variables variable) false

@@ -1,12 +1,12 @@
--- The run of an image: of the image it reads where the regions of memory lie, the code, the initial bytes and the addresses of
--- the stop places, and nothing else.
+-- The run of an image: of the image it reads where the regions of memory lie, the code, the initial bytes and the
+-- addresses of the stop places, and nothing else.
 use Rattle.std.specs.Prelude.{ℕ, ◌+◌, ◌==◌, Bool, List, [], ◌∷◌, if◌then◌else◌}
 use Rattle.std.specs.List.{list_any}
 use Rattle.image_form.specs.Form.{Form}
 use Rattle.image_form.specs.declared.tables.Function.{Function}
 use Rattle.image_form.specs.declared.tables.Place.{Place}
 use Rattle.rv_machine.specs.Table.{started}
-use Rattle.rv_machine.specs.Run.{MachineEvent, run}
+use Rattle.rv_machine.specs.Run.{MachineEvent, machine_run}
 
 -- a place is the entry of a function, at which no run stops
 abbrev pub is_entry : List Function → ℕ → Bool
@@ -25,4 +25,4 @@ stop_addresses m = stops_from m.functions 1 m.places
 
 -- the events of at most so many instructions of the image on an input, from the start
 abbrev pub image_run : Form → List ℕ → ℕ → List MachineEvent
-image_run m input limit = run (stop_addresses m) limit (started m.version.map m.code m.initial input)
+image_run m input limit = machine_run (stop_addresses m) limit (started m.version.map m.code m.initial input)

@@ -4,7 +4,7 @@ use Rattle.image_form.specs.declared.variables.ElementType.{ElementType}
 use Rattle.image_form.specs.declared.variables.ElementType.TheVariants.{U8, I8, U16, I16, U32, I32, Pointer}
 use Rattle.image_form.specs.declared.variables.Storage.{Storage}
 use Rattle.image_form.specs.declared.variables.Storage.TheVariants.{Static, Frame, Register, Slot}
-use Rattle.rv_machine.specs.State.{State, reg, word}
+use Rattle.rv_machine.specs.State.{MachineState, reg, word}
 use Rattle.rv_machine.specs.Reading.{byte_at}
 use Rattle.stop_engine_view.specs.Reading.{slot_word}
 
@@ -19,15 +19,15 @@ element_size I32 = 4
 element_size Pointer = 4
 
 -- the number of two bytes of memory, the lower one first
-abbrev pub memory_half : State → ℕ → ℕ
+abbrev pub memory_half : MachineState → ℕ → ℕ
 memory_half s a = byte_at s a + byte_at s (word (a + 1)) * 256
 
 -- the number of four bytes of memory
-unfoldable pub memory_word : State → ℕ → ℕ
+unfoldable pub memory_word : MachineState → ℕ → ℕ
 memory_word s a = memory_half s a + memory_half s (word (a + 2)) * 65536
 
 -- the number of the bytes of an element in memory
-abbrev pub element_word : State → ElementType → ℕ → ℕ
+abbrev pub element_word : MachineState → ElementType → ℕ → ℕ
 element_word s U8 a = byte_at s a
 element_word s I8 a = byte_at s a
 element_word s U16 a = memory_half s a
@@ -37,7 +37,7 @@ element_word s I32 a = memory_word s a
 element_word s Pointer a = memory_word s a
 
 -- the word that a home holds
-abbrev pub home_word : State → Storage → ℕ
+abbrev pub home_word : MachineState → Storage → ℕ
 home_word s (Register number) = reg s number
 home_word s (Slot offset) = slot_word s offset
 home_word s (Frame offset) = 0

@@ -1,6 +1,6 @@
 -- The arithmetic of RV32IM, as the RISC-V unprivileged ISA has it, chapters "RV32I" and "M".
 use Rattle.std.specs.Prelude.{ℕ, ◌+◌, ◌-◌, ◌*◌, ◌/◌, ◌%◌, ◌^◌, ◌==◌, nat_lt, ℤ, pos, negsuc, ◌*ℤ◌, ◌≤ℤ◌, int_div, int_rem, int_lt, if◌then◌else◌}
-use Rattle.word_base.specs.Words.{signed, word_of, upper_half, shifted_down, word_of_test}
+use Rattle.word_base.specs.Words.{signed_number, word_of, upper_half, shifted_down, word_of_test}
 
 -- ADD: the sum, of which the low 32 bits are kept.
 abbrev pub added : ℕ → ℕ → ℕ
@@ -16,7 +16,7 @@ multiplied a b = a * b % 4294967296
 
 -- MULH: the upper 32 bits of the product of two signed words.
 abbrev pub multiplied_high : ℕ → ℕ → ℕ
-multiplied_high a b = upper_half (signed a *ℤ signed b)
+multiplied_high a b = upper_half (signed_number a *ℤ signed_number b)
 
 -- MULHU: the upper 32 bits of the product of two unsigned words.
 abbrev pub multiplied_high_unsigned : ℕ → ℕ → ℕ
@@ -24,12 +24,12 @@ multiplied_high_unsigned a b = a * b / 4294967296
 
 -- MULHSU: the upper 32 bits of the product of a signed word and an unsigned one.
 abbrev pub multiplied_high_mixed : ℕ → ℕ → ℕ
-multiplied_high_mixed a b = upper_half (signed a *ℤ pos b)
+multiplied_high_mixed a b = upper_half (signed_number a *ℤ pos b)
 
 -- DIV: the quotient of two signed words, rounded toward zero; -1 where the divisor is 0.
 -- The one quotient that no signed word says, -2^31 / -1 = 2^31, leaves the word of -2^31, which has the same bits.
 abbrev pub divided : ℕ → ℕ → ℕ
-divided a b = if b == 0 then 4294967295 else word_of (int_div (signed a) (signed b))
+divided a b = if b == 0 then 4294967295 else word_of (int_div (signed_number a) (signed_number b))
 
 -- DIVU: the quotient of two unsigned words, rounded down; 2^32 - 1 where the divisor is 0.
 abbrev pub divided_unsigned : ℕ → ℕ → ℕ
@@ -37,7 +37,7 @@ divided_unsigned a b = if b == 0 then 4294967295 else a / b
 
 -- REM: the remainder of DIV, whose sign is the dividend's; the dividend where the divisor is 0.
 abbrev pub remaining : ℕ → ℕ → ℕ
-remaining a b = if b == 0 then a else word_of (int_rem (signed a) (signed b))
+remaining a b = if b == 0 then a else word_of (int_rem (signed_number a) (signed_number b))
 
 -- REMU: the remainder of DIVU; the dividend where the divisor is 0.
 abbrev pub remaining_unsigned : ℕ → ℕ → ℕ
@@ -51,13 +51,14 @@ shifted_left a b = a * 2 ^ (b % 32) % 4294967296
 abbrev pub shifted_right : ℕ → ℕ → ℕ
 shifted_right a b = a / 2 ^ (b % 32)
 
--- SRA: shifted right by the low five bits of b, copies of the sign coming in: the signed number over a power of two, rounded down.
+-- SRA: shifted right by the low five bits of b, copies of the sign coming in: the signed number over a power of two,
+-- rounded down.
 abbrev pub shifted_right_signed : ℕ → ℕ → ℕ
-shifted_right_signed a b = word_of (shifted_down (signed a) (b % 32))
+shifted_right_signed a b = word_of (shifted_down (signed_number a) (b % 32))
 
 -- SLT: 1 where a is less than b as signed numbers, and else 0.
 abbrev pub less : ℕ → ℕ → ℕ
-less a b = word_of_test (int_lt (signed a) (signed b))
+less a b = word_of_test (int_lt (signed_number a) (signed_number b))
 
 -- SLTU: 1 where a is less than b as unsigned numbers, and else 0.
 abbrev pub less_unsigned : ℕ → ℕ → ℕ

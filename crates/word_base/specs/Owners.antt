@@ -1,8 +1,8 @@
 -- What owns the objects of a C program.
 use Rattle.std.specs.Prelude.{ℕ, ◌&&◌, ◌==◌, Bool, false}
 
--- What owns an object: a static object or a literal by its number, or a variable with the depth of the activation that it belongs to,
--- 1 for the first of `main`.
+-- What owns an object: a static object or a literal by its number, or a variable with the depth of the activation that
+-- it belongs to, 1 for the first of `main`.
 pub data Owner : Type 0 where
   Static : ℕ → Owner
   Literal : ℕ → Owner

@@ -31,8 +31,8 @@ abbrev pub unsigned_type : IntegerType
 unsigned_type = record { width = 32; is_signed = false }
 
 -- the least number of the type: 0, or -2^(N-1) at a width of N
-abbrev pub least : IntegerType → ℤ
-least t = if t.is_signed then negsuc (2 ^ (t.width - 1) - 1) else pos 0
+abbrev pub least_number : IntegerType → ℤ
+least_number t = if t.is_signed then negsuc (2 ^ (t.width - 1) - 1) else pos 0
 
 -- the greatest number of the type: 2^(N-1) - 1, or 2^N - 1
 abbrev pub greatest : IntegerType → ℤ
@@ -40,7 +40,7 @@ greatest t = if t.is_signed then pos (2 ^ (t.width - 1) - 1) else pos (2 ^ t.wid
 
 -- the number is one of the type
 abbrev pub holds : IntegerType → ℤ → Bool
-holds t z = int_le (least t) z && int_le z (greatest t)
+holds t z = int_le (least_number t) z && int_le z (greatest t)
 
 -- what is left of a number modulo m, from 0 to m - 1: `negsuc n` is -(n + 1)
 abbrev pub modulo : ℕ → ℤ → ℕ
@@ -52,12 +52,13 @@ abbrev pub bits_of : IntegerType → ℤ → ℕ
 bits_of t z = modulo (2 ^ t.width) z
 
 -- the number of the type that has these bits
-abbrev pub number_of : IntegerType → ℕ → ℤ
-number_of t bits = if t.is_signed && nat_le (2 ^ (t.width - 1)) bits then pos bits -ℤ pos (2 ^ t.width) else pos bits
+abbrev pub number_of_bits : IntegerType → ℕ → ℤ
+number_of_bits t bits =
+    if t.is_signed && nat_le (2 ^ (t.width - 1)) bits then pos bits -ℤ pos (2 ^ t.width) else pos bits
 
 -- A number converted to the type: the one of the type that differs from it by a multiple of 2^N (6.3.1.3).
 abbrev pub converted : IntegerType → ℤ → ℤ
-converted t z = number_of t (bits_of t z)
+converted t z = number_of_bits t (bits_of t z)
 
 -- a number of the type, or undefined
 abbrev pub in_range : IntegerType → ℤ → Option ℤ

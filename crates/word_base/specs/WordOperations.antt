@@ -7,22 +7,22 @@ use Rattle.word_base.specs.declared.operation.Truncation.{Truncation}
 use Rattle.word_base.specs.declared.operation.Truncation.TheVariants.{Unsigned8, Signed16, Unsigned16, Signed8}
 
 -- what an operation computes of two words, as RV32IM has it
-unfoldable pub operated : Operation → (a b : ℕ) → ℕ
-operated Add a b = added a b
-operated Sub a b = subtracted a b
-operated Mul a b = multiplied a b
-operated Div a b = divided a b
-operated Divu a b = divided_unsigned a b
-operated Rem a b = remaining a b
-operated Remu a b = remaining_unsigned a b
-operated Sll a b = shifted_left a b
-operated Srl a b = shifted_right a b
-operated Sra a b = shifted_right_signed a b
-operated And a b = bit_and a b
-operated Or a b = bit_or a b
-operated Xor a b = bit_xor a b
-operated Slt a b = less a b
-operated Sltu a b = less_unsigned a b
+unfoldable pub word_operation : Operation → (a b : ℕ) → ℕ
+word_operation Add a b = added a b
+word_operation Sub a b = subtracted a b
+word_operation Mul a b = multiplied a b
+word_operation Div a b = divided a b
+word_operation Divu a b = divided_unsigned a b
+word_operation Rem a b = remaining a b
+word_operation Remu a b = remaining_unsigned a b
+word_operation Sll a b = shifted_left a b
+word_operation Srl a b = shifted_right a b
+word_operation Sra a b = shifted_right_signed a b
+word_operation And a b = bit_and a b
+word_operation Or a b = bit_or a b
+word_operation Xor a b = bit_xor a b
+word_operation Slt a b = less a b
+word_operation Sltu a b = less_unsigned a b
 
 -- The word of the signed number that a low part of a word says: from half of its range on it is that range less.
 abbrev pub sign_extended : (low range : ℕ) → ℕ

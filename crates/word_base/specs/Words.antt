@@ -3,8 +3,8 @@ use Rattle.std.specs.Prelude.{ℕ, ◌/◌, ◌^◌, ℤ, pos, negsuc, Bool, if�
 use Rattle.std.specs.Int.{cast_signed, cast_unsigned, w32, w64}
 
 -- The number that a word says in two's complement.
-abbrev pub signed : ℕ → ℤ
-signed a = cast_signed w32 a
+abbrev pub signed_number : ℕ → ℤ
+signed_number a = cast_signed w32 a
 
 -- The word that says a signed number in two's complement.
 abbrev pub word_of : ℤ → ℕ

@@ -1,7 +1,7 @@
 //! The operations of RV32IM on two words, and the range of a signed word.
 
 ghost use Rattle.std.specs.Prelude.{◌≡◌, ◌↔◌, IsTrue};
-ghost use Rattle.word_base.specs.Words.{signed, upper_half};
+ghost use Rattle.word_base.specs.Words.{signed_number as signed, upper_half};
 ghost use Rattle.word_base.specs.Arithmetic.{added, subtracted, multiplied, multiplied_high, multiplied_high_unsigned, multiplied_high_mixed, divided, divided_unsigned, remaining, remaining_unsigned, shifted_left, shifted_right, shifted_right_signed, less, less_unsigned, IsSignedWord};
 
 /// The sum of two words, of which the low 32 bits are kept (ADD).

@@ -1,7 +1,7 @@
 //! The operations that units of the compiler and recipes of the debugger are made of, on words of 32 bits.
 
 ghost use Rattle.std.specs.Prelude.{◌≡◌, ◌<◌};
-ghost use Rattle.word_base.specs.WordOperations.{operated, sign_extended, truncated};
+ghost use Rattle.word_base.specs.WordOperations.{word_operation, sign_extended, truncated};
 
 use crate::arithmetic::{
     add, div_signed, div_unsigned, mul, rem_signed, rem_unsigned, sll, slt, sltu, sra, srl, sub,
@@ -41,9 +41,9 @@ pub enum Truncation {
 }
 
 /// What an operation computes of two words.
-#[tactic(auto, unfolding(crate::specs::WordOperations::operated))]
+#[tactic(auto, unfolding(crate::specs::WordOperations::word_operation))]
 pub fn operate(operation: Operation, left: u32, right: u32) -> u32
-    ensures { result ≡ operated operation left right }
+    ensures { result ≡ word_operation operation left right }
 {
     match operation {
         Operation::Add => add(left, right),

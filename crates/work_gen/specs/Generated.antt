@@ -6,8 +6,8 @@ abbrev pub line : List ℕ → List ℕ
 line text = text ++ 10 ∷ []
 
 -- The state behind this one: a linear congruential generator of 32 bits.
-abbrev pub next : ℕ → ℕ
-next x = (x * 1103515245 + 12345) % 4294967296
+abbrev pub next_state : ℕ → ℕ
+next_state x = (x * 1103515245 + 12345) % 4294967296
 
 -- a, b, c or d
 abbrev pub letter : ℕ → ℕ
@@ -21,15 +21,15 @@ right_side kind left right =
     else (if kind == 2 then left ∷ codes "*" ++ right ∷ []
     else left ∷ codes "^" ++ right ∷ []))
 
--- The statement that a number draws: its lowest two bits say which variable is assigned, the next two and two which stand on the right side, and the next two of which
--- kind that is.
+-- The statement that a number draws: its lowest two bits say which variable is assigned, the next two and two which
+-- stand on the right side, and the next two of which kind that is.
 unfoldable pub statement : ℕ → List ℕ
 statement r = line (letter r ∷ codes "=" ++ right_side (r / 64 % 4) (letter (r / 4)) (letter (r / 16)) ++ codes ";")
 
 -- So many statements from a state on. Each is drawn by the upper 16 bits of the next state.
 abbrev pub statements : (count x : ℕ) → List ℕ
 statements zero x = []
-statements (suc count) x = statement (next x / 65536) ++ statements count (next x)
+statements (suc count) x = statement (next_state x / 65536) ++ statements count (next_state x)
 
 -- the lines before the statements
 abbrev pub head : List ℕ

@@ -1,7 +1,7 @@
 //! The source that is generated from a seed and a size.
 
 ghost use Rattle.std.specs.Prelude.{◌≡◌, ◌≤◌, ◌++◌, IfOk, OnOk};
-ghost use Rattle.work_gen.specs.Generated.{letter, next, statement, statements, text};
+ghost use Rattle.work_gen.specs.Generated.{letter, next_state, statement, statements, text};
 
 use std::alloc::{AllocError, Global};
 
@@ -14,7 +14,7 @@ const TAIL: &[u8] = b"i=i+1;\n}\nputchar(65+(int)((a+b+c+d)%26u));\nreturn 0;\n}
 
 /// The state behind this one (Lehmer 1951).
 fn next(state: u32) -> u32
-    ensures { result ≡ next state }
+    ensures { result ≡ next_state state }
 {
     let wide = u64::from(state) * 1_103_515_245 + 12_345;
     (wide % 4_294_967_296) as u32

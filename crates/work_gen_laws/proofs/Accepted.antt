@@ -4,7 +4,7 @@ use Rattle.std.specs.Option.{option_map_or}
 use Rattle.debug_records.specs.declared.code.Code.{Code}
 use Rattle.c_tree.specs.Programs.{AutomaticTree, TypedFunctionTree, ProgramTree}
 use Rattle.c_type_bounds.specs.Bounds.{behind_functions, program_breach}
-use Rattle.c_type_declarations.specs.Progress.{ProgressTree, Met, means, closed}
+use Rattle.c_type_declarations.specs.Progress.{ProgressTree, Met, means, scope_left}
 use Rattle.c_type.specs.Programs.{Refusal, names_refusal, unless_refused, within_function_limits, within_program_limits, program_of, accepted, checked}
 use Rattle.work_gen_laws.specs.Drawn.{Drawn}
 use Rattle.work_gen_laws.specs.Pieces.{end_of, tokens_along, lines_pieces, include_line, main_line, variables_line, counter_line, loop_line}
@@ -15,7 +15,7 @@ use Rattle.work_gen_laws.proofs.Limits.{program_light, all_behind, pairs_few}
 module _ (text : List ℕ) (t : Tokens) (ds : List Drawn) where
   -- how far its check comes
   abbrev last : ProgressTree
-  last = closed (after_counter t.include t.variables t.counter)
+  last = scope_left (after_counter t.include t.variables t.counter)
 
   no_fault : names_refusal (items_tree text t ds) last ≡ None
   no_fault = let found = found_nothing t.include t.variables t.counter in rw found refl

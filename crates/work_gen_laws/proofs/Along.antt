@@ -2,8 +2,8 @@
 use Rattle.std.proofs.Common.{◌≡◌, ℕ, ◌+◌, ◌<◌, ◌≤◌, List, [], ◌∷◌, ◌++◌, length, drop, Result, Ok, refl, sym, ap, ◌∙◌, subst, arith, append_assoc, length-drop, drop-drop}
 use Rattle.c_token.specs.declared.context.Context.{Context}
 use Rattle.c_token.specs.declared.fault.Fault.{Fault}
-use Rattle.c_token.specs.Includes.{start}
-use Rattle.c_token.specs.Items.{Piece, item_at, behind}
+use Rattle.c_token.specs.Includes.{context_at_start}
+use Rattle.c_token.specs.Items.{Piece, item_at, context_behind}
 use Rattle.c_token.specs.Lexemes.{Lexeme}
 use Rattle.c_token.specs.Texts.{tokens_at}
 use Rattle.c_token.specs.Spells.{Takes, SpellsFrom, piece}
@@ -45,9 +45,9 @@ along text [] at bs rest ts fits here reads on = on fits (here ∙ reads)
 along text (p ∷ ps) at [] rest ts fits here reads on = absurd reads
 along text (p ∷ ps) at (b ∷ bs) rest ts fits here reads on =
     let next : drop (at + p.1) text ≡ drop p.1 (b ∷ bs) = sym (drop-drop p.1 at text) ∙ ap (drop p.1) here in
-    let any = step_bounds text at b bs p start here reads.0 in
+    let any = step_bounds text at b bs p context_at_start here reads.0 in
     let more = along text ps (at + p.1) (drop p.1 (b ∷ bs)) rest ts any.there next reads.1 on in
-    λ c. subst (λ (us : List Lexeme). SpellsFrom text at c us) (sym (append_assoc (tokens_at text at p.0) (tokens_along text (at + p.1) ps) ts)) (piece (step_bounds text at b bs p c here reads.0) (more (behind c p.0)))
+    λ c. subst (λ (us : List Lexeme). SpellsFrom text at c us) (sym (append_assoc (tokens_at text at p.0) (tokens_along text (at + p.1) ps) ts)) (piece (step_bounds text at b bs p c here reads.0) (more (context_behind c p.0)))
 
 pub reads_on : (ps qs : List Sized) (bs mid rest : List ℕ) → Reads bs ps mid → Reads mid qs rest → Reads bs (ps ++ qs) rest
 reads_on [] qs bs mid rest first more = subst (λ (x : List ℕ). Reads x qs rest) (sym first) more

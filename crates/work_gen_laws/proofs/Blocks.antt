@@ -18,10 +18,10 @@ use Rattle.c_type_values.specs.Values.{to_integer}
 use Rattle.c_type_values.specs.Operations.{arithmetic_value}
 use Rattle.c_type_expressions.specs.declared.names.Meaning.TheVariants.{Function}
 use Rattle.c_type_expressions.specs.Names.{Names, meaning_of}
-use Rattle.c_type_declarations.specs.Progress.{ProgressTree, means, next_met, value_met, opened, closed}
+use Rattle.c_type_declarations.specs.Progress.{ProgressTree, means, next_met, value_met, opened, scope_left}
 use Rattle.c_type_statements.specs.declared.setting.Setting.{Setting}
 use Rattle.c_type_statements.specs.Settings.{in_loop}
-use Rattle.c_type_statements.specs.Switches.{unlabeled, bare}
+use Rattle.c_type_statements.specs.Switches.{without_label, bare}
 use Rattle.c_type_statements.specs.Statements.{statement_met, statements_met}
 use Rattle.c_type.specs.Headers.{library}
 use Rattle.work_gen_laws.specs.Drawn.{A, B, C, D, byte, Drawn}
@@ -53,12 +53,12 @@ pub entered_declared : (p : ProgressTree) → Declared p.names → Declared (ope
 entered_declared p h = record { letters = λ l. meaning_entered p.names (byte l ∷ []) ∙ h.letters l; counter = meaning_entered p.names (105 ∷ []) ∙ h.counter }
 
 step_met : (g : Setting) (ts : List Lexeme) (p : ProgressTree) → Declared p.names → statements_met g (tree.first (step_tree ts) tree.none) p ≡ means (first (typed_step ts) none) p
-unfolding unlabeled bare next_met value_met to_integer arithmetic_value
+unfolding without_label bare next_met value_met to_integer arithmetic_value
 step_met g ts p h = let counter = h.counter in rw counter refl
 
 loop_of : (g : Setting) (ts ends : List Lexeme) (body : StatementTrees) (typed : TypedStatementTrees) (p : ProgressTree) → Declared p.names
-    → statements_met (in_loop g) body (opened p) ≡ means typed (opened p) → statement_met g (loop_tree ts body ends) p ≡ means (typed_loop ts typed) (closed (opened p))
-unfolding unlabeled bare next_met value_met to_integer arithmetic_value
+    → statements_met (in_loop g) body (opened p) ≡ means typed (opened p) → statement_met g (loop_tree ts body ends) p ≡ means (typed_loop ts typed) (scope_left (opened p))
+unfolding without_label bare next_met value_met to_integer arithmetic_value
 loop_of g ts ends body typed p h inner = let counter = h.counter in rw (counter, inner) refl
 
 pub loop_met : (g : Setting) (text : List ℕ) (ds : List Drawn) (at : ℕ) (ts ends steps : List Lexeme) (p : ProgressTree) → Declared p.names
@@ -76,7 +76,7 @@ pub record HasOutput (names : Names) : Type 0 where
   pub function : slice_get names.signatures 1 ≡ Some (library callee.Putchar)
 
 pub output_met : (g : Setting) (ts : List Lexeme) (p : ProgressTree) → Declared p.names → HasOutput p.names → statement_met g (output_tree ts) p ≡ means (typed_output ts) p
-unfolding unlabeled bare next_met value_met to_integer arithmetic_value
+unfolding without_label bare next_met value_met to_integer arithmetic_value
 output_met g ts p h o =
     let name = o.name in
     let function = o.function in
@@ -88,5 +88,5 @@ output_met g ts p h o =
 
 pub return_met : (may_break may_continue : Bool) (ts : List Lexeme) (p : ProgressTree)
     → statement_met (record { result = Integer Int; may_break = may_break; may_continue = may_continue }) (return_tree ts) p ≡ means (typed_return ts) p
-unfolding unlabeled bare next_met value_met to_integer
+unfolding without_label bare next_met value_met to_integer
 return_met may_break may_continue ts p = refl

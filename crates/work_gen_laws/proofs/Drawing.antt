@@ -1,6 +1,6 @@
 -- The generated text is that of the statements that are drawn.
 use Rattle.std.proofs.Common.{◌≡◌, ℕ, zero, suc, ◌+◌, ◌/◌, ◌%◌, ◌<◌, List, [], ◌∷◌, ◌++◌, length, refl, ap, append_assoc, arith}
-use Rattle.work_gen.specs.Generated.{letter, right_side, next, statement, statements, head, tail, text}
+use Rattle.work_gen.specs.Generated.{letter, right_side, next_state, statement, statements, head, tail, text}
 use Rattle.work_gen_laws.specs.Drawn.{Letter, byte, side_text, line_text, lines_text, whole_text, letter_of, side_of, drawn, drawn_all}
 
 letter_is : (k : ℕ) → k < 4 → 97 + k ≡ byte (letter_of k)
@@ -32,7 +32,7 @@ line_is r =
 
 pub lines_are : (count x : ℕ) → statements count x ≡ lines_text (drawn_all count x)
 lines_are zero x = refl
-lines_are (suc count) x = rw (line_is (next x / 65536), lines_are count (next x)) refl
+lines_are (suc count) x = rw (line_is (next_state x / 65536), lines_are count (next_state x)) refl
 
 pub text_is : (seed size : ℕ) → text seed size ≡ whole_text (drawn_all size seed)
 unfolding text
@@ -40,4 +40,4 @@ text_is seed size = ap (λ (s : List ℕ). head ++ (s ++ tail)) (lines_are size 
 
 pub count_is : (count x : ℕ) → length (drawn_all count x) ≡ count
 count_is zero x = refl
-count_is (suc count) x = ap suc (count_is count (next x))
+count_is (suc count) x = ap suc (count_is count (next_state x))

@@ -13,7 +13,7 @@ use Rattle.c_tree.specs.declared.typed_expression.Callee.TheVariants as callee
 use Rattle.c_tree.specs.TypedExpressions.{RvalueTree, Constant}
 use Rattle.c_tree.specs.TypedStatements.{DeclaredTree, TypedStatementTree, TypedStatementTrees, Declaration, none, first}
 use Rattle.c_tree.specs.TypedStatements as typed
-use Rattle.c_tree.specs.Statements.{StatementTree, StatementTrees, BlockTree, Declare, chain}
+use Rattle.c_tree.specs.Statements.{StatementTree, StatementTrees, BlockTree, Declare, chain_of_statements}
 use Rattle.c_tree.specs.Statements as tree
 use Rattle.c_tree.specs.Trees.{FunctionTree, ItemTree, Include, Defines}
 use Rattle.c_tree.specs.Programs.{AutomaticTree, TypedFunctionTree}
@@ -23,9 +23,9 @@ use Rattle.c_type_bounds.specs.Weights.{definition_weight}
 use Rattle.c_type_expressions.specs.declared.names.Meaning.TheVariants.{Variable}
 use Rattle.c_type_expressions.specs.Names.{SignatureTree, meaning_of}
 use Rattle.c_type_expressions.specs.Findings.{FoundTree}
-use Rattle.c_type_declarations.specs.Progress.{ProgressTree, Met, means, next_met, value_met, opened, closed}
+use Rattle.c_type_declarations.specs.Progress.{ProgressTree, Met, means, next_met, value_met, opened, scope_left}
 use Rattle.c_type_statements.specs.declared.setting.Setting.{Setting}
-use Rattle.c_type_statements.specs.Switches.{unlabeled, bare}
+use Rattle.c_type_statements.specs.Switches.{without_label, bare}
 use Rattle.c_type_statements.specs.Statements.{statement_met, statements_met}
 use Rattle.c_type.specs.Headers.{included, with_function}
 use Rattle.c_type.specs.Functions.{function_made}
@@ -90,15 +90,15 @@ five ts us =
     variable 97 (spot ts 1) unsigned_scalar ∷ variable 98 (spot ts 5) unsigned_scalar ∷ variable 99 (spot ts 9) unsigned_scalar ∷ variable 100 (spot ts 13) unsigned_scalar ∷ variable 105 (spot us 1) int_scalar ∷ []
 
 variables_met : (include : Spot) (ts : List Lexeme) → statement_met in_main (Declare (variables_tree ts)) (start_of include) ≡ means (typed_variables ts) (after_variables include ts)
-unfolding unlabeled bare next_met value_met to_integer come after_variables
+unfolding without_label bare next_met value_met to_integer come after_variables
 variables_met include ts = refl
 
 counter_met : (include : Spot) (ts us : List Lexeme) → statement_met in_main (Declare (counter_tree us)) (after_variables include ts) ≡ means (typed_counter us) (after_counter include ts us)
-unfolding unlabeled bare next_met value_met to_integer come after_variables after_counter
+unfolding without_label bare next_met value_met to_integer come after_variables after_counter
 counter_met include ts us = refl
 
 declared : (include : Spot) (ts us : List Lexeme) → Declared (after_counter include ts us).names
-unfolding unlabeled bare next_met value_met to_integer come after_variables after_counter
+unfolding without_label bare next_met value_met to_integer come after_variables after_counter
 declared include ts us = record { letters = letters; counter = refl }
   where
     letters : (l : Letter) → meaning_of (after_counter include ts us).names (byte l ∷ []) ≡ Some (Variable (Automatic (number l)) (object.Scalar unsigned_scalar))
@@ -108,23 +108,23 @@ declared include ts us = record { letters = letters; counter = refl }
     letters D = refl
 
 has_output : (include : Spot) (ts us : List Lexeme) → HasOutput (after_counter include ts us).names
-unfolding unlabeled bare next_met value_met to_integer come after_variables after_counter
+unfolding without_label bare next_met value_met to_integer come after_variables after_counter
 has_output include ts us = record { name = refl; function = refl }
 
 pub found_nothing : (include : Spot) (ts us : List Lexeme) → ◌≡◌ {A = FoundTree} (after_counter include ts us).found (record { faults = []; undefined = []; literals = [] })
-unfolding unlabeled bare next_met value_met to_integer come after_variables after_counter
+unfolding without_label bare next_met value_met to_integer come after_variables after_counter
 found_nothing include ts us = refl
 
 pub five_declared : (include : Spot) (ts us : List Lexeme) → (after_counter include ts us).automatics ≡ five ts us
-unfolding unlabeled bare next_met value_met to_integer come after_variables after_counter
+unfolding without_label bare next_met value_met to_integer come after_variables after_counter
 five_declared include ts us = refl
 
 pub no_statics : (include : Spot) (ts us : List Lexeme) → (after_counter include ts us).statics ≡ []
-unfolding unlabeled bare next_met value_met to_integer come after_variables after_counter
+unfolding without_label bare next_met value_met to_integer come after_variables after_counter
 no_statics include ts us = refl
 
 pub no_array_literals : (include : Spot) (ts us : List Lexeme) → (after_counter include ts us).array_literals ≡ []
-unfolding unlabeled bare next_met value_met to_integer come after_variables after_counter
+unfolding without_label bare next_met value_met to_integer come after_variables after_counter
 no_array_literals include ts us = refl
 
 module _ (text : List ℕ) (t : Tokens) (ds : List Drawn) where
@@ -153,7 +153,7 @@ module _ (text : List ℕ) (t : Tokens) (ds : List Drawn) where
   typed_main =
       record { name = codes "main"; spot = spot t.main 1; result = Integer Int; first_variable = 0; parameters = 0; variables = 5; body = typed_block; close = spot t.main_end 0; weight = capped (definition_weight [] main_block) }
 
-  block_met : statements_met in_main (chain block_trees) (start_of t.include) ≡ means typed_block (after_counter t.include t.variables t.counter)
+  block_met : statements_met in_main (chain_of_statements block_trees) (start_of t.include) ≡ means typed_block (after_counter t.include t.variables t.counter)
   block_met =
       let p = after_counter t.include t.variables t.counter in
       let return = first_met in_main (return_tree t.return) tree.none p p p (typed_return t.return) none (return_met false false t.return p) refl in
@@ -165,7 +165,7 @@ module _ (text : List ℕ) (t : Tokens) (ds : List Drawn) where
       let counter = first_met in_main (Declare (counter_tree t.counter)) (tree.first (loop_tree t.loop loop_body t.loop_end) (tree.first (output_tree t.output) (tree.first (return_tree t.return) tree.none)))
       (after_variables t.include t.variables) p p (typed_counter t.counter) (first (typed_loop t.loop (typed_before text 86 ds (first (typed_step t.step) none))) (first (typed_output t.output) (first (typed_return t.return) none)))
       (counter_met t.include t.variables t.counter) loop in
-      first_met in_main (Declare (variables_tree t.variables)) (chain (Declare (counter_tree t.counter) ∷ loop_tree t.loop loop_body t.loop_end ∷ output_tree t.output ∷ return_tree t.return ∷ []))
+      first_met in_main (Declare (variables_tree t.variables)) (chain_of_statements (Declare (counter_tree t.counter) ∷ loop_tree t.loop loop_body t.loop_end ∷ output_tree t.output ∷ return_tree t.return ∷ []))
       (start_of t.include) (after_variables t.include t.variables) p (typed_variables t.variables)
       (first (typed_counter t.counter) (first (typed_loop t.loop (typed_before text 86 ds (first (typed_step t.step) none))) (first (typed_output t.output) (first (typed_return t.return) none))))
       (variables_met t.include t.variables) counter
@@ -174,13 +174,13 @@ module _ (text : List ℕ) (t : Tokens) (ds : List Drawn) where
   made : Met TypedStatementTrees → Met (List TypedFunctionTree)
   made m = next_met (next_met (next_met m (function_made main_function main_signature main_block 0)) (λ more. means more)) (λ gs. items_met (codes "main" ∷ []) gs [])
 
-  made_of : source_met items_tree ≡ made (statements_met in_main (chain block_trees) (start_of t.include))
+  made_of : source_met items_tree ≡ made (statements_met in_main (chain_of_statements block_trees) (start_of t.include))
   unfolding next_met made
   made_of = refl
 
-  made_is : made (means typed_block (after_counter t.include t.variables t.counter)) ≡ means (typed_main ∷ []) (closed (after_counter t.include t.variables t.counter))
+  made_is : made (means typed_block (after_counter t.include t.variables t.counter)) ≡ means (typed_main ∷ []) (scope_left (after_counter t.include t.variables t.counter))
   unfolding next_met made
   made_is = rw (five_declared t.include t.variables t.counter) refl
 
-  pub source_is : source_met items_tree ≡ means (typed_main ∷ []) (closed (after_counter t.include t.variables t.counter))
+  pub source_is : source_met items_tree ≡ means (typed_main ∷ []) (scope_left (after_counter t.include t.variables t.counter))
   source_is = made_of ∙ ap made block_met ∙ made_is

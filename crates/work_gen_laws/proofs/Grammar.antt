@@ -7,14 +7,14 @@ use Rattle.c_tree.specs.declared.extent.Extent.{Extent}
 use Rattle.c_tree.specs.Declarations.{Absent, DeclaratorTree}
 use Rattle.c_tree.specs.Declarations as declaration
 use Rattle.c_tree.specs.Expressions.{ExpressionTree}
-use Rattle.c_tree.specs.Statements.{StatementTree, StatementTrees, none, first, chain}
+use Rattle.c_tree.specs.Statements.{StatementTree, StatementTrees, none, first, chain_of_statements}
 use Rattle.c_tree.specs.Trees.{Defines}
 use Rattle.c_parse_tokens.specs.declared.specifier.Sign.TheVariants as sign
 use Rattle.c_parse_tokens.specs.declared.specifier.Width.TheVariants as width
 use Rattle.c_parse_tokens.specs.declared.specifier.SpecifierList.{SpecifierList}
 use Rattle.c_parse_tokens.specs.Front.{spot_at, last_before, extent_before}
 use Rattle.c_parse_tokens.specs.Operators.{binary_operator, assignment_operator}
-use Rattle.c_parse_tokens.specs.Specifiers.{is_type, with_int, with_sign, with_word, integer_type, base_of}
+use Rattle.c_parse_tokens.specs.Specifiers.{is_type, with_int, with_sign, with_specifier, integer_type, base_of}
 use Rattle.c_parse.specs.Tokens.{Grammar, IsPunctuator}
 use Rattle.c_parse.specs.Types.{AreSpecifiers, Specify, AreStars, no_star, IsTypeName}
 use Rattle.c_parse.specs.Types as types
@@ -60,14 +60,14 @@ four G {a = a} {b = b} {c = c} one t two u three v last =
 
 variables_parse : (text : List ℕ) (at : ℕ) (qs : List Sized)
     → IsDeclaration (variables_tree (tokens_along text at variables_line)) (tokens_along text at (variables_line ++ qs)) (tokens_along text (end_of at variables_line) qs)
-unfolding with_word with_sign is_type integer_type
+unfolding with_specifier with_sign is_type integer_type
 variables_parse text at qs =
     declarations.declaration {found = unsigned_alone} (record { words = types.more refl refl types.none; type = refl })
     (four IsDeclarator (declarator_parse refl refl (constant_cast refl)) refl (declarator_parse refl refl (constant_cast refl)) refl (declarator_parse refl refl (constant_cast refl)) refl (declarator_parse refl refl (constant_cast refl))) refl
 
 counter_parse : (text : List ℕ) (at : ℕ) (qs : List Sized)
     → IsDeclaration (counter_tree (tokens_along text at counter_line)) (tokens_along text at (counter_line ++ qs)) (tokens_along text (end_of at counter_line) qs)
-unfolding with_word with_int is_type integer_type
+unfolding with_specifier with_int is_type integer_type
 counter_parse text at qs =
     declarations.declaration {found = int_alone} (record { words = types.more refl refl types.none; type = refl })
     (declarations.first (declarator_parse refl refl (constant_cast refl))) refl
@@ -87,7 +87,7 @@ step_parse text at qs =
     (level_two (grammar.operation (to_level 2 (name_cast refl)) refl refl (to_level 1 (constant_cast refl)))))) refl
 
 output_parse : (text : List ℕ) (at : ℕ) (qs : List Sized) → IsStatement (output_tree (tokens_along text at output_line)) (tokens_along text at (output_line ++ qs)) (tokens_along text (end_of at output_line) qs)
-unfolding binary_operator with_word with_int is_type integer_type
+unfolding binary_operator with_specifier with_int is_type integer_type
 output_parse text at qs =
     statements.run (grammar.assignment (cast_assigns (grammar.unary (grammar.postfix (grammar.call (grammar.primary (grammar.name refl)) refl (grammar.one
     (level_two (grammar.operation (to_level 2 (constant_cast refl)) refl refl (to_level 1 (grammar.cast refl
@@ -100,9 +100,9 @@ return_parse : (text : List ℕ) (at : ℕ) (qs : List Sized) → IsStatement (r
 return_parse text at qs = statements.return_value refl (grammar.assignment (cast_assigns (constant_cast refl))) refl
 
 main_parse : (text : List ℕ) (at : ℕ) (all : List StatementTree) (qs : List Sized) (closing : Lexeme) (rest : List Lexeme)
-    → AreStatements true (chain all) (tokens_along text (end_of at main_line) qs) (closing ∷ rest) → IsPunctuator punctuator.CloseBrace closing
+    → AreStatements true (chain_of_statements all) (tokens_along text (end_of at main_line) qs) (closing ∷ rest) → IsPunctuator punctuator.CloseBrace closing
     → IsItem (Defines (main_tree (tokens_along text at main_line) all (closing ∷ []))) (tokens_along text at (main_line ++ qs)) rest
-unfolding with_word with_int is_type integer_type base_of
+unfolding with_specifier with_int is_type integer_type base_of
 main_parse text at all qs closing rest block end =
     files.function {found = int_alone} (record { words = types.more refl refl types.none; type = refl }) (files.of_integer refl no_star) (refl, refl) refl (files.void refl) refl
     (files.body files.no_more refl block end)

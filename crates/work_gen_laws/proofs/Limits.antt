@@ -12,7 +12,7 @@ use Rattle.c_places.specs.Memory.{kept_by_all}
 use Rattle.c_type_bounds.specs.Counts.{capped}
 use Rattle.c_type_bounds.specs.Weights.{statement_weight, statements_weight, definition_weight, items_weight}
 use Rattle.c_type_bounds.specs.Visible.{visible_pairs, at_statements, at_functions}
-use Rattle.c_type_bounds.specs.Bounds.{kept_all, with_kept, function_breach, or_breach, behind_function, behind_functions}
+use Rattle.c_type_bounds.specs.Bounds.{with_all_in_memory, with_kept, function_breach, or_breach, behind_function, behind_functions}
 use Rattle.c_type_bounds.proofs.PlacesCounted.{pairs_counted}
 use Rattle.base_laws.proofs.Numbers.{not_before}
 use Rattle.work_gen_laws.specs.Drawn.{Letter, Side, Only, Operation, Drawn}
@@ -73,7 +73,7 @@ module _ (text : List ℕ) (t : Tokens) (ds : List Drawn) where
       not_before 4000 (capped (items_weight (items_tree text t ds))) (omega (arith, h))
 
   keeps_none : with_kept (typed_main text t ds) variables ≡ variables
-  keeps_none = ap (λ (ks : List ℕ). kept_all ks variables) (lines_keep text ds 86 (typed.first (typed_step t.step) typed.none) [])
+  keeps_none = ap (λ (ks : List ℕ). with_all_in_memory ks variables) (lines_keep text ds 86 (typed.first (typed_step t.step) typed.none) [])
 
   no_breach : length ds ≤ 400 → function_breach 0 (typed_main text t ds) variables ≡ None
   no_breach few = let light = function_light few in rw light refl

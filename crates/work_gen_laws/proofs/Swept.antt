@@ -7,7 +7,7 @@ use Rattle.base_laws.proofs.Numbers.{at_most}
 use Rattle.command_line.specs.Words.{Text}
 use Rattle.command_line.specs.Values.{are_digits, number_after, number_in}
 use Rattle.command_line.specs.Grammar.{IsJob}
-use Rattle.command_line.specs.Job.{JobGiven, SweepGiven, debug, compile, attach, passes, sweep, debug_of, compile_of, attach_of, passes_of, size_in, sweep_from, sweep_of, job_by, word_of}
+use Rattle.command_line.specs.Job.{JobGiven, SweepGiven, debug, compile, attach, passes, sweep, debug_of, compile_of, attach_of, passes_of, size_in, sweep_from, sweep_of, job_by, word_of_option}
 use Rattle.c_source.specs.Sources.{HasProgram}
 use Rattle.work_gen.specs.Generated.{text}
 use Rattle.work_gen_laws.proofs.Whole.{generated_has_program}
@@ -68,4 +68,4 @@ job_small name word given e = by (bytes_eq name (codes "debug")) (bytes_eq name 
 
 -- What a `sweep` of the command line generates is of a program.
 pub swept_has_program : (words : List Text) (given : SweepGiven) → IsJob words (sweep given) → HasProgram (text given.seed given.size)
-swept_has_program words given job = generated_has_program given.seed given.size (job_small job.name (word_of job.uses) given job.job_is)
+swept_has_program words given job = generated_has_program given.seed given.size (job_small job.name (word_of_option job.uses) given job.job_is)

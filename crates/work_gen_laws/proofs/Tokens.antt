@@ -2,8 +2,8 @@
 use Rattle.std.proofs.Common.{◌≡◌, ℕ, ◌*◌, ◌≤◌, List, [], ◌∷◌, ◌++◌, length, drop, Ok, refl, sym, ap, subst, arith, append_assoc, append-nil, length-append, length-drop}
 use Rattle.std.specs.Prelude.{codes}
 use Rattle.c_token.specs.declared.token.Header.TheVariants.{Stdio}
-use Rattle.c_token.specs.Includes.{start}
-use Rattle.c_token.specs.Items.{Token, behind}
+use Rattle.c_token.specs.Includes.{context_at_start}
+use Rattle.c_token.specs.Items.{Token, context_behind}
 use Rattle.c_token.specs.Lexemes.{Lexeme, Include}
 use Rattle.c_token.specs.Spells.{Takes, SpellsFrom, nothing, piece}
 use Rattle.c_token.specs.Texts.{tokens_of}
@@ -93,13 +93,13 @@ at_last text at fits none c =
     let here : length text ≡ at = omega (arith, length-drop at text, ap length none) in
     subst (λ (n : ℕ). SpellsFrom text n c []) here nothing
 
-spelled : (ds : List Drawn) → SpellsFrom (whole_text ds) 0 start (tokens_along (whole_text ds) 0 (whole_pieces ds))
+spelled : (ds : List Drawn) → SpellsFrom (whole_text ds) 0 context_at_start (tokens_along (whole_text ds) 0 (whole_pieces ds))
 spelled ds =
     let text = whole_text ds in
-    let takes : Takes text start 0 (Token (Include Stdio)) 18 = record { item = include_stands (rest_text ds); some = omega arith; there = omega arith } in
+    let takes : Takes text context_at_start 0 (Token (Include Stdio)) 18 = record { item = include_stands (rest_text ds); some = omega arith; there = omega arith } in
     let reads : Reads (10 ∷ rest_text ds) (feed ∷ rest_pieces ds) [] = (feed_alone (rest_text ds), rest_read ds) in
     let more : Goes text 18 (tokens_along text 18 (feed ∷ rest_pieces ds) ++ []) = along text (feed ∷ rest_pieces ds) 18 (10 ∷ rest_text ds) [] [] (omega arith) refl reads (at_last text _) in
-    piece takes (subst (λ (ts : List Lexeme). SpellsFrom text 18 (behind start (Token (Include Stdio))) ts) (append-nil (tokens_along text 18 (feed ∷ rest_pieces ds))) (more _))
+    piece takes (subst (λ (ts : List Lexeme). SpellsFrom text 18 (context_behind context_at_start (Token (Include Stdio))) ts) (append-nil (tokens_along text 18 (feed ∷ rest_pieces ds))) (more _))
 
 -- A program with at most 400 statements has these tokens.
 pub tokens_are : (ds : List Drawn) → length ds ≤ 400 → tokens_of (whole_text ds) ≡ Ok (tokens_along (whole_text ds) 0 (whole_pieces ds))

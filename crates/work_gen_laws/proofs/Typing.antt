@@ -17,7 +17,7 @@ use Rattle.c_type_expressions.specs.declared.names.Meaning.TheVariants.{Variable
 use Rattle.c_type_expressions.specs.Names.{Names, meaning_of}
 use Rattle.c_type_declarations.specs.Progress.{ProgressTree, Met, means, next_met, value_met}
 use Rattle.c_type_statements.specs.declared.setting.Setting.{Setting}
-use Rattle.c_type_statements.specs.Switches.{unlabeled, bare}
+use Rattle.c_type_statements.specs.Switches.{without_label, bare}
 use Rattle.c_type_statements.specs.Statements.{statement_met, statements_met}
 use Rattle.work_gen_laws.specs.Drawn.{Letter, A, B, C, D, byte, Operator, Plus, Times, ExclusiveOr, Side, Only, Operation, Drawn}
 use Rattle.work_gen_laws.specs.Pieces.{end_of, tokens_along, line_pieces}
@@ -66,7 +66,7 @@ pub record Declared (names : Names) : Type 0 where
   pub counter : meaning_of names (105 ∷ []) ≡ Some (Variable (Automatic 4) (object.Scalar int_scalar))
 
 pub line_met : (g : Setting) (ts : List Lexeme) (t : Letter) (s : Side) (p : ProgressTree) → Declared p.names → statement_met g (assigned_tree ts t s) p ≡ means (typed_line ts t s) p
-unfolding unlabeled bare next_met value_met to_integer arithmetic_value
+unfolding without_label bare next_met value_met to_integer arithmetic_value
 line_met g ts t (Only l) p h =
     let target = h.letters t in
     let left = h.letters l in

@@ -1,6 +1,6 @@
 -- The statements of a generated program, by what each of them assigns.
 use Rattle.std.specs.Prelude.{ℕ, zero, suc, ◌/◌, ◌%◌, List, [], ◌∷◌, ◌++◌}
-use Rattle.work_gen.specs.Generated.{next, head, tail}
+use Rattle.work_gen.specs.Generated.{next_state, head, tail}
 
 -- one of the variables a, b, c and d
 pub data Letter : Type 0 where
@@ -72,9 +72,10 @@ side_of (suc (suc (suc n))) l m = Operation ExclusiveOr l m
 
 -- the statement that a number draws
 abbrev pub drawn : ℕ → Drawn
-drawn r = record { target = letter_of (r % 4); side = side_of (r / 64 % 4) (letter_of (r / 4 % 4)) (letter_of (r / 16 % 4)) }
+drawn r =
+    record { target = letter_of (r % 4); side = side_of (r / 64 % 4) (letter_of (r / 4 % 4)) (letter_of (r / 16 % 4)) }
 
 -- so many statements from a state on
 abbrev pub drawn_all : (count x : ℕ) → List Drawn
 drawn_all zero x = []
-drawn_all (suc count) x = drawn (next x / 65536) ∷ drawn_all count (next x)
+drawn_all (suc count) x = drawn (next_state x / 65536) ∷ drawn_all count (next_state x)

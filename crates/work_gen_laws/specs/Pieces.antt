@@ -113,13 +113,16 @@ include_line = (Token (Include Stdio), 18) ∷ feed ∷ []
 
 -- `int main(void){`
 abbrev pub main_line : List Sized
-main_line = int ∷ space ∷ named (codes "main") 4 ∷ opens ∷ (Token (Keyword keyword.Void), 4) ∷ closes ∷ begins ∷ feed ∷ []
+main_line =
+    int ∷ space ∷ named (codes "main") 4 ∷ opens ∷ (Token (Keyword keyword.Void), 4) ∷ closes ∷ begins ∷ feed ∷ []
 
 -- `unsigned a=1u,b=2u,c=3u,d=4u;`
 abbrev pub variables_line : List Sized
 variables_line =
-    (Token (Keyword keyword.Unsigned), 8) ∷ space ∷ variable 97 ∷ equal ∷ unsigned_number 1 2 ∷ comma ∷ variable 98 ∷ equal ∷ unsigned_number 2 2
-    ∷ comma ∷ variable 99 ∷ equal ∷ unsigned_number 3 2 ∷ comma ∷ variable 100 ∷ equal ∷ unsigned_number 4 2 ∷ semicolon ∷ feed ∷ []
+    (Token (Keyword keyword.Unsigned), 8) ∷ space ∷ variable 97 ∷ equal ∷ unsigned_number 1 2 ∷ comma ∷ variable 98
+    ∷ equal ∷ unsigned_number 2 2
+    ∷ comma ∷ variable 99 ∷ equal ∷ unsigned_number 3 2 ∷ comma ∷ variable 100 ∷ equal ∷ unsigned_number 4 2 ∷ semicolon
+    ∷ feed ∷ []
 
 -- `int i=0;`
 abbrev pub counter_line : List Sized
@@ -128,7 +131,8 @@ counter_line = int ∷ space ∷ variable 105 ∷ equal ∷ number 0 1 ∷ semic
 -- `while(i<2){`
 abbrev pub loop_line : List Sized
 loop_line =
-    (Token (Keyword keyword.While), 5) ∷ opens ∷ variable 105 ∷ (Token (Punctuator mark.Less), 1) ∷ number 2 1 ∷ closes ∷ begins ∷ feed ∷ []
+    (Token (Keyword keyword.While), 5) ∷ opens ∷ variable 105 ∷ (Token (Punctuator mark.Less), 1) ∷ number 2 1 ∷ closes
+    ∷ begins ∷ feed ∷ []
 
 -- `i=i+1;`
 abbrev pub step_line : List Sized
@@ -141,8 +145,10 @@ end_line = ends ∷ feed ∷ []
 -- `putchar(65+(int)((a+b+c+d)%26u));`
 abbrev pub output_line : List Sized
 output_line =
-    named (codes "putchar") 7 ∷ opens ∷ number 65 2 ∷ plus ∷ opens ∷ int ∷ closes ∷ opens ∷ opens ∷ variable 97 ∷ plus ∷ variable 98 ∷ plus ∷ variable 99
-    ∷ plus ∷ variable 100 ∷ closes ∷ (Token (Punctuator mark.Percent), 1) ∷ unsigned_number 26 3 ∷ closes ∷ closes ∷ semicolon ∷ feed ∷ []
+    named (codes "putchar") 7 ∷ opens ∷ number 65 2 ∷ plus ∷ opens ∷ int ∷ closes ∷ opens ∷ opens ∷ variable 97 ∷ plus
+    ∷ variable 98 ∷ plus ∷ variable 99
+    ∷ plus ∷ variable 100 ∷ closes ∷ (Token (Punctuator mark.Percent), 1) ∷ unsigned_number 26 3 ∷ closes ∷ closes
+    ∷ semicolon ∷ feed ∷ []
 
 -- `return 0;`
 abbrev pub return_line : List Sized

@@ -8,7 +8,7 @@ use Rattle.c_meaning_steps.specs.declared.state.Outcome.TheVariants as outcome
 use Rattle.c_meaning.specs.Views.{begins, executes, round_of, round_view}
 use Rattle.c_meaning_values.specs.Views.{object_view}
 use Rattle.c_meaning_steps.specs.Views.{outcome_view, state_view}
-use Rattle.c_meaning.specs.Lifetimes.{closed}
+use Rattle.c_meaning.specs.Lifetimes.{lifetimes_ended}
 use Rattle.c_meaning.specs.Statements.{loop, rounds, then_do}
 use Rattle.c_meaning_eval.proofs.Rounds.{goes_on, leaves, rounds_step, weighs_less}
 use Rattle.c_meaning_eval.proofs.+run.Goals as goal
@@ -54,9 +54,9 @@ statements::execute-returns-after-value-3 t c =
     ] in
     let count : vec_len c.args.state.now.memory.all ≡ length c.args.state.now.memory.all.items = omega arith in
     let first : c.len-first-in-For.result ≡ length s.memory = c.len-first-in-For.ensures ∙ count ∙ sym (length-map c.args.state.now.memory.all.items object_view) in
-    let ended : outcome_view c.match-value-3.outcome (state_view c.close-in-For.new.state) ≡ closed c.len-first-in-For.result (outcome_view c.match-value-3.outcome (state_view c.match-value-3.state)) = c.close-in-For.ensures in
-    ended ∙ ap (closed c.len-first-in-For.result) inner ∙ ap (λ n. closed n (then_do (begins c.args.here.now (start_view c.in-For.start) s) go)) first
-    ∙ ap (λ (a : TypedStatement). closed (length s.memory) (then_do (begins c.args.here.now (start_view c.in-For.start) s) (loop (round_of c.args.here.now (statement_view a))))) c.in-For.is
+    let ended : outcome_view c.match-value-3.outcome (state_view c.close-in-For.new.state) ≡ lifetimes_ended c.len-first-in-For.result (outcome_view c.match-value-3.outcome (state_view c.match-value-3.state)) = c.close-in-For.ensures in
+    ended ∙ ap (lifetimes_ended c.len-first-in-For.result) inner ∙ ap (λ n. lifetimes_ended n (then_do (begins c.args.here.now (start_view c.in-For.start) s) go)) first
+    ∙ ap (λ (a : TypedStatement). lifetimes_ended (length s.memory) (then_do (begins c.args.here.now (start_view c.in-For.start) s) (loop (round_of c.args.here.now (statement_view a))))) c.in-For.is
     ∙ sym (ap (λ (a : TypedStatement). executes c.args.here.now (statement_view a) s) c.in-For.is)
 
 pub statements::execute_loop-loop-rest-preserved : goal.statements::execute_loop-loop-rest-preserved

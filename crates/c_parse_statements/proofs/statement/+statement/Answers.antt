@@ -4,7 +4,7 @@ use Rattle.std.proofs.lemmas.List.{map_push}
 use Rattle.c_token.specs.Lexemes.{lexemes}
 use Rattle.c_tree.specs.Statements.{statement_view, branch_view}
 use Rattle.c_parse_tokens.specs.declared.mark.Mark.TheVariants as mark
-use Rattle.c_parse_tokens.specs.Front.{behind, is_at, spot_at}
+use Rattle.c_parse_tokens.specs.Front.{tokens_behind, is_at, spot_at}
 use Rattle.c_parse_expressions.specs.Expressions.{nesting}
 use Rattle.c_parse_statements.specs.Statements.{statements, block, if_statement}
 use Rattle.c_parse_tokens.proofs.Tokens.{length_lexemes}
@@ -16,7 +16,7 @@ pub block-loop-behind-preserved : goal.block-loop-behind-preserved
 block-loop-behind-preserved t c =
     let pushed : map statement_view c.push.new.list.items ≡ map statement_view c.loop-behind.statements.items ++ statement_view c.in_ok-next.next.value ∷ [] =
     rw c.in_ok-push.ensures.items (map_push statement_view c.loop-behind.statements.items c.in_ok-next.next.value) in
-    let open_still : behind mark.CloseBrace (lexemes c.loop-behind.rest.now) ≡ None = sym c.in_default.ensures.reads in
+    let open_still : tokens_behind mark.CloseBrace (lexemes c.loop-behind.rest.now) ≡ None = sym c.in_default.ensures.reads in
     record {
       shorter = omega (arith, c.in_ok-next.ensures.shorter, c.loop-behind.invariant.shorter);
       same = rw pushed (block_goes_on c.loop-behind.invariant.same.0 (length c.loop-behind.rest.now) (length c.in_ok-next.behind.now) (statements c.args.depth) c.args.may_declare (spot_at (lexemes c.args.tokens.now)) (map statement_view c.loop-behind.statements.items) (statement_view c.in_ok-next.next.value) (lexemes c.loop-behind.rest.now) (lexemes c.in_ok-next.behind.now) (block (statements c.args.depth) c.args.may_declare (lexemes c.args.tokens.now)) c.in_ok-next.ensures.shorter c.loop-behind.invariant.same.1 open_still c.in_ok-next.ensures.reads c.loop-behind.invariant.same.2);

@@ -2,7 +2,7 @@ use Rattle.std.proofs.Common.{◌≡◌, ◌-◌, false, length, arith, string_b
 use Rattle.std.proofs.lemmas.List.{length-map}
 use Rattle.c_tree.specs.Declarations.{parameter_view}
 use Rattle.c_tree.specs.Programs.{automatic_view}
-use Rattle.c_tree.specs.Statements.{block_view, chain}
+use Rattle.c_tree.specs.Statements.{block_view, chain_of_statements}
 use Rattle.c_tree.specs.Trees.{function_view}
 use Rattle.c_tree.specs.TypedStatements.{statements_view}
 use Rattle.c_type_declarations.specs.Progress.{means, opened, progress_view}
@@ -23,8 +23,8 @@ returns c = λ g same.
     let result : c.result_type-result.result ≡ g.result = c.result_type-result.ensures ∙ sym same in
     let setting : Setting = record { result = c.result_type-result.result; may_break = false; may_continue = false } in
     let set : setting ≡ setting_of g = ap (λ r. record { result = r; may_break = false; may_continue = false }) result in
-    let body : means (statements_view c.in_ok-body.body) q ≡ statements_met setting (chain b.statements) (progress_view c.declare_parameters.new.progress) =
-    (rw c.deref-3.ensures.value at c.in_ok-body.ensures) ∙ ap (λ t. statements_met setting (chain t.statements) (progress_view c.declare_parameters.new.progress)) (sym (block_out c.args.block.now)) in
+    let body : means (statements_view c.in_ok-body.body) q ≡ statements_met setting (chain_of_statements b.statements) (progress_view c.declare_parameters.new.progress) =
+    (rw c.deref-3.ensures.value at c.in_ok-body.ensures) ∙ ap (λ t. statements_met setting (chain_of_statements t.statements) (progress_view c.declare_parameters.new.progress)) (sym (block_out c.args.block.now)) in
     let last : c.len-3.result ≡ length c.close.new.self.automatics.items = omega (arith, c.len-3.ensures) in
     let before : c.len.result ≡ length c.args.progress.now.automatics.items = omega (arith, c.len.ensures) in
     let given : c.len-2.result ≡ length c.args.f.now.parameters.items = omega (arith, c.len-2.ensures) in
@@ -41,4 +41,4 @@ returns c = λ g same.
     (ap (λ t. t.closing) (sym (block_out c.args.block.now)))
     (rw c.deref-4.ensures.value at c.definition_weight.ensures)
     c.close.ensures
-    (body ∙ ap (λ s. statements_met s (chain b.statements) (progress_view c.declare_parameters.new.progress)) set ∙ ap (statements_met (setting_of g) (chain b.statements)) started)
+    (body ∙ ap (λ s. statements_met s (chain_of_statements b.statements) (progress_view c.declare_parameters.new.progress)) set ∙ ap (statements_met (setting_of g) (chain_of_statements b.statements)) started)

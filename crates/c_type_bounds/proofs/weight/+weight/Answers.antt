@@ -1,7 +1,7 @@
 use Rattle.std.proofs.Common.{ap, arith, sym, take, ◌∙◌}
 use Rattle.std.specs.Prelude.{fold, map}
 use Rattle.c_tree.specs.Expressions.{expression_view, suffix_view, suffixed}
-use Rattle.c_type_bounds.specs.Weights.{is_name, weight_of}
+use Rattle.c_type_bounds.specs.Weights.{is_name_expression, weight_of}
 use Rattle.c_type_bounds.specs.Counts.{capped}
 use Rattle.c_type_bounds.proofs.Names.{suffixed_name}
 use Rattle.c_type_bounds.proofs.Sums.{sum_whole}
@@ -18,5 +18,5 @@ suffixes_weight-loop-suffix-preserved t c = λ e operand name.
     let more = suffix_more e c.args.suffixes.now c.loop-suffix.suffix-index c.suffix-item.result c.suffix-item.is c.loop-suffix-test.true in
     let so_far = fold suffixed e (map suffix_view (take c.loop-suffix.suffix-index c.args.suffixes.now)) in (
       c.suffix_weight-total.ensures so_far before.0 before.1 ∙ ap (λ x. capped (weight_of x)) (sym more),
-      sym (ap is_name more ∙ suffixed_name so_far (suffix_view c.suffix-item.result)),
+      sym (ap is_name_expression more ∙ suffixed_name so_far (suffix_view c.suffix-item.result)),
     )

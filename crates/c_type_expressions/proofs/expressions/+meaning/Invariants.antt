@@ -1,7 +1,7 @@
 use Rattle.std.proofs.Common.{◌≡◌, drop}
 use Rattle.std.specs.Prelude.{map}
 use Rattle.std.specs.Option.{option_map}
-use Rattle.c_tree.specs.Expressions.{chain, expression_view, suffix_view}
+use Rattle.c_tree.specs.Expressions.{chain_of_arguments, expression_view, suffix_view}
 use Rattle.c_type_values.specs.Values.{meant_view, node_view}
 use Rattle.c_type_expressions.specs.Chains.{commas_met, operation_view, operations_met, suffixes_met}
 use Rattle.c_type_expressions.specs.Expressions.{typed_all}
@@ -27,5 +27,5 @@ invariant-commas-loop-e l =
 
 abbrev pub invariant-passed-loop-at : goal.invariant-passed-loop-at
 invariant-passed-loop-at l =
-    with_passed (map node_view l.trees.items) l.fit (typed_all (names_view l.names) (chain (map expression_view (drop l.at l.arguments))) l.parameters l.at (findings_view l.found))
-    ≡ typed_all (names_view l.names) (chain (map expression_view l.arguments)) l.parameters 0 (findings_view l.fn.found)
+    with_passed (map node_view l.trees.items) l.fit (typed_all (names_view l.names) (chain_of_arguments (map expression_view (drop l.at l.arguments))) l.parameters l.at (findings_view l.found))
+    ≡ typed_all (names_view l.names) (chain_of_arguments (map expression_view l.arguments)) l.parameters 0 (findings_view l.fn.found)

@@ -6,7 +6,7 @@ use Rattle.c_tree.specs.declared.statement.Statement.{Statement}
 use Rattle.c_tree.specs.declared.typed_statement.TypedStatement.{TypedStatement}
 use Rattle.c_tree.specs.Expressions.{expression_view}
 use Rattle.c_tree.specs.Declarations.{declaration_view}
-use Rattle.c_tree.specs.Statements.{branch_view, chain, label_view, start_view, statement_view}
+use Rattle.c_tree.specs.Statements.{branch_view, chain_of_statements, label_view, start_view, statement_view}
 use Rattle.c_tree.specs.TypedStatements.{TypedStatementTree, TypedStatementTrees, declared_view, statements_view}
 use Rattle.c_tree.specs.TypedStatements as typed-tree
 use Rattle.c_type_declarations.specs.Progress.{means, progress_view}
@@ -58,7 +58,7 @@ pub items-loop-one-preserved : goal.items-loop-one-preserved
 items-loop-one-preserved t c =
     let xs = c.args.all.now in
     let i = c.loop-one.one-index in
-    sym (items_step c.args.setting c.args.kind (statement_view c.one-item.result) (chain (map statement_view (drop (i + 1) xs))) (map part_view c.loop-one.parts.items) (map part_view c.item.new.parts.items) (labels_view c.loop-one.labels) (labels_view c.item.new.labels) (progress_view c.loop-one.progress) (progress_view c.item.new.progress) c.in_ok-item.ensures)
+    sym (items_step c.args.setting c.args.kind (statement_view c.one-item.result) (chain_of_statements (map statement_view (drop (i + 1) xs))) (map part_view c.loop-one.parts.items) (map part_view c.item.new.parts.items) (labels_view c.loop-one.labels) (labels_view c.item.new.labels) (progress_view c.loop-one.progress) (progress_view c.item.new.progress) c.in_ok-item.ensures)
     ∙ (rw (chain_item xs i c.one-item.result c.loop-one-test.true c.one-item.is) at c.loop-one.invariant)
 
 pub items-returns : goal.items-returns
@@ -72,7 +72,7 @@ statements-loop-one-preserved t c =
     let xs = c.args.all.now in
     let i = c.loop-one.one-index in
     rw (c.in_ok-push.ensures.items, map-append part_view c.loop-one.parts.items (part.Statement c.in_ok-made.made ∷ []))
-    (sym (statements_step c.args.setting (statement_view c.one-item.result) (chain (map statement_view (drop (i + 1) xs))) (map part_view c.loop-one.parts.items) (typed-tree.statement_view c.in_ok-made.made.value) (progress_view c.loop-one.progress) (progress_view c.statement.new.progress) c.in_ok-made.ensures)
+    (sym (statements_step c.args.setting (statement_view c.one-item.result) (chain_of_statements (map statement_view (drop (i + 1) xs))) (map part_view c.loop-one.parts.items) (typed-tree.statement_view c.in_ok-made.made.value) (progress_view c.loop-one.progress) (progress_view c.statement.new.progress) c.in_ok-made.ensures)
     ∙ (rw (chain_item xs i c.one-item.result c.loop-one-test.true c.one-item.is) at c.loop-one.invariant))
 
 pub statements-returns : goal.statements-returns
@@ -86,7 +86,7 @@ statement-returns-in_ok-all-in-Block t c =
     let b = c.in-Block.block in
     rw (c.in-Block.is, compound_view b)
     (IfOk-weaker c.block_of.result _ _
-    (λ r h. rw h (block_arm c.args.setting b.opening (chain (map statement_view b.statements.items)) b.closing (statements_view c.in_ok-all-in-Block.all) (progress_view c.args.progress.now) (progress_view c.block_in_scope.new.progress) (rw c.deref.ensures.value at c.in_ok-all-in-Block.ensures)))
+    (λ r h. rw h (block_arm c.args.setting b.opening (chain_of_statements (map statement_view b.statements.items)) b.closing (statements_view c.in_ok-all-in-Block.all) (progress_view c.args.progress.now) (progress_view c.block_in_scope.new.progress) (rw c.deref.ensures.value at c.in_ok-all-in-Block.ensures)))
     c.block_of.ensures)
 
 pub statement-returns-in-Declaration : goal.statement-returns-in-Declaration
@@ -149,7 +149,7 @@ pub statement-returns-in-Switch : goal.statement-returns-in-Switch
 statement-returns-in-Switch t c =
     let b = c.in-Switch.body in
     rw (c.in-Switch.is, switch_view c.in-Switch.spot c.in-Switch.value b)
-    (IfOk-weaker c.switch.result _ _ (λ r h. h ∙ switch_arm c.args.setting c.in-Switch.spot (expression_view c.in-Switch.value) b.opening (chain (map statement_view b.statements.items)) b.closing (progress_view c.args.progress.now)) c.switch.ensures)
+    (IfOk-weaker c.switch.result _ _ (λ r h. h ∙ switch_arm c.args.setting c.in-Switch.spot (expression_view c.in-Switch.value) b.opening (chain_of_statements (map statement_view b.statements.items)) b.closing (progress_view c.args.progress.now)) c.switch.ensures)
 
 pub statement-returns-in_ok-misplaced-in-Labeled : goal.statement-returns-in_ok-misplaced-in-Labeled
 statement-returns-in_ok-misplaced-in-Labeled t c =

@@ -13,15 +13,15 @@ use Rattle.clap.specs.declared.parser.matches.Found.{Found}
 use Rattle.clap.proofs.WalkLemmas.{first_value-rows}
 use Rattle.command_line.specs.Words.{Use}
 use Rattle.command_line.specs.Commands.{HasReading, row}
-use Rattle.command_line.specs.Job.{job_by, job_in, read_job, word_of}
+use Rattle.command_line.specs.Job.{job_by, job_in, read_job, word_of_option}
 use Rattle.command_line.proofs.reading.job_read.Goals as goal
 
 -- the words that `clap` found
-first_used : (id : Text) (us : List Use) → first_of id (map row us) ≡ word_of us id
+first_used : (id : Text) (us : List Use) → first_of id (map row us) ≡ word_of_option us id
 first_used id [] = refl
 first_used id (u ∷ us) = go (bytes_eq u.0 id) refl (first_used id us)
   where
-    go : (b : Bool) → bytes_eq u.0 id ≡ b → first_of id (map row us) ≡ word_of us id → first_of id (map row (u ∷ us)) ≡ word_of (u ∷ us) id
+    go : (b : Bool) → bytes_eq u.0 id ≡ b → first_of id (map row us) ≡ word_of_option us id → first_of id (map row (u ∷ us)) ≡ word_of_option (u ∷ us) id
     go true e rest = rw e refl
     go false e rest = rw e rest
 
@@ -38,7 +38,7 @@ job_found words m name f h named found =
     let same : name ≡ p.0 = cc in
     let r : Some (rows_of f) ≡ Some (map row p.1) = found ∙ ap (option_map (λ q. q.1)) h.2 in
     let rows : rows_of f ≡ map row p.1 = cc in
-    let each : (id : Text) → first_value f id ≡ word_of p.1 id = λ id. first_value-rows f id ∙ ap (first_of id) rows ∙ first_used id p.1 in
+    let each : (id : Text) → first_value f id ≡ word_of_option p.1 id = λ id. first_value-rows f id ∙ ap (first_of id) rows ∙ first_used id p.1 in
     ap (λ t. job_by t (first_value f)) same ∙ ap (job_by p.0) (λ i id. each id i) ∙ ap (option_and_then read_job) (sym h.1)
 
 pub returns-in-Some-subcommand : goal.returns-in-Some-subcommand

@@ -1,6 +1,6 @@
 use Rattle.std.proofs.Common.{◌≡◌, ◌+◌, ◌∙◌, length, map, ap, arith, vec_len}
 use Rattle.graph_core.specs.Graphs.{block_view}
-use Rattle.image_build_tables.specs.Variables.{counted}
+use Rattle.image_build_tables.specs.Variables.{bounded_count}
 use Rattle.image_build_tables.proofs.Ahead.{whole}
 use Rattle.image_build_tables.specs.Rows.{firsts_from}
 use Rattle.image_build_tables.proofs.Counting.{before_step, block_length, counted_sum}
@@ -15,6 +15,6 @@ loop-left-preserved c =
     let m = length (block_view b).instructions in
     let all : vec_len b.instructions ≡ length b.instructions.items = omega arith in (
       sum + m,
-      counted_sum c.saturating_add-count.result sum c.number_of.result l.count m c.saturating_add-count.ensures l.invariant.1 (c.number_of.ensures ∙ ap counted (c.len.ensures ∙ all ∙ block_length b)),
+      counted_sum c.saturating_add-count.result sum c.number_of.result l.count m c.saturating_add-count.ensures l.invariant.1 (c.number_of.ensures ∙ ap bounded_count (c.len.ensures ∙ all ∙ block_length b)),
       before_step l.left.now b l.counts.items c.push.new.self.items (firsts_from 0 (map block_view c.args.blocks.now)) l.count sum whole_left c.in_ok-push.ensures.items l.invariant.1 l.invariant.2,
     )

@@ -6,7 +6,7 @@ use Rattle.image_form.specs.declared.recipes.Node.{Node}
 use Rattle.image_form.specs.declared.verdicts.VisibleRow.{VisibleRow}
 use Rattle.image_build_tables.specs.Nodes.{AreEarlier, AreOnce, Begin}
 use Rattle.image_build_tables.specs.Rows.{AreNodesOf, AreRowsOf, AreShown, size_told, telling_view}
-use Rattle.image_build_tables.specs.Tables.{sight, sight_of_verdict}
+use Rattle.image_build_tables.specs.Tables.{pair_of_row, sight_of_verdict}
 use Rattle.image_build_tables.proofs.rows.rows_of.Given as goal
 
 -- what is ahead, told by rows, tells all with those that are there, however the nodes grow
@@ -18,7 +18,7 @@ invariant-loop-left l = record {
   earlier : length l.nodes.nodes.items < 2 ^ 32 → AreEarlier l.nodes.nodes.items;
   few : length l.nodes.nodes.items + total (λ (w : PlaceVerdict). size_told w.verdict) l.left ≤ total (λ (w : PlaceVerdict). size_told w.verdict) l.verdicts;
   bare : AreShown l.verdicts → l.nodes.nodes.items ≡ [];
-  sights : map sight l.rows.items ++ map sight_of_verdict l.left ≡ map sight_of_verdict l.verdicts;
+  sights : map pair_of_row l.rows.items ++ map sight_of_verdict l.left ≡ map sight_of_verdict l.verdicts;
   rows : (all : List Node) → Begin l.nodes.nodes.items all → length all < 2 ^ 32 → (more : List VisibleRow) → AreRowsOf (telling_view l.telling) all l.left more
       → AreRowsOf (telling_view l.telling) all l.verdicts (l.rows.items ++ more);
 }

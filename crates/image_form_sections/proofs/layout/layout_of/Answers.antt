@@ -4,7 +4,7 @@ use Rattle.image_form_sections.specs.declared.section.Section.TheVariants.{Initi
 use Rattle.image_form_sections.specs.declared.table.Table.{Table}
 use Rattle.image_form_sections.specs.Layouts.{rows_in}
 use Rattle.image_form_sections.specs.Versions.{level_of}
-use Rattle.image_form_sections.specs.Order.{record_size, start}
+use Rattle.image_form_sections.specs.Order.{record_size, section_start}
 use Rattle.image_form_sections.specs.Sections.{count_told, version_told}
 use Rattle.image_form_sections.proofs.Inside.{told_few, told_long, told_inside}
 use Rattle.image_form_sections.proofs.RowLaws.{length-rows_at}
@@ -23,14 +23,14 @@ number_at-version-requires c = let bytes = c.args.bytes.now in omega (arith, tol
 pub slice_bounds-result-end : goal.slice_bounds-result-end
 slice_bounds-result-end c =
     let bytes = c.args.bytes.now in
-    let left = length-drop (start (version_told bytes).level (count_told bytes) Initial) bytes in
+    let left = length-drop (section_start (version_told bytes).level (count_told bytes) Initial) bytes in
     let inside : c.count-initial.result ≤ length c.bytes_from.result.now = rw (c.count-initial.ensures, c.bytes_from.ensures) (omega (arith, left, told_inside bytes Initial c.requires)) in
     sym (length-take-le c.count-initial.result c.bytes_from.result.now inside)
 
 pub returns-clause-small : goal.returns-clause-small
 returns-clause-small c =
     let bytes = c.args.bytes.now in
-    let left = length-drop (start (version_told bytes).level (count_told bytes) Initial) bytes in
+    let left = length-drop (section_start (version_told bytes).level (count_told bytes) Initial) bytes in
     let inside : c.count-initial.result ≤ length c.bytes_from.result.now = rw (c.count-initial.ensures, c.bytes_from.ensures) (omega (arith, left, told_inside bytes Initial c.requires)) in
     let level = level_of c.number_at-version.result in
     let functions = c.rows_of-2.result in

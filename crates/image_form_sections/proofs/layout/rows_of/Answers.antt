@@ -1,5 +1,5 @@
 use Rattle.std.proofs.Common.{arith, length-drop}
-use Rattle.image_form_sections.specs.Order.{start}
+use Rattle.image_form_sections.specs.Order.{section_start}
 use Rattle.image_form_sections.specs.Sections.{count_told, version_told}
 use Rattle.image_form_sections.proofs.Inside.{told_long, told_few, told_inside}
 use Rattle.image_form_sections.proofs.SectionLaws.{numbers_inside}
@@ -16,5 +16,5 @@ new-requires-clause-inside c =
     let bytes = c.args.bytes.now in
     let section = c.args.section in
     let level = (version_told bytes).level in
-    let left = length-drop (start level (count_told bytes) section) bytes in
+    let left = length-drop (section_start level (count_told bytes) section) bytes in
     rw (c.record_size-width.ensures.size, c.level.ensures, c.count.ensures, c.bytes_from.ensures) (omega (arith, left, numbers_inside level section (count_told bytes section), told_inside bytes section c.requires))

@@ -1,5 +1,5 @@
 use Rattle.std.proofs.Common.{◌≡◌, ◌<◌, ◌≤◌, suc, ◌-◌, sym, subst, arith, vec_capacity}
-use Rattle.rv_machine.specs.Run.{run}
+use Rattle.rv_machine.specs.Run.{machine_run}
 use Rattle.stop_engine.specs.declared.course.TheConstants.{ROOM}
 use Rattle.stop_engine.specs.Marking.{aim_of}
 use Rattle.stop_engine.specs.Passing.{PassesBy}
@@ -16,8 +16,8 @@ returns-in-Some-clause-passes c = λ events p.
     let aim = aim_of c.args.aim.now in
     let stops = stop_addresses m in
     let some : c.loop-left.left ≡ suc (c.loop-left.left - 1) = omega arith in
-    let here = subst (λ n. PassesBy m aim events c.loop-left.output.items (run stops n c.loop-left.machine)) some (c.loop-left.invariant.1 events p) in
-    let roomy = subst (λ o. PassesBy m aim events o (run stops (suc (c.loop-left.left - 1)) c.loop-left.machine)) (sym c.make_room.ensures.items) here in
+    let here = subst (λ n. PassesBy m aim events c.loop-left.output.items (machine_run stops n c.loop-left.machine)) some (c.loop-left.invariant.1 events p) in
+    let roomy = subst (λ o. PassesBy m aim events o (machine_run stops (suc (c.loop-left.left - 1)) c.loop-left.machine)) (sym c.make_room.ensures.items) here in
     c.in-Some.ensures.passes events (c.loop-left.left - 1) roomy
 
 pub returns-in-Some-clause-executed : goal.returns-in-Some-clause-executed
@@ -37,8 +37,8 @@ loop-left-preserved c =
     let same : vec_capacity c.carry_out.new.output ≡ vec_capacity c.make_room.new.output = c.carry_out.ensures.room in (
       omega (arith, before, kept, same),
       λ events p.
-          let here = subst (λ n. PassesBy m aim events c.loop-left.output.items (run stops n c.loop-left.machine)) some (c.loop-left.invariant.1 events p) in
-          let roomy = subst (λ o. PassesBy m aim events o (run stops (suc (c.loop-left.left - 1)) c.loop-left.machine)) (sym c.make_room.ensures.items) here in
+          let here = subst (λ n. PassesBy m aim events c.loop-left.output.items (machine_run stops n c.loop-left.machine)) some (c.loop-left.invariant.1 events p) in
+          let roomy = subst (λ o. PassesBy m aim events o (machine_run stops (suc (c.loop-left.left - 1)) c.loop-left.machine)) (sym c.make_room.ensures.items) here in
           c.in-None.ensures.passes events (c.loop-left.left - 1) roomy,
       executes-then c.args.left.now c.loop-left.left (c.loop-left.left - 1) c.args.machine.now c.loop-left.machine c.carry_out.new.machine c.loop-left.invariant.2
           (executes-one c.loop-left.left c.loop-left.machine c.carry_out.new.machine (omega arith) c.carry_out.ensures.moved),

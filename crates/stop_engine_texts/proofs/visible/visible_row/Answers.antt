@@ -3,7 +3,7 @@ use Rattle.std.specs.Prelude.{bytes_eq}
 use Rattle.image_form.specs.Views.{viewed}
 use Rattle.image_form.specs.declared.verdicts.VisibleRow.{VisibleRow}
 use Rattle.stop_engine_texts.specs.Rows.{IsRow}
-use Rattle.stop_engine_texts.specs.Shown.{row_of}
+use Rattle.stop_engine_texts.specs.Shown.{first_row_of}
 use Rattle.stop_engine_texts.proofs.FirstRow.{row_of_place}
 use Rattle.stop_engine_texts.proofs.PlaceRows.{holds_at, row_behind, row_here, row_none}
 use Rattle.stop_engine_texts.proofs.visible.visible_row.Goals as goal
@@ -11,7 +11,7 @@ use Rattle.stop_engine_texts.proofs.visible.visible_row.Goals as goal
 pub loop-number-init : goal.loop-number-init
 loop-number-init c =
     let m = viewed c.args.image.now in
-    ap (row_of m c.args.place c.args.name.now) c.rows_at-start.ensures.rows ∙ row_of_place m c.args.place c.args.name.now m.rows
+    ap (first_row_of m c.args.place c.args.name.now) c.rows_at-start.ensures.rows ∙ row_of_place m c.args.place c.args.name.now m.rows
 
 pub row_at-row-requires : goal.row_at-row-requires
 row_at-row-requires c = omega (arith, c.loop-number-test.true, c.rows_at-start.ensures.within)

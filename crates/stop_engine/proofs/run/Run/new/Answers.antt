@@ -1,7 +1,7 @@
 use Rattle.std.proofs.Common.{◌≡◌, List, ℕ, ap, ◌∙◌, refl}
 use Rattle.image_form.specs.Form.{Form}
 use Rattle.image_form.specs.Views.{viewed}
-use Rattle.rv_machine.specs.State.{State}
+use Rattle.rv_machine.specs.State.{MachineState}
 use Rattle.rv_machine.specs.Table.{started}
 use Rattle.stop_engine.specs.EngineState.{run_state}
 use Rattle.stop_engine.specs.declared.halt.Standing.TheVariants.{Fresh}
@@ -22,12 +22,12 @@ pub returns : goal.returns
 returns c =
     let m = viewed c.args.image.now in
     let limit = c.args.limit in
-    let start : State = started m.version.map m.code m.initial c.args.input.now in
+    let start : MachineState = started m.version.map m.code m.initial c.args.input.now in
     let words = words-back m.code c.requires.fits.code in
     let machine : c.in_ok-load.field-0 ≡ start =
     c.in_ok-load.ensures
     ∙ (rw (c.version-regions.ensures, c.code_bytes.ensures, c.initial.ensures, words) refl) in
     let output = c.new-2.result.items in
     ap (λ (f : Form). run_state f limit limit Fresh c.in_ok-load.field-0 output) c.in_ok-new.ensures
-    ∙ ap (λ (s : State). run_state m limit limit Fresh s output) machine
+    ∙ ap (λ (s : MachineState). run_state m limit limit Fresh s output) machine
     ∙ ap (λ (l : List ℕ). run_state m limit limit Fresh start l) c.new-2.ensures.items

@@ -1,5 +1,5 @@
 use Rattle.std.proofs.Common.{refl, ◌∙◌}
-use Rattle.rv_machine.specs.Run.{run}
+use Rattle.rv_machine.specs.Run.{machine_run}
 use Rattle.stop_engine.specs.Marking.{aim_of}
 use Rattle.stop_engine_view.specs.Run.{stop_addresses}
 use Rattle.stop_engine.proofs.Executions.{executes-none}
@@ -17,7 +17,7 @@ returns-in_err-halt-clause-wanting c =
     let r = c.self.inside in
     let aim = aim_of c.args.stops.now in
     let output = c.reserve.ensures.items ∙ c.forget_answered.ensures in
-    let start = passes-unanswered r.table aim r.standing r.output.items c.reserve.new.self.items (run (stop_addresses r.table) r.left r.machine) (cc) output in
+    let start = passes-unanswered r.table aim r.standing r.output.items c.reserve.new.self.items (machine_run (stop_addresses r.table) r.left r.machine) (cc) output in
     on_err-always c.from_residual-in_err-halt.result _ (rw (← c.self.view_is) (wants-on_its_way r.table aim r.limit r.left c.run_on.new.left r.standing r.machine c.run_on.new.machine r.output.items c.run_on.new.output.items (c.in_err-halt.ensures.kept _ start) c.in_err-halt.ensures.full))
 
 pub returns-clause-ran : goal.returns-clause-ran
@@ -25,11 +25,11 @@ returns-clause-ran c =
     let r = c.self.inside in
     let aim = aim_of c.args.stops.now in
     let output = c.reserve.ensures.items ∙ c.forget_answered.ensures in
-    let start = passes-unanswered r.table aim r.standing r.output.items c.reserve.new.self.items (run (stop_addresses r.table) r.left r.machine) (cc) output in
+    let start = passes-unanswered r.table aim r.standing r.output.items c.reserve.new.self.items (machine_run (stop_addresses r.table) r.left r.machine) (cc) output in
     rw (← c.self.view_is) (record {
       image = refl;
       limit = refl;
-      reach = ran-to_halt r.table aim r.standing r.machine c.run_on.new.machine r.output.items c.run_on.new.output.items (run (stop_addresses r.table) r.left r.machine) (run (stop_addresses r.table) c.run_on.new.left c.run_on.new.machine) c.in_ok-halt.halt (cc) (c.in_ok-halt.ensures.passes _ start) c.in_ok-halt.ensures.aimed;
+      reach = ran-to_halt r.table aim r.standing r.machine c.run_on.new.machine r.output.items c.run_on.new.output.items (machine_run (stop_addresses r.table) r.left r.machine) (machine_run (stop_addresses r.table) c.run_on.new.left c.run_on.new.machine) c.in_ok-halt.halt (cc) (c.in_ok-halt.ensures.passes _ start) c.in_ok-halt.ensures.aimed;
     })
 
 pub returns-in-Some-clause-executed : goal.returns-in-Some-clause-executed
