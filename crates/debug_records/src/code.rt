@@ -180,7 +180,7 @@ impl Code {
         number: 3,
     };
 
-    /// L04: the program weighs over 4,000.
+    /// L04: the program weighs over 40,000.
     pub const PROGRAM_WEIGHT: Code = Code {
         letter: Letter::L,
         number: 4,

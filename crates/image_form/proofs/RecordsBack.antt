@@ -33,7 +33,7 @@ use Rattle.image_form.specs.Decoding.{mode_of, owning_function, element_type_of,
 use Rattle.image_form.specs.Form.{Form, numbered}
 use Rattle.image_form.specs.Numbers.{mode_number, no_function, element_number, storage_number, storage_value, variable_numbers, kind_number, change_numbers, verdict_then, last_if, row_numbers, function_numbers, member_numbers, operation_number, truncation_number, node_numbers}
 use Rattle.image_form.specs.RulesOfChanges.{AssignedRules}
-use Rattle.image_form.specs.RulesOfFunctions.{IsPlaceNumber, code_start}
+use Rattle.image_form.specs.RulesOfFunctions.{IsPlaceNumber, first_code_address}
 use Rattle.image_form.specs.RulesOfRows.{IsWriter, IsEvidence, IsVerdict, IsQuietStart}
 use Rattle.image_form.specs.RulesOfVariables.{IsVariable, IsKept}
 use Rattle.image_form.proofs.TableLaws.{each_at}
@@ -139,7 +139,7 @@ variable_back f few v valid = λ i. record {
 
 -- A writer's address is not 0.
 writer_back : (f : Form) (kind : Kind) (writer : Option ℕ) → IsWriter f kind writer → writer_of (unwrap_or writer 0) ≡ writer
-unfolding code_start
+unfolding first_code_address
 writer_back f kind None valid = refl
 writer_back f kind (Some address) valid = let other : (address == 0) ≡ false = ne_eqb address 0 (λ e. omega (arith, e, valid.1.1)) in rw other refl
 

@@ -20,7 +20,7 @@ use Rattle.image_form.specs.Decoding.{sections_of, word_numbers}
 use Rattle.image_form.specs.Form.{Form, numbered}
 use Rattle.image_form.specs.Numbers.{place_numbers, no_function, variable_numbers, kind_number, change_numbers, verdict_then, last_if, row_numbers, node_numbers}
 use Rattle.image_form.specs.RulesOfChanges.{AssignedRules, IsPairBefore}
-use Rattle.image_form.specs.RulesOfFunctions.{IsCodeAddress, IsPlaceNumber, code_start}
+use Rattle.image_form.specs.RulesOfFunctions.{IsCodeAddress, IsPlaceNumber, first_code_address}
 use Rattle.image_form.specs.RulesOfPlaces.{IsPlace, PlaceRules}
 use Rattle.image_form.specs.RulesOfRows.{IsVisible, IsWriter, IsVerdict, IsQuietStart, RowRules}
 use Rattle.image_form_sections.specs.Versions.{has_quiet}
@@ -129,7 +129,7 @@ module _ (f : Form) where
 
   -- The writer of a change.
   writer_sound : (kind : Kind) (writer : Option ℕ) → writer ≢ Some 0 → (if is_taking (kind_number kind) then unwrap_or writer 0 == 0 else is_code_address (sections_of f) (unwrap_or writer 0)) ≡ true → IsWriter f kind writer
-  unfolding code_start
+  unfolding first_code_address
   writer_sound Removed None told kept = refl
   writer_sound Removed (Some a) told kept = absurd (told (ap Some (eqb-true a 0 kept)))
   writer_sound Moved None told kept = absurd (let a = code_sound 0 kept in omega (arith, a.1))

@@ -15,7 +15,7 @@ use Rattle.image_form.specs.declared.variables.Variable.{Variable}
 use Rattle.image_form.specs.Decoding.{sections_of}
 use Rattle.image_form.specs.Form.{Form}
 use Rattle.image_form.specs.Numbers.{function_numbers, no_function, element_number, storage_number, storage_value, variable_numbers}
-use Rattle.image_form.specs.RulesOfVariables.{IsVariable, IsKept, IsCount, IsNamed, IsFrameOffset, IsHomeRegister, IsStaticAddress, group_of, group, IsDeclaredBefore, VariableRules, static_start, static_size}
+use Rattle.image_form.specs.RulesOfVariables.{IsVariable, IsKept, IsCount, IsNamed, IsFrameOffset, IsHomeRegister, IsStaticAddress, group_of, group, IsDeclaredBefore, VariableRules, first_static_address, static_size}
 use Rattle.memory_map.specs.declared.map.Map.{Map}
 use Rattle.image_form_sections.specs.declared.version.Version.{Version}
 use Rattle.image_form_sections.specs.Versions.{map_of, version_number}
@@ -66,17 +66,17 @@ map_told f = ap (λ (v : Version). v.map) (version_back f.version)
 static_sound : (f : Form) (a : ℕ) → is_static_address (sections_of f) a ≡ true → IsStaticAddress f a
 unfolding is_static_address
 static_sound f a kept =
-    let start = static_start f.version.map in
+    let start = first_static_address f.version.map in
     let told : (nat_le start a && nat_lt a (start + static_size)) ≡ true =
-    subst (λ (m : Map). (nat_le (static_start m) a && nat_lt a (static_start m + static_size)) ≡ true) (map_told f) kept in
+    subst (λ (m : Map). (nat_le (first_static_address m) a && nat_lt a (first_static_address m + static_size)) ≡ true) (map_told f) kept in
     grind (arith, nat_tests, told)
 
 static_complete : (f : Form) (a : ℕ) → IsStaticAddress f a → is_static_address (sections_of f) a ≡ true
 unfolding is_static_address
 static_complete f a is =
-    let start = static_start f.version.map in
+    let start = first_static_address f.version.map in
     let told : (nat_le start a && nat_lt a (start + static_size)) ≡ true = grind (arith, nat_tests, is) in
-    subst (λ (m : Map). (nat_le (static_start m) a && nat_lt a (static_start m + static_size)) ≡ true) (sym (map_told f)) told
+    subst (λ (m : Map). (nat_le (first_static_address m) a && nat_lt a (first_static_address m + static_size)) ≡ true) (sym (map_told f)) told
 
 module _ (f : Form) where
   abbrev pub VariablesKept : Type 0

@@ -7,7 +7,7 @@ use Rattle.memory_map.specs.declared.map.Map.TheVariants.{One, Two}
 use Rattle.image_form_sections.specs.declared.version.Level.{Level}
 use Rattle.image_form_sections.specs.declared.version.Level.TheVariants.{Plain, Quiet, Callers}
 use Rattle.image_form_sections.specs.declared.version.Version.{Version}
-use Rattle.image_form_sections.specs.Versions.{greatest_level, is_read, map_number, map_of, reads_map, level_number, version_number, level_of, version_of, has_callers}
+use Rattle.image_form_sections.specs.Versions.{greatest_level, is_read, map_number, map_of, level_number, version_number, level_of, version_of, has_callers}
 
 -- The versions whose level is read are the first four.
 few_read : (n : ℕ) → level_number (level_of n) ≤ 1 → n ≤ 4
@@ -22,8 +22,7 @@ few_read n low = elim (cases_Bool (nat_le n 4)) [
 read_parts : (n : ℕ) → is_read n ≡ true → (1 ≤ n) × (n ≤ 4)
 unfolding is_read greatest_level
 read_parts n read =
-    let whole = and_parts (nat_le 1 n && nat_le (level_number (level_of n)) greatest_level) (reads_map (map_of n)) read in
-    let parts = and_parts (nat_le 1 n) (nat_le (level_number (level_of n)) greatest_level) whole.0 in
+    let parts = and_parts (nat_le 1 n) (nat_le (level_number (level_of n)) greatest_level) read in
     (leb-true 1 n parts.0, few_read n (leb-true (level_number (level_of n)) greatest_level parts.1))
 
 -- The number of a version that is read is one of six.

@@ -4,17 +4,17 @@ use Rattle.std.specs.List.{AllByRecursion}
 use Rattle.image_form.specs.declared.tables.Function.{Function}
 use Rattle.image_form.specs.Form.{Form}
 use Rattle.image_form.specs.Lists.{EachToNext}
-unfoldable pub use Rattle.image_form_sections.specs.Bounds.{code_start}
+unfoldable pub use Rattle.image_form_sections.specs.Bounds.{first_code_address}
 use Rattle.image_form_sections.specs.Masks.{masked, mask_of}
 use Rattle.image_form_sections.specs.Versions.{has_callers}
 
 -- The address behind the last code word.
 abbrev pub code_end : Form → ℕ
-code_end f = code_start + 4 * length f.code
+code_end f = first_code_address + 4 * length f.code
 
 -- A multiple of 4 at which a code word stands.
 abbrev pub IsCodeAddress : Form → ℕ → Type 0
-IsCodeAddress f address = (address % 4 ≡ 0) × (code_start ≤ address) × (address < code_end f)
+IsCodeAddress f address = (address % 4 ≡ 0) × (first_code_address ≤ address) × (address < code_end f)
 
 -- A number of a place.
 abbrev pub IsPlaceNumber : Form → ℕ → Type 0

@@ -6,12 +6,12 @@ use Rattle.image_form.specs.declared.variables.Storage.TheVariants.{Static, Fram
 use Rattle.image_form.specs.declared.variables.Variable.{Variable}
 use Rattle.image_form.specs.Form.{Form}
 use Rattle.image_form.specs.Lists.{EachToNext}
-unfoldable pub use Rattle.image_form_sections.specs.Bounds.{static_start, static_size}
+unfoldable pub use Rattle.image_form_sections.specs.Bounds.{first_static_address, static_size}
 
 -- An address of static memory, in the map of the image's version.
 abbrev pub IsStaticAddress : Form → ℕ → Type 0
 IsStaticAddress f address =
-    (static_start f.version.map ≤ address) × (address < static_start f.version.map + static_size)
+    (first_static_address f.version.map ≤ address) × (address < first_static_address f.version.map + static_size)
 
 -- The registers that keep scalars: s1, and s2 to s11, t3 to t6.
 abbrev pub IsHomeRegister : ℕ → Type 0

@@ -11,10 +11,6 @@ use Rattle.image_form_sections.specs.declared.version.Version.{Version}
 unfoldable pub greatest_level : ℕ
 greatest_level = 1
 
--- Whether the versions of the second map are read and written.
-unfoldable pub reads_large : Bool
-reads_large = false
-
 -- Whether structures may stand in an image.
 unfoldable pub has_structures : Bool
 has_structures = false
@@ -42,14 +38,9 @@ map_of n = if n % 2 == 1 then One else Two
 abbrev pub level_of : ℕ → Level
 level_of n = if nat_le n 2 then Plain else if nat_le n 4 then Quiet else Callers
 
--- The versions of a map are read.
-abbrev pub reads_map : Map → Bool
-reads_map One = true
-reads_map Two = reads_large
-
 -- The number is that of a version that is read.
 unfoldable pub is_read : ℕ → Bool
-is_read n = nat_le 1 n && nat_le (level_number (level_of n)) greatest_level && reads_map (map_of n)
+is_read n = nat_le 1 n && nat_le (level_number (level_of n)) greatest_level
 
 -- The version of a number.
 abbrev pub version_of : ℕ → Version

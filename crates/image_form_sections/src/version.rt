@@ -1,15 +1,12 @@
 //! The versions of the format.
 
 ghost use Rattle.std.specs.Prelude.{◌≡◌};
-ghost use Rattle.image_form_sections.specs.Versions.{has_callers, has_quiet, header_size, is_read, level_number, level_of, map_of, reads_map, version_number, version_of};
+ghost use Rattle.image_form_sections.specs.Versions.{has_callers, has_quiet, header_size, is_read, level_number, level_of, map_of, version_number, version_of};
 
 use memory_map::Map;
 
 /// The number of the greatest level whose versions are read and written.
 const GREATEST_LEVEL: u32 = 1;
-
-/// Whether the versions of the second map are read and written.
-const READS_LARGE: bool = false;
 
 /// Which fields and sections the tables of an image have.
 #[derive(Clone, Copy)]
@@ -123,21 +120,10 @@ fn level_number(level: Level) -> u32
     }
 }
 
-/// Whether versions of a map are read.
-#[tactic(auto, unfolding(crate::specs::Versions::reads_large))]
-fn reads_map(map: Map) -> bool
-    ensures { result ≡ reads_map map }
-{
-    match map {
-        Map::One => true,
-        Map::Two => READS_LARGE,
-    }
-}
-
 /// Whether a version of that number is read.
 #[tactic(auto, unfolding(crate::specs::Versions::is_read, crate::specs::Versions::greatest_level))]
 pub fn is_read(number: u32) -> bool
     ensures { result ≡ is_read number }
 {
-    1 <= number && level_number(level_of(number)) <= GREATEST_LEVEL && reads_map(map_of(number))
+    1 <= number && level_number(level_of(number)) <= GREATEST_LEVEL
 }

@@ -11,7 +11,7 @@ use Rattle.image_form.specs.declared.tables.Function.{Function}
 use Rattle.image_form.specs.declared.tables.Place.{Place}
 use Rattle.image_form.specs.Lists.{AreDistinct}
 use Rattle.image_form.specs.Rules.{IsImage}
-use Rattle.image_form.specs.RulesOfFunctions.{IsFunction, IsPlaceNumber, code_start}
+use Rattle.image_form.specs.RulesOfFunctions.{IsFunction, IsPlaceNumber, first_code_address}
 use Rattle.memory_map.specs.Maps as maps
 use Rattle.image_form.specs.RulesOfPlaces.{word_address}
 use Rattle.image_form.proofs.TableLaws.{each_at}
@@ -96,7 +96,7 @@ pub record EntersPlaces (m : Form) (table : List ℕ) : Type 0 where
 
 entered-at : (m : Form) (table : List ℕ) (a : ℕ) → EntersPlaces m table → a % 4 ≡ 0 → maps.code_start ≤ a
     → entry_at table a ≡ (if is_entry_address m a then 0 else unwrap_or (place_at m a) 0)
-unfolding code_start
+unfolding first_code_address
 entered-at m table a enters aligned starts =
     let address : word_address ((a - maps.code_start) / 4) ≡ a = omega arith in
     entry_at-word table a aligned starts ∙ (rw address at (enters.entries ((a - maps.code_start) / 4)))
@@ -181,7 +181,7 @@ struck-step : (m : Form) (table : List ℕ) (w : ℕ) (f : Function) (rest : Lis
     → p.address % 4 ≡ 0 → maps.code_start ≤ p.address → (p.address - maps.code_start) / 4 < length table
     → (if is_entry_of m rest (word_address w) then 0 else slice_index (slice_set table ((p.address - maps.code_start) / 4) 0) w)
     ≡ (if is_entry_of m (f ∷ rest) (word_address w) then 0 else slice_index table w)
-unfolding code_start
+unfolding first_code_address
 struck-step m table w f rest p entry aligned starts within = rw entry (by_tests (p.address == maps.code_start + 4 * w) refl (is_entry_of m rest (maps.code_start + 4 * w)) refl)
   where
     by_tests : (b : Bool) → (p.address == maps.code_start + 4 * w) ≡ b → (c : Bool) → is_entry_of m rest (maps.code_start + 4 * w) ≡ c

@@ -5,7 +5,7 @@ use Rattle.std.proofs.Math.Bool.{and-false, and-true}
 use Rattle.std.proofs.lemmas.Option.{get_or_from_slice_get, slice_get-get_or, slice_get_within}
 use Rattle.image_form.specs.Form.{Form}
 use Rattle.image_form.specs.Rules.{IsImage}
-use Rattle.image_form.specs.RulesOfFunctions.{IsFunction, code_start}
+use Rattle.image_form.specs.RulesOfFunctions.{IsFunction, first_code_address}
 use Rattle.image_form.specs.RulesOfPlaces.{IsInFunction, word_address}
 use Rattle.image_form.specs.declared.tables.Function.{Function}
 use Rattle.image_form.specs.declared.tables.Place.{Place}
@@ -39,7 +39,7 @@ function_kept m g image there =
 
 -- how many words it has, by the numbers of its first one and of the one behind its last
 pub words_of : (m : Form) (g : Function) → IsFunction m g → (g.end - 65536) / 4 - (g.first - 65536) / 4 ≡ (g.end - g.first) / 4
-unfolding code_start
+unfolding first_code_address
 words_of m g its =
     let aligned = its.first_in_code.0 in
     let from = its.first_in_code.1 in

@@ -9,7 +9,7 @@ use Rattle.image_form.specs.declared.tables.Function.{Function}
 use Rattle.image_form.specs.declared.tables.Place.{Place}
 use Rattle.image_form.specs.Lists.{AreDistinct}
 use Rattle.image_form.specs.Rules.{IsImage}
-use Rattle.image_form.specs.RulesOfFunctions.{IsFunction, code_start}
+use Rattle.image_form.specs.RulesOfFunctions.{IsFunction, first_code_address}
 use Rattle.image_form.specs.RulesOfPlaces.{IsPlace, word_address}
 use Rattle.image_form.specs.Spelling.{size}
 use Rattle.image_form.proofs.TableLaws.{each_at}
@@ -23,7 +23,7 @@ pub record IsWordOf (m : Form) (a : ℕ) : Type 0 where
   pub ends : a < machine.code_start + 4 * length m.code
 
 in_function-word : (m : Form) (k a : ℕ) (o : Option Function) → IsImage m → a % 4 ≡ 0 → slice_get m.functions k ≡ o → IsSomeAnd o (λ g. (g.first ≤ a) × (a < g.end)) → IsWordOf m a
-unfolding code_start
+unfolding first_code_address
 in_function-word m k a None image aligned e h = absurd h
 in_function-word m k a (Some g) image aligned e h =
     let f : IsFunction m g = each_at (IsFunction m) m.functions k g image.functions.each e in
@@ -77,7 +77,7 @@ pub entered-step : (n w : ℕ) (p : Place) (ps : List Place) (table : List ℕ) 
     → p.address % 4 ≡ 0 → machine.code_start ≤ p.address → (p.address - machine.code_start) / 4 < length table
     → unwrap_or (place_from (n + 1) ps (word_address w)) (slice_index (slice_set table ((p.address - machine.code_start) / 4) n) w)
     ≡ unwrap_or (place_from n (p ∷ ps) (word_address w)) (slice_index table w)
-unfolding code_start
+unfolding first_code_address
 entered-step n w p ps table distinct aligned starts within = by_test (p.address == machine.code_start + 4 * w) refl where
   by_test : (b : Bool) → (p.address == machine.code_start + 4 * w) ≡ b
       → unwrap_or (place_from (n + 1) ps (machine.code_start + 4 * w)) (slice_index (slice_set table ((p.address - machine.code_start) / 4) n) w)
