@@ -63,7 +63,7 @@ no_more n m h = grind (arith, nat_tests)
 
 -- a program that keeps its limits has room for its static objects
 room_is : (p : ProgramTree) → is_none (program_breach p) ≡ true → objects_room p ≤ 1048576
-room_is p h = by (nat_lt 4000 p.weight) (nat_lt 1048576 (objects_room p)) refl h
+room_is p h = by (nat_lt 40000 p.weight) (nat_lt 1048576 (objects_room p)) refl h
   where
     by : (a b : Bool) → nat_lt 1048576 (objects_room p) ≡ b
         → is_none (if a then Some PROGRAM_WEIGHT else (if b then Some STATIC_OBJECTS else (if nat_lt 1000000 (visible_pairs p) then Some VISIBLE_PAIRS else None))) ≡ true → objects_room p ≤ 1048576

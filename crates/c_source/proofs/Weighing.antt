@@ -62,8 +62,8 @@ first_none : (b : Bool) (o : Option Code) → (if b then Some PROGRAM_WEIGHT els
 first_none true o h = cc
 first_none false o h = refl
 
-light : (p : ProgramTree) → program_breach p ≡ None → p.weight ≤ 4000
-light p h = not_more 4000 p.weight (first_none (nat_lt 4000 p.weight) _ h)
+light : (p : ProgramTree) → program_breach p ≡ None → p.weight ≤ 40000
+light p h = not_more 40000 p.weight (first_none (nat_lt 40000 p.weight) _ h)
 
 -- The functions weigh no more than the program.
 pub functions_weigh : (items : List ItemTree) (p : ProgramTree) (a : Accepted items p) → nat_le (weight_of p.functions) p.weight ≡ true

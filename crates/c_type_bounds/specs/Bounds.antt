@@ -80,11 +80,11 @@ behind_functions number (f ∷ fs) vs =
 abbrev pub objects_room : ProgramTree → ℕ
 objects_room p = static_room p.statics + literal_room p.literals + literal_room p.array_literals
 
--- the limits of a program: it weighs 4,000 at most (L04), its static objects take 1 MiB at most (L06), and at its
+-- the limits of a program: it weighs 40,000 at most (L04), its static objects take 1 MiB at most (L06), and at its
 -- places 1,000,000 variables are visible at most (L08)
 abbrev pub program_breach : ProgramTree → Option Code
 program_breach p =
-    if nat_lt 4000 p.weight then Some PROGRAM_WEIGHT
+    if nat_lt 40000 p.weight then Some PROGRAM_WEIGHT
     else
     (if nat_lt 1048576 (objects_room p) then Some STATIC_OBJECTS
     else (if nat_lt 1000000 (visible_pairs p) then Some VISIBLE_PAIRS else None))

@@ -113,7 +113,7 @@ fn objects_room(program: &Program) -> u64
 pub fn program_breach(alloc: Global, program: &Program) -> Result<Option<Code>, AllocError>
     ensures { IfOk result (λ breach. breach ≡ program_breach (program_view program.now)) }
 {
-    if program.weight > 4000 {
+    if program.weight > 40_000 {
         return Ok(Some(Code::PROGRAM_WEIGHT));
     }
     if objects_room(program) > 1048576 {

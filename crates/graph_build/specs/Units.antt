@@ -10,7 +10,8 @@ use Rattle.c_tree.specs.Programs.{AutomaticTree, LiteralTree, StaticTree, TypedF
 use Rattle.c_type_rules.specs.Types.{same_object}
 use Rattle.c_places.specs.Places.{numbers_from, parameters_of, places_of_program, place_number_at}
 use Rattle.c_flow.specs.Flow.{start_of_all, ways_of_body}
-use Rattle.memory_map.specs.declared.map.Room.TheVariants.{Small}
+use Rattle.memory_map.specs.declared.map.Room.{Room}
+use Rattle.memory_map.specs.declared.map.Room.TheVariants.{Small, Large}
 use Rattle.graph_core.specs.declared.instruction.Element as declared-element
 use Rattle.graph_core.specs.declared.instruction.Element.TheVariants.{Unsigned8}
 use Rattle.graph_core.specs.declared.graph.MemoryObject.{MemoryObject}
@@ -222,12 +223,16 @@ module _ (p : ProgramTree) where
 abbrev pub literal_of : LiteralTree → StaticObject
 literal_of l = record { element = Unsigned8; count = length l.bytes; bytes = l.bytes; relocations = [] }
 
--- The unit of a program by its forms; flow and assignments are told apart from these. The log is empty, and the room
--- the smaller one.
+-- The room of a program's unit: the larger one where it weighs more than 4,000.
+abbrev pub room_of : ProgramTree → Room
+room_of p = if nat_lt 4000 p.weight then Large else Small
+
+-- The unit of a program by its forms; flow and assignments are told apart from these. The log is empty, and what the
+-- program weighs decides the room.
 pub record IsUnitOf (p : ProgramTree) (u : UnitForm) : Type 0 where
   pub graphs : u.graphs ≡ graphs_from p 0 p.functions
   pub main : u.main ≡ p.main
   pub statics : u.statics ≡ map (static_of p) p.statics ++ map literal_of p.literals
   pub array_bytes : u.array_bytes ≡ map (λ (l : LiteralTree). l.bytes) p.array_literals
   pub log : u.log ≡ []
-  pub room : u.room ≡ Small
+  pub room : u.room ≡ room_of p

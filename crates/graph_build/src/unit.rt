@@ -11,7 +11,7 @@ ghost use Rattle.c_flow.specs.Flow.{steps_of_program};
 ghost use Rattle.c_flow.specs.Tables.{Fits32};
 ghost use Rattle.graph_core.specs.Graphs.{graph_view, unit_view};
 ghost use Rattle.graph_build_statements.specs.Numbering.{AreNumbered};
-ghost use Rattle.graph_build.specs.Units.{IsUnitOf, graphs_from};
+ghost use Rattle.graph_build.specs.Units.{IsUnitOf, graphs_from, room_of};
 
 use crate::function::graph_of;
 use crate::statics::{array_bytes_of, statics_of};
@@ -47,6 +47,20 @@ fn graphs_of(alloc: Global, source: &Source<'_>) -> Result<Vec<Graph>, AllocErro
     Ok(graphs)
 }
 
+/// The most that a program weighs whose unit is of the smaller room.
+const SMALL_WEIGHT: u64 = 4000;
+
+/// The room of a program's unit: what it weighs decides it.
+fn room_of(program: &Program) -> Room
+    ensures { result ≡ room_of (program_view program.now) }
+{
+    if program.weight > SMALL_WEIGHT {
+        Room::Large
+    } else {
+        Room::Small
+    }
+}
+
 /// The unit of a program. The only error is want of memory.
 pub fn build(alloc: Global, program: &Program) -> Result<Unit, AllocError>
     requires { Fits32 (program_view program.now) }
@@ -74,6 +88,6 @@ pub fn build(alloc: Global, program: &Program) -> Result<Unit, AllocError>
         array_bytes: array_bytes_of(alloc, program)?,
         flow,
         log: ChangeLog::new(alloc),
-        room: Room::Small,
+        room: room_of(program),
     })
 }

@@ -120,7 +120,7 @@ program_room : (p : ProgramTree) → is_none (program_breach p) ≡ true → obj
 program_room p h =
     let visible = if nat_lt 1000000 (visible_pairs p) then Some VISIBLE_PAIRS else None in
     let rest = if nat_lt 1048576 (objects_room p) then Some STATIC_OBJECTS else visible in
-    not_less 1048576 (objects_room p) (if_none (nat_lt 1048576 (objects_room p)) STATIC_OBJECTS visible (if_none (nat_lt 4000 p.weight) PROGRAM_WEIGHT rest h).1).0
+    not_less 1048576 (objects_room p) (if_none (nat_lt 1048576 (objects_room p)) STATIC_OBJECTS visible (if_none (nat_lt 40000 p.weight) PROGRAM_WEIGHT rest h).1).0
 
 pub facts_of : (p : ProgramTree) → IsWellFormed p → ProgramFacts p
 facts_of p h =

@@ -4,7 +4,6 @@ use Rattle.std.proofs.lemmas.List.{length-map}
 use Rattle.c_tree.specs.Programs.{TypedFunctionTree, ProgramTree}
 use Rattle.c_places.specs.Places.{numbers_from, parameters_of}
 use Rattle.c_type_laws.specs.Laws.{IsWellFormed, weight_of}
-use Rattle.graph_core.proofs.Rooms.{some_arguments, some_blocks, some_instructions}
 use Rattle.graph_core.specs.Graphs.{Graph, UnitForm}
 use Rattle.graph_core.specs.Validity.{instructions_of, arguments_of, total}
 use Rattle.graph_build_laws.specs.Keeping.{KeepsWeight, KeepWeights, KeepsBounds, KeepBounds}
@@ -12,6 +11,7 @@ use Rattle.graph_build.specs.Units.{IsUnitOf, graphs_from, graph_of, binding_of,
 use Rattle.graph_build_laws.proofs.Statements.{statements_more}
 use Rattle.graph_build_laws.proofs.Functions.{instructions_within}
 use Rattle.graph_build_laws.proofs.Blocks.{blocks_within}
+use Rattle.graph_build_laws.proofs.Weighed.{weighed_in}
 use Rattle.graph_build_laws.proofs.WellFormed.{KeepsLimits, KeepsLaws, laws_of}
 use Rattle.graph_build_laws.proofs.Names.{names_within}
 use Rattle.graph_build_laws.proofs.FunctionArguments.{arguments_within}
@@ -79,11 +79,12 @@ keep_bounds p u h is =
     let laws = laws_of p h in
     let all = graphs_from p 0 p.functions in
     let sum = sums p 0 p.functions laws.functions in
+    let fits = weighed_in p u.room is.room laws.weight in
     let x : KeepBounds (record u { graphs = all }) = record {
       functions = omega (arith, graphs_length p 0 p.functions, laws.few);
-      instructions = omega (arith, sum.0, laws.weights, laws.weight, some_instructions u.room);
-      blocks = omega (arith, sum.1, laws.weights, laws.weight, some_blocks u.room);
-      arguments = omega (arith, sum.2, laws.weights, laws.weight, some_arguments u.room);
+      instructions = omega (arith, sum.0, laws.weights, fits.instructions);
+      blocks = omega (arith, sum.1, laws.weights, fits.blocks);
+      arguments = omega (arith, sum.2, laws.weights, fits.arguments);
       graphs = λ k g at. (let y = of_function p 0 p.functions k g at in subst (λ (z : Graph). KeepsBounds z) y.same (keeps_bounds p y.function y.is_main (laws.functions k y.function y.is)));
     } in
     subst (λ (l : List Graph). KeepBounds (record u { graphs = l })) (sym is.graphs) x

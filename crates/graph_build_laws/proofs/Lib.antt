@@ -19,6 +19,7 @@ pub mod ArgumentPieces
 pub mod Arguments
 pub mod ArgumentCounts
 pub mod FunctionArguments
+pub mod Weighed
 pub mod Keeping
 pub mod Converting
 pub mod GraphMarkingPieces

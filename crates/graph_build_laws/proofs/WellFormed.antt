@@ -60,16 +60,16 @@ pub record KeepsLaws (p : ProgramTree) : Type 0 where
   pub functions : (k : ℕ) (f : TypedFunctionTree) → slice_get p.functions k ≡ Some f → KeepsLimits f
   pub few : length p.functions ≤ 256
   pub weights : weight_of p.functions ≤ p.weight
-  pub weight : p.weight ≤ 4000
+  pub weight : p.weight ≤ 40000
   pub ascend : ascends (map (λ (q : Place). q.spot.at) (places_of_program p)) ≡ true
 
 if_none : (b : Bool) (code : Code) (rest : Option Code) → is_none (if b then Some code else rest) ≡ true → b ≡ false
 if_none true code rest h = cc
 if_none false code rest h = refl
 
-program_weight : (p : ProgramTree) → is_none (program_breach p) ≡ true → p.weight ≤ 4000
+program_weight : (p : ProgramTree) → is_none (program_breach p) ≡ true → p.weight ≤ 40000
 program_weight p h =
-    not_less 4000 p.weight (if_none (nat_lt 4000 p.weight) PROGRAM_WEIGHT (if nat_lt 1048576 (objects_room p) then Some STATIC_OBJECTS else (if nat_lt 1000000 (visible_pairs p) then Some VISIBLE_PAIRS else None)) h)
+    not_less 40000 p.weight (if_none (nat_lt 40000 p.weight) PROGRAM_WEIGHT (if nat_lt 1048576 (objects_room p) then Some STATIC_OBJECTS else (if nat_lt 1000000 (visible_pairs p) then Some VISIBLE_PAIRS else None)) h)
 
 pub laws_of : (p : ProgramTree) → IsWellFormed p → KeepsLaws p
 laws_of p h =

@@ -8,12 +8,12 @@ use Rattle.c_tree.specs.Programs.{TypedFunctionTree, ProgramTree}
 use Rattle.c_places.specs.Places.{places_of_program}
 use Rattle.c_type_rules.specs.Types.{same_value}
 use Rattle.c_type_laws.specs.Laws.{IsWellFormed, is_main}
-use Rattle.graph_core.proofs.Rooms.{some_markers}
 use Rattle.graph_core.specs.Graphs.{Graph, UnitForm}
 use Rattle.graph_core.specs.Validity.{HasParameters, AreAllDifferent, IsGraph, IsValid, markers_of}
 use Rattle.graph_build.specs.Units.{IsUnitOf, graph_of, graphs_from}
 use Rattle.graph_build_laws.specs.Keeping.{KeepsBounds}
 use Rattle.graph_build_laws.proofs.Keeping.{keep_bounds}
+use Rattle.graph_build_laws.proofs.Weighed.{weighed_in}
 use Rattle.graph_build_laws.proofs.WellFormed.{and_both, laws_of}
 use Rattle.graph_build_laws.proofs.Accepted.{ProgramFacts, facts_of}
 use Rattle.graph_build_laws.proofs.Settings.{graph_is}
@@ -65,7 +65,7 @@ module _ (p : ProgramTree) (u : UnitForm) (well : IsWellFormed p) (is : IsUnitOf
         main = subst (λ m. HasParameters (slice_get u.graphs m) 0) (sym is.main) (main_takes (slice_get p.functions p.main) refl facts.main);
         instructions = bounds.instructions;
         blocks = bounds.blocks;
-        markers = omega (arith, many, few, laws.weights, laws.weight, some_markers u.room);
+        markers = omega (arith, many, few, laws.weights, (weighed_in p u.room is.room laws.weight).markers);
         arguments = bounds.arguments;
         statics = statics_within p u is facts;
         relocations = relocations_within p u is facts;

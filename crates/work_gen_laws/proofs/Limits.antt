@@ -67,10 +67,10 @@ module _ (text : List ℕ) (t : Tokens) (ds : List Drawn) where
       let h = weighs few in
       not_before 3000 (typed_main text t ds).weight (omega (arith, h))
 
-  pub program_light : length ds ≤ 400 → nat_lt 4000 (capped (items_weight (items_tree text t ds))) ≡ false
+  pub program_light : length ds ≤ 400 → nat_lt 40000 (capped (items_weight (items_tree text t ds))) ≡ false
   program_light few =
       let h = weighs few in
-      not_before 4000 (capped (items_weight (items_tree text t ds))) (omega (arith, h))
+      not_before 40000 (capped (items_weight (items_tree text t ds))) (omega (arith, h))
 
   keeps_none : with_kept (typed_main text t ds) variables ≡ variables
   keeps_none = ap (λ (ks : List ℕ). with_all_in_memory ks variables) (lines_keep text ds 86 (typed.first (typed_step t.step) typed.none) [])
