@@ -3,9 +3,8 @@
 ghost use Rattle.std.specs.Prelude.{map};
 ghost use Rattle.std.specs.List.{AllByRecursion};
 ghost use Rattle.graph_core.specs.Graphs.{block_view, end_view, graph_view, instruction_view, location_view, operand_view};
-ghost use Rattle.rv_emit_steps.specs.Frames.{IsWord, IsWordIn};
 ghost use Rattle.rv_emit_runs.specs.Passing.{AreWords};
-ghost use Rattle.rv_emit_runs.specs.Laid.{HasWords, HasWordsAtEnd, HasWordsInBlock, IsInWords};
+ghost use Rattle.rv_emit_runs.specs.Laid.{HasWords, HasWordsAtEnd, HasWordsInBlock, IsInWords, IsWord, IsWordIn};
 
 use graph_core::{Block, End, Graph, Instr, Location, Operand};
 

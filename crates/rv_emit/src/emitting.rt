@@ -12,15 +12,13 @@ ghost use Rattle.rv_emit.specs.Emits.{Emits};
 
 use crate::constants::graphs_have_words;
 use crate::counting::are_countable;
-use graph_core::Room;
 use graph_homes::HomedUnit;
 use rv_emit_layout::assemble;
 use rv_emit_tables::Emitted;
 use std::alloc::{AllocError, Global};
 
 /// The code of a unit whose names have homes: the machine over it does what the unit over its homes does. The only error
-/// is want of memory, which also answers a function of 2^32 instructions or more, notes among them, and a unit of the
-/// larger room; no text makes one of these.
+/// is want of memory, which also answers a function of 2^32 instructions or more, notes among them; no text makes one.
 pub fn emit(alloc: Global, homed: &HomedUnit) -> Result<Emitted, AllocError>
     requires valid { IsValid (homed_view homed.now).unit }
     requires homes { HaveHomes (homed_view homed.now) }
@@ -33,9 +31,6 @@ pub fn emit(alloc: Global, homed: &HomedUnit) -> Result<Emitted, AllocError>
     ensures emits { IfOk result (λ e. Emits (homed_view homed.now) (emitted_view e)) }
 {
     graphs_have_words(&homed.unit.graphs);
-    if homed.unit.room != Room::Small {
-        return Err(AllocError);
-    }
     if !are_countable(&homed.unit.graphs) {
         return Err(AllocError);
     }

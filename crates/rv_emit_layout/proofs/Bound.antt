@@ -1,16 +1,23 @@
--- The code of a valid unit of the smaller room has few words.
-use Rattle.std.proofs.Common.{◌≡◌, ◌≤◌, ◌+◌, ◌*◌, subst, List, [], ◌∷◌, length, arith}
+-- The code of a valid unit has few words.
+use Rattle.std.proofs.Common.{◌≡◌, ◌≤◌, ℕ, ◌+◌, ◌*◌, refl, subst, List, [], ◌∷◌, length, arith}
 use Rattle.std.proofs.lemmas.List.{length-append}
 use Rattle.std.specs.List.{AllByRecursion}
 use Rattle.memory_map.specs.Maps.{most_words}
 use Rattle.memory_map.specs.declared.map.Map.{Map}
 use Rattle.memory_map.specs.declared.map.Map.TheVariants.{One, Two}
-use Rattle.memory_map.specs.declared.map.Room.TheVariants.{Small}
+use Rattle.memory_map.specs.declared.map.Room.TheVariants.{Small, Large}
 use Rattle.graph_core.specs.Bounds.{most_arguments, most_blocks, most_instructions, most_markers}
 use Rattle.graph_core.specs.Graphs.{Instruction, Marker, Note, Move, Operate, Truncate, Same, Address, Load, Store, Zero, CopyWords, Call, Block, Graph, UnitForm}
 use Rattle.graph_core.specs.Validity.{IsGraph, IsValid, arguments_in, arguments_of, counts, instructions_of, markers_in, markers_of, markers_of_blocks, total}
+use Rattle.rv_emit_words.specs.declared.piece.Piece.{Piece}
+use Rattle.rv_emit_words.specs.declared.piece.Piece.TheVariants.{Word, Jump, Branch, Call as CallPiece}
+use Rattle.rv_emit_words.specs.declared.piece.PlacedPiece.{PlacedPiece}
 use Rattle.rv_emit_words.specs.InstructionWords.{most_words_of}
+use Rattle.rv_emit_words.specs.Words.{words_in, words_of_piece}
 use Rattle.rv_emit_sequence.specs.Words.{most_words_of_blocks}
+use Rattle.rv_emit_layout.specs.declared.reaching.Reach.TheVariants.{Over, Far}
+use Rattle.rv_emit_layout.specs.Longest.{longest_words}
+use Rattle.rv_emit_layout.specs.Reaches.{width}
 use Rattle.rv_emit_layout.specs.Words.{most_words_of_graphs}
 
 of_instructions : (is : List Instruction) → total most_words_of is ≤ 13 * total counts is + (3 * total arguments_in is + length (markers_in is))
@@ -44,11 +51,51 @@ pub code_has_room : (m : Map) → 262144 ≤ most_words m
 code_has_room One = omega arith
 code_has_room Two = omega arith
 
-pub words_are_few : (u : UnitForm) → u.room ≡ Small → IsValid u → most_words_of_graphs u.graphs ≤ 262139
-words_are_few u small v =
+-- As far as jumps and calls have one word, and the code is not made by a plan: in the smaller room, and in the larger.
+pub few_small : (u : UnitForm) → u.room ≡ Small → IsValid u → most_words_of_graphs u.graphs ≤ 262139
+few_small u small v =
     let functions : length u.graphs ≤ 256 = v.functions in
     let instructions : total instructions_of u.graphs ≤ 8000 = subst (λ r. total instructions_of u.graphs ≤ most_instructions r) small v.instructions in
     let blocks : total (λ (g : Graph). length g.blocks) u.graphs ≤ 12000 = subst (λ r. total (λ (g : Graph). length g.blocks) u.graphs ≤ most_blocks r) small v.blocks in
     let markers : length (markers_of u.graphs) ≤ 4000 = subst (λ r. length (markers_of u.graphs) ≤ most_markers r) small v.markers in
     let arguments : total arguments_of u.graphs ≤ 4000 = subst (λ r. total arguments_of u.graphs ≤ most_arguments r) small v.arguments in
     omega (arith, functions, instructions, blocks, markers, arguments, of_graphs u u.graphs v.graphs)
+
+pub few_large : (u : UnitForm) → u.room ≡ Large → IsValid u → most_words_of_graphs u.graphs ≤ 2297920
+few_large u large v =
+    let functions : length u.graphs ≤ 256 = v.functions in
+    let instructions : total instructions_of u.graphs ≤ 80000 = subst (λ r. total instructions_of u.graphs ≤ most_instructions r) large v.instructions in
+    let blocks : total (λ (g : Graph). length g.blocks) u.graphs ≤ 120000 = subst (λ r. total (λ (g : Graph). length g.blocks) u.graphs ≤ most_blocks r) large v.blocks in
+    let markers : length (markers_of u.graphs) ≤ 40000 = subst (λ r. length (markers_of u.graphs) ≤ most_markers r) large v.markers in
+    let arguments : total arguments_of u.graphs ≤ 40000 = subst (λ r. total arguments_of u.graphs ≤ most_arguments r) large v.arguments in
+    omega (arith, functions, instructions, blocks, markers, arguments, of_graphs u u.graphs v.graphs)
+
+-- ---- Jumps, branches and calls
+
+-- A piece that is no word: in the larger room it may have one word more.
+abbrev pub leads_on : Piece → ℕ
+leads_on (Word i) = 0
+leads_on (Jump to) = 1
+leads_on (Branch op l r to) = 1
+leads_on (CallPiece f) = 1
+
+-- In the smaller room the most words are those that were counted as the code was made, in the larger room one more for each of these.
+piece_small : (x : Piece) → width Over x ≡ words_of_piece x
+piece_small (Word i) = refl
+piece_small (Jump to) = refl
+piece_small (Branch op l r to) = refl
+piece_small (CallPiece f) = refl
+
+piece_large : (x : Piece) → width Far x ≡ words_of_piece x + leads_on x
+piece_large (Word i) = refl
+piece_large (Jump to) = refl
+piece_large (Branch op l r to) = refl
+piece_large (CallPiece f) = refl
+
+pub longest_small : (pieces : List PlacedPiece) → longest_words Small pieces ≡ words_in pieces
+longest_small [] = refl
+longest_small (p ∷ more) = omega (arith, piece_small p.piece, longest_small more)
+
+pub longest_large : (pieces : List PlacedPiece) → longest_words Large pieces ≡ words_in pieces + total (λ (p : PlacedPiece). leads_on p.piece) pieces
+longest_large [] = refl
+longest_large (p ∷ more) = omega (arith, piece_large p.piece, longest_large more)

@@ -1,7 +1,12 @@
-pub mod Longest
+pub mod LongestLayout
 pub mod Layouts
+pub mod Shortened
 pub mod Spelled
 pub mod StopsTold
 pub mod Appended
 pub mod Bound
 pub mod Fitting
+pub mod Leading
+pub mod FewWords
+pub mod CallsNear
+pub mod Assembled

@@ -1,3 +1,4 @@
+pub mod Reaches
 pub mod Longest
 pub mod Layouts
 pub mod Spelling

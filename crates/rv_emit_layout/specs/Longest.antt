@@ -1,14 +1,16 @@
--- The longest layout of a function: each piece has its most words, each place at which a run stops has a word `addi x0,
--- x0, 0`, and no jump is dropped.
-use Rattle.std.specs.Prelude.{ℕ, suc, ◌+◌, ◌-◌, ◌==◌, ◌&&◌, ◌||◌, not, nat_lt, nat_le, max, Bool, true, false, List, length, map, take, slice_get, slice_index, count_by}
+-- The longest layout of a function: each piece has the most words that it has in its room, each place at which a run
+-- stops has a word `addi x0, x0, 0`, and no jump is dropped.
+use Rattle.std.specs.Prelude.{ℕ, suc, ◌+◌, ◌-◌, ◌*◌, ◌==◌, ◌&&◌, ◌||◌, not, nat_le, Bool, true, false, List, length, map, take, slice_get, slice_index, count_by}
 use Rattle.std.specs.Option.{option_map_or}
 use Rattle.std.specs.List.{range_with_len}
 use Rattle.rv_code.specs.declared.instruction.Instruction.TheVariants.{Jalr}
 use Rattle.rv_emit_words.specs.declared.piece.Piece.{Piece}
 use Rattle.rv_emit_words.specs.declared.piece.Piece.TheVariants.{Word, Jump, Branch, Call}
 use Rattle.rv_emit_words.specs.declared.piece.PlacedPiece.{PlacedPiece}
-use Rattle.rv_emit_words.specs.Words.{words_in}
+use Rattle.graph_core.specs.Validity.{total}
+use Rattle.memory_map.specs.declared.map.Room.{Room}
 use Rattle.rv_emit_sequence.specs.Sequences.{SequenceForm, counted}
+use Rattle.rv_emit_layout.specs.Reaches.{farthest, jump_width, width}
 use Rattle.rv_emit_layout.specs.Spelling.{spelled}
 
 -- ---- What a real layout may do without
@@ -52,18 +54,17 @@ dropped_until s k = count_by (λ b. is_dropped s b && nat_le (slice_index s.ends
 
 -- ---- Where pieces stand in it
 
--- How many words stand before the piece of an index, or before the end: the most that those before it have, one for
--- each stop up to the piece itself, and one for each jump that was dropped.
-abbrev pub long_before : SequenceForm → (index : ℕ) → ℕ
-long_before s k = words_in (take k s.pieces) + (count_by has_word_before (take (suc k) s.pieces) + dropped_until s k)
+-- How many words pieces have in it.
+abbrev pub longest_words : Room → List PlacedPiece → ℕ
+longest_words room pieces = total (λ (p : PlacedPiece). width (farthest room) p.piece) pieces
+
+-- How many words stand before the piece of an index, or before the end: those that the pieces before it have, one for
+-- each stop up to the piece itself, and a jump's for each jump that was dropped.
+abbrev pub long_before : Room → SequenceForm → (index : ℕ) → ℕ
+long_before room s k =
+    longest_words room (take k s.pieces)
+    + (count_by has_word_before (take (suc k) s.pieces) + jump_width (farthest room) * dropped_until s k)
 
 -- So many for each piece, and behind that for the end. As far as 32 bits can count.
-abbrev pub longest : SequenceForm → List ℕ
-longest s = map (λ k. counted (long_before s k)) (range_with_len 0 (length s.pieces + 1))
-
--- ---- What a branch reaches
-
--- Whether a branch alone leads from one word to another: over -4,096 to 4,094 bytes, which is 1,024 words back to 1,023
--- words on. What 32 bits could not count is too far.
-abbrev pub is_near : (from to : ℕ) → Bool
-is_near i j = nat_le (i - j) 1024 && nat_le (j - i) 1023 && nat_lt (max i j) 4294967295
+abbrev pub longest : Room → SequenceForm → List ℕ
+longest room s = map (λ k. counted (long_before room s k)) (range_with_len 0 (length s.pieces + 1))

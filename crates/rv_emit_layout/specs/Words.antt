@@ -1,5 +1,5 @@
 -- How many words the code of functions has at most.
-use Rattle.std.specs.Prelude.{ℕ, ◌+◌, ◌*◌, List, [], ◌∷◌, length}
+use Rattle.std.specs.Prelude.{ℕ, ◌+◌, ◌*◌, List, length}
 use Rattle.graph_core.specs.Graphs.{Graph}
 use Rattle.graph_core.specs.Validity.{total}
 use Rattle.rv_emit_words.specs.Words.{words_in}
@@ -14,7 +14,6 @@ most_words_of_graph g = most_words_of_blocks g.blocks + (46 + 3 * length g.param
 abbrev pub most_words_of_graphs : List Graph → ℕ
 most_words_of_graphs graphs = total most_words_of_graph graphs
 
--- functions that are laid out
-abbrev pub laid_words : List Laid → ℕ
-laid_words [] = 0
-laid_words (one ∷ more) = words_in one.sequence.pieces.items + laid_words more
+-- functions that are laid out, as far as jumps and calls have one word
+abbrev pub most_laid_words : List Laid → ℕ
+most_laid_words all = total (λ (one : Laid). words_in one.sequence.pieces.items) all

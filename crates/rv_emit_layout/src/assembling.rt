@@ -1,23 +1,20 @@
 //! The code of a unit.
 
 ghost use Rattle.std.specs.Prelude.{◌≡◌, ◌+◌, ◌≤◌, false, IfOk, OnOk, length};
-ghost use Rattle.memory_map.specs.declared.map.Room.TheVariants.{Small};
 ghost use Rattle.graph_core.specs.Validity.{IsValid};
 ghost use Rattle.graph_homes.specs.Homed.{HaveHomes, homed_view};
 ghost use Rattle.rv_emit_storage.specs.UnitMaps.{map_of_unit};
 ghost use Rattle.memory_map.specs.Maps.{most_words};
-ghost use Rattle.rv_emit_words.specs.Words.{words_in};
 ghost use Rattle.std.specs.Prelude.{◌++◌, map};
 ghost use Rattle.rv_emit_tables.specs.Emitted.{emitted_view};
 ghost use Rattle.rv_emit_layout.specs.declared.layout.OwnedWord.{OwnedWord};
 ghost use Rattle.rv_emit_sequence.specs.Sequences.{sequence_view};
 ghost use Rattle.rv_emit_layout.specs.Laid.{coded_view, firsts_from, laid_view, static_view, stub_form, words_of_all, IsCodeOf, IsEmittedOf};
 ghost use Rattle.rv_emit_layout.specs.Placed.{AreFirstAddresses};
-ghost use Rattle.rv_emit_layout.specs.Words.{laid_words};
 
-use crate::laying::{Laid, lay_out_all};
+use crate::laying::{Laid, lay_out_all, shorten_all};
 use crate::telling::{stops_of, told_all};
-use crate::{OwnedWord, layout_of};
+use crate::{OwnedWord, longest_layout};
 use graph_homes::HomedUnit;
 use memory_map::Map;
 use rv_emit_code::stub;
@@ -38,7 +35,6 @@ struct Coded {
 
 /// What stands before all functions.
 fn stub_sequence(alloc: Global, regions: Map, main: u32) -> Result<Sequence, AllocError>
-    ensures few { IfOk result (λ made. words_in made.pieces.items ≤ 5) }
     ensures form { IfOk result (λ made. sequence_view made ≡ stub_form regions main) }
 {
     Ok(Sequence {
@@ -68,8 +64,7 @@ fn firsts_of(alloc: Global, stub: u32, all: &[Laid]) -> Result<Vec<u32>, AllocEr
 
 /// Appends the words of all functions.
 fn push_functions(all: &[Laid], firsts: &[u32], code: &mut Vec<OwnedWord>) -> Result<(), AllocError>
-    ensures few { OnOk result (length code.new.items ≤ length code.old.items + laid_words all.now) }
-    ensures grown { OnOk result (code.new.items ≡ code.old.items ++ words_of_all firsts.now 0 (map laid_view all.now)) }
+    ensures { OnOk result (code.new.items ≡ code.old.items ++ words_of_all firsts.now 0 (map laid_view all.now)) }
 {
     let mut function = 0u32;
     let mut left = all;
@@ -90,15 +85,17 @@ fn code_of(
     is_planned: bool,
 ) -> Result<Coded, AllocError>
     requires valid { IsValid (homed_view homed.now).unit }
-    requires small { (homed_view homed.now).unit.room ≡ Small }
     ensures each { IfOk result (λ c. length c.all.items ≡ length homed.now.unit.graphs.items) }
     ensures few { is_planned ≡ false
         → IfOk result (λ c. length c.words.items ≤ most_words (map_of_unit (homed_view homed.now).unit)) }
     ensures code { IfOk result (λ c. IsCodeOf (homed_view homed.now) (static_view statics.now) (coded_view c)) }
 {
+    let room = homed.unit.room;
     let before = stub_sequence(alloc, map_of_unit(&homed.unit), homed.unit.main)?;
-    let stub = layout_of(alloc, &before)?;
-    let all = lay_out_all(alloc, statics, homed, is_planned)?;
+    let stub = longest_layout(alloc, room, &before)?;
+    let mut all = lay_out_all(alloc, statics, homed, is_planned)?;
+    let longest = firsts_of(alloc, stub.words, &all)?;
+    shorten_all(alloc, room, &longest, &mut all)?;
     let firsts = firsts_of(alloc, stub.words, &all)?;
     let mut words = Vec::new(alloc);
     stub.push_words(&before, 0, &firsts, &mut words)?;
@@ -109,7 +106,6 @@ fn code_of(
 /// The code of a unit: by plans, as long as it is short enough, which it is without them.
 fn short_code_of(alloc: Global, statics: &Statics, homed: &HomedUnit) -> Result<Coded, AllocError>
     requires valid { IsValid (homed_view homed.now).unit }
-    requires small { (homed_view homed.now).unit.room ≡ Small }
     ensures each { IfOk result (λ c. length c.all.items ≡ length homed.now.unit.graphs.items) }
     ensures few { IfOk result (λ c. length c.words.items ≤ most_words (map_of_unit (homed_view homed.now).unit)) }
     ensures code { IfOk result (λ c. IsCodeOf (homed_view homed.now) (static_view statics.now) (coded_view c)) }
@@ -147,10 +143,9 @@ fn owners_of(alloc: Global, code: &[OwnedWord]) -> Result<Vec<u32>, AllocError>
     Ok(owners)
 }
 
-/// The code of a unit of the smaller room whose names have homes.
+/// The code of a unit whose names have homes.
 pub fn assemble(alloc: Global, homed: &HomedUnit) -> Result<Emitted, AllocError>
     requires valid { IsValid (homed_view homed.now).unit }
-    requires small { (homed_view homed.now).unit.room ≡ Small }
     requires homes { HaveHomes (homed_view homed.now) }
     ensures few { IfOk result (λ e. length e.code.items ≤ most_words e.map) }
     ensures owners { IfOk result (λ e. length e.owners.items ≡ length e.code.items) }

@@ -1,26 +1,18 @@
 //! Where pieces stand in the longest layout.
 
-ghost use Rattle.std.specs.Prelude.{◌≡◌, ℕ, ◌+◌, ◌≤◌, IfOk, length, cond, slice_index, slice_set};
-ghost use Rattle.rv_emit_words.specs.Words.{words_of_piece};
+ghost use Rattle.std.specs.Prelude.{◌≡◌, ℕ, ◌+◌, ◌*◌, ◌≤◌, IfOk, length, cond, slice_index, slice_set};
 ghost use Rattle.rv_emit_sequence.specs.Sequences.{counted, sequence_view};
+ghost use Rattle.rv_emit_layout.specs.Reaches.{farthest, jump_width};
 ghost use Rattle.rv_emit_layout.specs.Longest.{dropped_at, has_word_at, has_word_before, is_dropped, is_nothing, leaves, longest};
 
+use crate::reaching::{farthest, words_of, words_of_jump};
 use crate::spelling::{NOTHING, word_of};
+use memory_map::Room;
 use rv_code::Instruction;
 use rv_emit_sequence::Sequence;
 use rv_emit_sequence::table::{at, put};
 use rv_emit_words::{Piece, PlacedPiece};
 use std::alloc::{AllocError, Global};
-
-/// How many words a piece has at most.
-fn most_words_of(piece: Piece) -> u32
-    ensures { result ≡ words_of_piece piece }
-{
-    match piece {
-        Piece::Branch { .. } => 2,
-        Piece::Word(_) | Piece::Jump(_) | Piece::Call(_) => 1,
-    }
-}
 
 /// Whether a piece is the word that does nothing.
 fn is_nothing(piece: Piece) -> bool
@@ -108,10 +100,11 @@ fn dropped_jumps(alloc: Global, sequence: &Sequence) -> Result<Vec<u32>, AllocEr
 }
 
 /// How many words are counted right before the piece of an index, or before the end, besides those of pieces.
-fn more_at(pieces: &[PlacedPiece], dropped: &[u32], index: usize) -> u32
-    ensures { result ≡ counted (slice_index dropped.now index + cond (has_word_at pieces.now index) 1 0) }
+fn more_at(room: Room, pieces: &[PlacedPiece], dropped: &[u32], index: usize) -> u32
+    ensures { result ≡ counted
+        (jump_width (farthest room) * slice_index dropped.now index + cond (has_word_at pieces.now index) 1 0) }
 {
-    let jumps = number_at(dropped, index);
+    let jumps = number_at(dropped, index).saturating_mul(words_of_jump(farthest(room)));
     match pieces.get(index) {
         Some(piece) if has_word_before(*piece) => jumps.saturating_add(1),
         Some(_) | None => jumps,
@@ -119,18 +112,23 @@ fn more_at(pieces: &[PlacedPiece], dropped: &[u32], index: usize) -> u32
 }
 
 /// Where each piece stands in the longest layout, and behind them the end.
-pub fn longest_offsets(alloc: Global, sequence: &Sequence) -> Result<Vec<u32>, AllocError>
-    ensures { IfOk result (λ offsets. offsets.items ≡ longest (sequence_view sequence.now)) }
+pub fn longest_offsets(
+    alloc: Global,
+    room: Room,
+    sequence: &Sequence,
+) -> Result<Vec<u32>, AllocError>
+    ensures { IfOk result (λ offsets. offsets.items ≡ longest room (sequence_view sequence.now)) }
 {
     let dropped = dropped_jumps(alloc, sequence)?;
+    let most = farthest(room);
     let mut offsets = Vec::new(alloc);
     let mut words = 0u32;
     for index in 0..sequence.pieces.len() {
-        words = words.saturating_add(more_at(&sequence.pieces, &dropped, index));
+        words = words.saturating_add(more_at(room, &sequence.pieces, &dropped, index));
         offsets.push(words)?;
-        words = words.saturating_add(most_words_of(sequence.pieces[index].piece));
+        words = words.saturating_add(words_of(sequence.pieces[index].piece, most));
     }
-    let more = more_at(&sequence.pieces, &dropped, sequence.pieces.len());
+    let more = more_at(room, &sequence.pieces, &dropped, sequence.pieces.len());
     offsets.push(words.saturating_add(more))?;
     Ok(offsets)
 }

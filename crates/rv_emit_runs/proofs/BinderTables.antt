@@ -186,7 +186,7 @@ module _ (p : Program) (owners : List ℕ) (g : Ground) (f : Graph) (is_main : B
           let within_table : k < length f.parameters = slice_get_within f.parameters k (ToScalar x) at in
           let tab : List ℕ = replicate (length f.parameters) 0 in
           let tab_count : length {A = ℕ} tab ≡ length f.parameters = length-replicate {A = ℕ} (length f.parameters) 0 in
-          let word : WordThere p owners s y first g.storage (home_at g.storage x) g.entry 0 (0 + length w.front + length w.code - 1) = word_there p owners s y first firsts there g.storage (home_at g.storage x) k g.entry [] w.front back w.code w.stops pieces w.narrow w.writes in
+          let word : WordThere p owners s y first g.storage (home_at g.storage x) g.entry 0 (0 + length w.front + length w.code - 1) = word_there p owners s y first firsts there g.storage (home_at g.storage x) k g.entry [] w.front back w.code w.stops pieces w.writes in
           let told : slice_get (table (length f.parameters)) k ≡ Some (piece_address y first (length w.front + length w.code - 1)) =
           told_there p owners s y first firsts there (λ i. nat_lt i s.begin) k g.entry tab w.front back w.code w.stops again some (omega (arith, within_table, tab_count))
           (lt-ltb (length w.front + length w.code - 1) s.begin (omega (arith, begins, mine_count, some)))
@@ -196,7 +196,7 @@ module _ (p : Program) (owners : List ℕ) (g : Ground) (f : Graph) (is_main : B
           ∙ others_keep y first (λ i. nat_lt i s.begin) k (length w.front + length mine) w.behind t others) in
           let here : 0 + length w.front + length w.code - 1 ≡ length w.front + length w.code - 1 = omega arith in
           let within = word.within in
-          let none : words_before y.far s.pieces 0 ≡ 0 = none_before y.far s.pieces in
+          let none : words_before y.reaches s.pieces 0 ≡ 0 = none_before y.reaches s.pieces in
           record { index = word.index; within = omega (arith, within, none); writes = word.writes; own = word.own; told = told ∙ ap (λ j. Some (piece_address y first j)) (sym here) ∙ ap (λ a. Some a) word.address }
 
 -- ---- All of them
@@ -208,7 +208,7 @@ module _ (h : HomedForm) (valid : IsValid h.unit) (homed : HaveHomes h) (e : Emi
   abbrev p : Program
   p = program_of e short
 
-  has : HasCode p e.owners emitted.coded
+  has : HasCode h.unit.room p e.owners emitted.coded
   has = record { reach = emitted_in_reach h e emitted; words = emitted.words; own = emitted.owners; stops = ap (λ l. map (λ (x : PlacedStop). x.address) l) emitted.stops }
 
   few : length h.unit.graphs ≤ 4294967295

@@ -25,6 +25,7 @@ use Rattle.rv_emit_steps.proofs.Steps.{going_on, rest_framed}
 use Rattle.rv_emit_code.specs.Beginning.{beginning_behind, beginning_code}
 use Rattle.rv_emit_runs.specs.Keeping.{IsTargetAmong, IsSaved}
 use Rattle.rv_emit_runs.specs.Passing.{passing_code, passing_held, AreWords}
+use Rattle.rv_emit_runs.specs.Pieces.{IsJump}
 use Rattle.rv_emit_runs.specs.Returns.{Resumes, answer_code}
 use Rattle.rv_emit_runs.specs.Waiting.{FunctionCode, IsFunctionCode, setting_of, HoldsAll}
 use Rattle.rv_emit_runs.proofs.Beginning.{ShareStatics}
@@ -75,19 +76,19 @@ module _ (p : Program) (codes : ℕ → FunctionCode) (u : UnitForm) (valid : (k
   -- A function.
   pub function_call_done : ShareStatics codes → (function at : ℕ) (few : length arguments ≤ 8) (is_main : Bool) (block : Block) → c.here.rest ≡ placed_instruction (home_at (codes c.here.function).storage) (Call target (callee.Function function) arguments) ∷ rest
       → CodeAt p i b (passing_code (codes c.here.function).storage 0 held arguments)
-      → IsAt p (i + length (passing_code (codes c.here.function).storage 0 held arguments)) (behind b (passing_code (codes c.here.function).storage 0 held arguments)) (instruction.Jal 1 (distance (i + length (passing_code (codes c.here.function).storage 0 held arguments)) at))
+      → (after : ℕ) → after ≤ i + length (passing_code (codes c.here.function).storage 0 held arguments) + 2 → IsJump p (i + length (passing_code (codes c.here.function).storage 0 held arguments)) (behind b (passing_code (codes c.here.function).storage 0 held arguments)) 1 1 at after
       → CodeAt p at false (beginning_code (codes function).storage (codes function).graph (codes function).saved (codes function).size is_main) → length arguments ≡ length (codes function).graph.parameters
-      → AreBindable (codes function).storage (codes function).graph (codes function).saved (codes function).graph.parameters → i + length (passing_code (codes c.here.function).storage 0 held arguments) + 1 ≤ most_words (map_of_unit u)
-      → Resumes p codes goes_on (record (going_on c rest).here { wants = option_map (placed (home_at (codes c.here.function).storage)) target }) (i + length (passing_code (codes c.here.function).storage 0 held arguments) + 1)
+      → AreBindable (codes function).storage (codes function).graph (codes function).saved (codes function).graph.parameters → after ≤ most_words (map_of_unit u)
+      → Resumes p codes goes_on (record (going_on c rest).here { wants = option_map (placed (home_at (codes c.here.function).storage)) target }) after
       → slice_get u.graphs function ≡ Some (placed_graph (home_at (codes function).storage) (codes function).graph) → slice_get (placed_graph (home_at (codes function).storage) (codes function).graph).blocks 0 ≡ Some block
-      → DoesFunctionCall p s b (length (passing_code (codes c.here.function).storage 0 held arguments) + 4 + length (beginning_behind (codes function).storage (codes function).graph (codes function).saved (codes function).size is_main))
+      → DoesFunctionCall p s b (length (passing_code (codes c.here.function).storage 0 held arguments) + 5 + length (beginning_behind (codes function).storage (codes function).graph (codes function).saved (codes function).size is_main))
       (at + 1 + 1 + 1 + 1 + length (beginning_behind (codes function).storage (codes function).graph (codes function).saved (codes function).size is_main)) codes u (Resumes p codes goes_on) (step u c)
-  function_call_done share function at few is_main block is code jump begin many bindable low resume has_graph has_block =
+  function_call_done share function at few is_main block is code after short jump begin many bindable low resume has_graph has_block =
       call_step
-      (λ q. DoesFunctionCall p s b (length (passing_code (codes c.here.function).storage 0 held arguments) + 4 + length (beginning_behind (codes function).storage (codes function).graph (codes function).saved (codes function).size is_main))
+      (λ q. DoesFunctionCall p s b (length (passing_code (codes c.here.function).storage 0 held arguments) + 5 + length (beginning_behind (codes function).storage (codes function).graph (codes function).saved (codes function).size is_main))
       (at + 1 + 1 + 1 + 1 + length (beginning_behind (codes function).storage (codes function).graph (codes function).saved (codes function).size is_main)) codes u (Resumes p codes goes_on) q)
       (callee.Function function) is tt
-      (call_done codes u valid addresses (Resumes p codes goes_on) share p s i b held (going_on c rest) h (all_going_on codes u addresses (Resumes p codes goes_on) held c h rest all) stands function at arguments few legal fit code jump is_main begin block (option_map (placed home) target) many bindable low
+      (call_done codes u valid addresses (Resumes p codes goes_on) share p s i b held (going_on c rest) h (all_going_on codes u addresses (Resumes p codes goes_on) held c h rest all) stands function at arguments few legal fit code after short jump is_main begin block (option_map (placed home) target) many bindable low
       resume has_graph has_block)
 
   -- The environment: how many words stand before the call, and what stands behind it.

@@ -1,5 +1,5 @@
 -- The code of a call of a function passes its arguments, goes to where the function begins and makes its frame; or the run ends where as many activations live as may.
-use Rattle.std.proofs.Common.{◌≡◌, ◌≢◌, ℕ, ◌+◌, ◌<◌, ◌≤◌, ◌⊎◌, ⊎_elim, inl, inr, sym, ap, ◌∙◌, subst, arith, refl, Option, Some, Bool, true, false, cond, not, List, [], ◌∷◌, length, map, slice_get}
+use Rattle.std.proofs.Common.{◌≡◌, ◌≢◌, ℕ, ◌+◌, ◌-◌, ◌<◌, ◌≤◌, ◌⊎◌, ⊎_elim, inl, inr, sym, ap, ◌∙◌, subst, arith, refl, Option, Some, Bool, true, false, cond, not, List, [], ◌∷◌, length, map, slice_get}
 use Rattle.std.specs.Prelude.{◌==◌, option_map, option_and_then}
 use Rattle.std.specs.List.{AllByRecursion}
 use Rattle.std.proofs.lemmas.Bool.{eqb-true, eq-eqb, ne_eqb, cases_lt}
@@ -25,7 +25,8 @@ use Rattle.rv_emit_steps.specs.Doing.{done_by_all, writing}
 use Rattle.rv_emit_steps.specs.Programs.{Program, address_of, distance, IsAt, CodeAt, behind, Stands}
 use Rattle.rv_emit_steps.specs.Points.{Reaches}
 use Rattle.rv_emit_steps.proofs.Calling.{ends_too_deep}
-use Rattle.rv_emit_steps.proofs.Jumping.{distance_leads, jump_does, branch_taken, branch_not_taken}
+use Rattle.rv_emit_runs.specs.Pieces.{IsJump}
+use Rattle.rv_emit_steps.proofs.Jumping.{branch_taken, branch_not_taken}
 use Rattle.rv_emit_steps.proofs.Placing.{reaches_then, reaches_end, regions_stay}
 use Rattle.rv_emit_steps.proofs.Registers.{register_other}
 use Rattle.rv_emit_steps.proofs.Standing.{index_low}
@@ -43,7 +44,7 @@ use Rattle.rv_emit_runs.proofs.Bindings.{AreGiven, AreBindable, argument_is}
 use Rattle.rv_emit_runs.proofs.Bringing.{HoldsWords, words_in_range, read_fits}
 use Rattle.rv_emit_runs.proofs.Keeping.{all_found}
 use Rattle.rv_emit_runs.proofs.Passing.{Passes, arguments_pass}
-use Rattle.rv_emit_runs.proofs.Placed.{behind_none}
+use Rattle.rv_emit_runs.proofs.Placed.{behind_none, call_goes}
 use Rattle.rv_emit_runs.proofs.Restoring.{low_no_home}
 use Rattle.rv_emit_runs.proofs.Returning.{EndsRun}
 
@@ -86,7 +87,7 @@ DoesFunctionCall p s b most to codes u resumes Wild = Unit {0}
 module _ (codes : ℕ → FunctionCode) (u : UnitForm) (valid : (k : ℕ) → IsFunctionCode u (codes k)) (addresses : ℕ → ℕ) (resumes : Activation → ℕ → Type 0) (share : ShareStatics codes) (p : Program) (s : MachineState) (i : ℕ) (b : Bool) (held : List Held) (c : Configuration) (h : Holding)
     (all : HoldsAll codes u addresses resumes held c h) (stands : Stands p s i h) (function at : ℕ) (arguments : List Operand) (few : length arguments ≤ 8) (legal : AllByRecursion (IsOperand u.statics (codes c.here.function).graph) arguments) (fit : AreWords arguments)
     (code : CodeAt p i b (passing_code (codes c.here.function).storage 0 held arguments))
-    (jump : IsAt p (i + length (passing_code (codes c.here.function).storage 0 held arguments)) (behind b (passing_code (codes c.here.function).storage 0 held arguments)) (instruction.Jal 1 (distance (i + length (passing_code (codes c.here.function).storage 0 held arguments)) at))) (is_main : Bool)
+    (after : ℕ) (short : after ≤ i + length (passing_code (codes c.here.function).storage 0 held arguments) + 2) (jump : IsJump p (i + length (passing_code (codes c.here.function).storage 0 held arguments)) (behind b (passing_code (codes c.here.function).storage 0 held arguments)) 1 1 at after) (is_main : Bool)
     (begin : CodeAt p at false (beginning_code (codes function).storage (codes function).graph (codes function).saved (codes function).size is_main)) where
   abbrev w : Setting
   w = setting_of u addresses held (codes c.here.function)
@@ -104,24 +105,23 @@ module _ (codes : ℕ → FunctionCode) (u : UnitForm) (valid : (k : ℕ) → Is
   t0 = done_by_all (passing_code (codes c.here.function).storage 0 held arguments) h
 
   abbrev t1 : Holding
-  t1 = writing 1 (address_of (i + length (passing_code (codes c.here.function).storage 0 held arguments) + 1)) t0
+  t1 = writing 1 (address_of after) t0
 
   at_low : at < 1000000000
   at_low = index_low p at false (instruction.Branch Bne 4 0 12) begin.0
 
   -- The machine where the function begins.
-  entered : Reaches p (length (passing_code (codes c.here.function).storage 0 held arguments) + 1) (record { state = s; shown = b }) [] at false t1
+  entered : Reaches p (length (passing_code (codes c.here.function).storage 0 held arguments) + (after - (i + length (passing_code (codes c.here.function).storage 0 held arguments)))) (record { state = s; shown = b }) [] at false t1
   entered =
       let first = code_does p s i h b passing stands code pass.can in
-      let low = index_low p k (behind b passing) (instruction.Jal 1 (distance k at)) jump in
-      reaches_then p (length passing) 1 (record { state = s; shown = b }) [] k (behind b passing) t0 [] at false t1 first
-      (jump_does p first.state k t0 at (behind b passing) 1 (distance k at) first.stands jump (distance_leads k at low (let lt = at_low in omega (arith, lt))))
+      reaches_then p (length passing) (after - k) (record { state = s; shown = b }) [] k (behind b passing) t0 [] at false t1 first
+      (call_goes p first.state k t0 (behind b passing) at after first.stands jump (let lt = at_low in omega (arith, lt)))
 
   low_found : (q : ℕ) → q ≤ 4 → q ≢ 1 → t1.registers q ≡ h.registers q
-  low_found q le n1 = register_other 1 (address_of (k + 1)) q t0.registers n1 ∙ pass.kept q (λ e. omega (arith, le, e)) (inl (omega (arith, le)))
+  low_found q le n1 = register_other 1 (address_of after) q t0.registers n1 ∙ pass.kept q (λ e. omega (arith, le, e)) (inl (omega (arith, le)))
 
   home_found : (r : ℕ) → IsHomeRegister r → t1.registers r ≡ h.registers r
-  home_found r is = register_other 1 (address_of (k + 1)) r t0.registers (λ e. low_no_home 1 r (omega arith) is (sym e)) ∙ pass.kept r (home_no_t0 r is) (⊎_elim (λ (l : r < 10). inl (omega (arith, l))) (λ (u2 : 17 < r). inr u2) (home_no_argument r is))
+  home_found r is = register_other 1 (address_of after) r t0.registers (λ e. low_no_home 1 r (omega arith) is (sym e)) ∙ pass.kept r (home_no_t0 r is) (⊎_elim (λ (l : r < 10). inl (omega (arith, l))) (λ (u2 : 17 < r). inr u2) (home_no_argument r is))
 
   all1 : HoldsAll codes u addresses resumes [] c t1
   all1 = all_found codes u valid addresses resumes held c h t1 all low_found home_found (regions_stay (passing_code (codes c.here.function).storage 0 held arguments) h) pass.memory pass.input
@@ -130,10 +130,10 @@ module _ (codes : ℕ → FunctionCode) (u : UnitForm) (valid : (k : ℕ) → Is
   values = map (value u.statics c.here.names) (map (placed_operand (home_at (codes c.here.function).storage)) arguments)
 
   given : AreGiven addresses c.memory t1 0 (map (value u.statics c.here.names) (map (placed_operand (home_at (codes c.here.function).storage)) arguments))
-  given = given_passed w c h t0 0 arguments ((valid c.here.function).storage addresses held) all.here (words_in_range h stands.in_range) (omega (arith, few)) legal fit pass.passed (address_of (k + 1))
+  given = given_passed w c h t0 0 arguments ((valid c.here.function).storage addresses held) all.here (words_in_range h stands.in_range) (omega (arith, few)) legal fit pass.passed (address_of after)
 
   -- No activation may begin.
-  too_deep : length c.waiting + 1 ≡ 1024 → EndsRun p s b (length (passing_code (codes c.here.function).storage 0 held arguments) + 4) DepthExceeded
+  too_deep : length c.waiting + 1 ≡ 1024 → EndsRun p s b (length (passing_code (codes c.here.function).storage 0 held arguments) + 5) DepthExceeded
   unfolding taken operated_immediate
   too_deep full =
       let depth = all1.depth in
@@ -146,17 +146,17 @@ module _ (codes : ℕ → FunctionCode) (u : UnitForm) (valid : (k : ℕ) → Is
       let number : t2.registers 17 ≡ 3 = omega (arith, zero) in
       let last = ends_too_deep p two.state (at + 1 + 1) t2 false two.stands begin.1.1.0 number in
       record {
-        count = length passing + 1 + (1 + (1 + 1));
-        few = omega arith;
+        count = length passing + (after - k) + (1 + (1 + 1));
+        few = omega (arith, short);
         event = TooDeep;
         shown = deep_so;
-        ends = reaches_end p (length passing + 1) (1 + (1 + 1)) (record { state = s; shown = b }) [] at false t1 (TooDeep ∷ []) entered
+        ends = reaches_end p (length passing + (after - k)) (1 + (1 + 1)) (record { state = s; shown = b }) [] at false t1 (TooDeep ∷ []) entered
             (reaches_end p 1 (1 + 1) (record { state = entered.state; shown = false }) [] (at + 1) false t1 (TooDeep ∷ []) one (reaches_end p 1 1 (record { state = one.state; shown = false }) [] (at + 1 + 1) false t2 (TooDeep ∷ []) two last));
       }
 
   -- One may, of a function that has a block.
   module _ (block : Block) (wanted : Option ℕ) (many : length arguments ≡ length (codes function).graph.parameters) (bindable : AreBindable (codes function).storage (codes function).graph (codes function).saved (codes function).graph.parameters)
-      (low_index : i + length (passing_code (codes c.here.function).storage 0 held arguments) + 1 ≤ most_words (map_of_unit u)) (resume : resumes (record c.here { wants = wanted }) (i + length (passing_code (codes c.here.function).storage 0 held arguments) + 1)) where
+      (low_index : after ≤ most_words (map_of_unit u)) (resume : resumes (record c.here { wants = wanted }) after) where
     abbrev graph : Graph
     graph = placed_graph (home_at (codes function).storage) (codes function).graph
 
@@ -166,7 +166,7 @@ module _ (codes : ℕ → FunctionCode) (u : UnitForm) (valid : (k : ℕ) → Is
     abbrev g : Holding
     g = done_by_all (instruction.Immediate Addi 4 4 4294967295 ∷ []) t1
 
-    guarded : length c.waiting + 1 ≢ 1024 → Reaches p (length (passing_code (codes c.here.function).storage 0 held arguments) + 1 + (1 + 1)) (record { state = s; shown = b }) [] (at + 1 + 1 + 1 + 1) false g
+    guarded : length c.waiting + 1 ≢ 1024 → Reaches p (length (passing_code (codes c.here.function).storage 0 held arguments) + (after - (i + length (passing_code (codes c.here.function).storage 0 held arguments))) + (1 + 1)) (record { state = s; shown = b }) [] (at + 1 + 1 + 1 + 1) false g
     unfolding taken
     guarded free =
         let depth = all1.depth in
@@ -175,7 +175,7 @@ module _ (codes : ℕ → FunctionCode) (u : UnitForm) (valid : (k : ℕ) → Is
         let on : taken Bne (t1.registers 4) (t1.registers 0) ≡ true = ap not (ne_eqb (t1.registers 4) (t1.registers 0) some) in
         let one = branch_taken p entered.state at t1 (at + 1 + 1 + 1) false Bne 4 0 12 entered.stands begin.0 on (let lt = at_low in omega (arith, lt)) in
         let two = code_does p one.state (at + 1 + 1 + 1) t1 false (instruction.Immediate Addi 4 4 4294967295 ∷ []) one.stands (begin.1.1.1.0, tt) (tt, tt) in
-        reaches_then p (length passing + 1) (1 + 1) (record { state = s; shown = b }) [] at false t1 [] (at + 1 + 1 + 1 + 1) false g entered
+        reaches_then p (length passing + (after - k)) (1 + 1) (record { state = s; shown = b }) [] at false t1 [] (at + 1 + 1 + 1 + 1) false g entered
         (reaches_then p 1 1 (record { state = entered.state; shown = false }) [] (at + 1 + 1 + 1) false t1 [] (at + 1 + 1 + 1 + 1) false g one two)
 
     one_less : length c.waiting + 1 ≢ 1024 → g.registers 4 + 1 ≡ t1.registers 4
@@ -192,31 +192,31 @@ module _ (codes : ℕ → FunctionCode) (u : UnitForm) (valid : (k : ℕ) → Is
     enough : length (map (value u.statics c.here.names) (map (placed_operand (home_at (codes c.here.function).storage)) arguments)) ≡ length (codes function).graph.parameters
     enough = length_mapped (value u.statics c.here.names) (map (placed_operand (home_at (codes c.here.function).storage)) arguments) ∙ length_mapped (placed_operand (home_at (codes c.here.function).storage)) arguments ∙ many
 
-    begins_there : length c.waiting + 1 ≢ 1024 → Begins p s b (length (passing_code (codes c.here.function).storage 0 held arguments) + 3 + length (beginning_behind (codes function).storage (codes function).graph (codes function).saved (codes function).size is_main))
+    begins_there : length c.waiting + 1 ≢ 1024 → Begins p s b (length (passing_code (codes c.here.function).storage 0 held arguments) + 4 + length (beginning_behind (codes function).storage (codes function).graph (codes function).saved (codes function).size is_main))
         (at + 1 + 1 + 1 + 1 + length (beginning_behind (codes function).storage (codes function).graph (codes function).saved (codes function).size is_main)) codes u resumes
         (begun c.memory c.input function (map (value u.statics c.here.names) (map (placed_operand (home_at (codes c.here.function).storage)) arguments)) (record c.here { wants = wanted } ∷ c.waiting) graph block)
     begins_there free =
         let there = guarded free in
         let deep : length c.waiting + 2 ≤ 1024 = let depth = all1.depth in let less = one_less free in omega (arith, depth, less) in
         let params : length (codes function).graph.parameters ≤ 8 = omega (arith, many, few) in
-        let can = beginning_can codes u valid addresses resumes share c t1 g all1 function (k + 1) low_index others_same refl refl refl (one_less free) refl there.stands.in_range.words deep graph block wanted values is_main given enough params bindable resume in
+        let can = beginning_can codes u valid addresses resumes share c t1 g all1 function after low_index others_same refl refl refl (one_less free) refl there.stands.in_range.words deep graph block wanted values is_main given enough params bindable resume in
         let last = code_does p there.state (at + 1 + 1 + 1 + 1) g false rest there.stands begin.1.1.1.1 can.0 in
         record {
-          addresses = now codes u valid addresses resumes share c t1 g all1 function (k + 1) low_index others_same refl refl refl (one_less free) refl there.stands.in_range.words deep;
-          count = length passing + 1 + (1 + 1) + length rest;
-          few = omega arith;
-          holding = t5 codes u valid addresses resumes share c t1 g all1 function (k + 1) low_index others_same refl refl refl (one_less free) refl there.stands.in_range.words deep graph block wanted values is_main given enough params bindable resume;
+          addresses = now codes u valid addresses resumes share c t1 g all1 function after low_index others_same refl refl refl (one_less free) refl there.stands.in_range.words deep;
+          count = length passing + (after - k) + (1 + 1) + length rest;
+          few = omega (arith, short);
+          holding = t5 codes u valid addresses resumes share c t1 g all1 function after low_index others_same refl refl refl (one_less free) refl there.stands.in_range.words deep graph block wanted values is_main given enough params bindable resume;
           reaches = subst
-              (λ (q : Holding). Reaches p (length passing + 1 + (1 + 1) + length rest) (record { state = s; shown = b }) [] (at + 1 + 1 + 1 + 1 + length rest) false q)
+              (λ (q : Holding). Reaches p (length passing + (after - k) + (1 + 1) + length rest) (record { state = s; shown = b }) [] (at + 1 + 1 + 1 + 1 + length rest) false q)
               can.1
-              (subst (λ q. Reaches p (length passing + 1 + (1 + 1) + length rest) (record { state = s; shown = b }) [] (at + 1 + 1 + 1 + 1 + length rest) q (done_by_all rest g)) (behind_none rest)
-              (reaches_then p (length passing + 1 + (1 + 1)) (length rest) (record { state = s; shown = b }) [] (at + 1 + 1 + 1 + 1) false g [] (at + 1 + 1 + 1 + 1 + length rest) (behind false rest) (done_by_all rest g) there last));
-          all = begins codes u valid addresses resumes share c t1 g all1 function (k + 1) low_index others_same refl refl refl (one_less free) refl there.stands.in_range.words deep graph block wanted values is_main given enough params bindable resume;
+              (subst (λ q. Reaches p (length passing + (after - k) + (1 + 1) + length rest) (record { state = s; shown = b }) [] (at + 1 + 1 + 1 + 1 + length rest) q (done_by_all rest g)) (behind_none rest)
+              (reaches_then p (length passing + (after - k) + (1 + 1)) (length rest) (record { state = s; shown = b }) [] (at + 1 + 1 + 1 + 1) false g [] (at + 1 + 1 + 1 + 1 + length rest) (behind false rest) (done_by_all rest g) there last));
+          all = begins codes u valid addresses resumes share c t1 g all1 function after low_index others_same refl refl refl (one_less free) refl there.stands.in_range.words deep graph block wanted values is_main given enough params bindable resume;
         }
 
     -- The step of the call.
     pub call_done : slice_get u.graphs function ≡ Some (placed_graph (home_at (codes function).storage) (codes function).graph) → slice_get (placed_graph (home_at (codes function).storage) (codes function).graph).blocks 0 ≡ Some block
-        → DoesFunctionCall p s b (length (passing_code (codes c.here.function).storage 0 held arguments) + 4 + length (beginning_behind (codes function).storage (codes function).graph (codes function).saved (codes function).size is_main))
+        → DoesFunctionCall p s b (length (passing_code (codes c.here.function).storage 0 held arguments) + 5 + length (beginning_behind (codes function).storage (codes function).graph (codes function).saved (codes function).size is_main))
         (at + 1 + 1 + 1 + 1 + length (beginning_behind (codes function).storage (codes function).graph (codes function).saved (codes function).size is_main)) codes u resumes
         (call_function u c wanted function (map (value u.statics c.here.names) (map (placed_operand (home_at (codes c.here.function).storage)) arguments)))
     call_done has_graph has_block = by_test (length c.waiting + 1 == 1024) refl
@@ -227,11 +227,11 @@ module _ (codes : ℕ → FunctionCode) (u : UnitForm) (valid : (k : ℕ) → Is
             ∙ ap (λ q. goes_if (option_map (begun c.memory c.input function values (record c.here { wants = wanted } ∷ c.waiting) graph) q)) has_block
 
         by_test : (full : Bool) → (length c.waiting + 1 == 1024) ≡ full
-            → DoesFunctionCall p s b (length passing + 4 + length rest) (at + 1 + 1 + 1 + 1 + length rest) codes u resumes (cond full (EndsUnit DepthExceeded) (goes_if (enter u c.memory c.input function values (record c.here { wants = wanted } ∷ c.waiting))))
+            → DoesFunctionCall p s b (length passing + 5 + length rest) (at + 1 + 1 + 1 + 1 + length rest) codes u resumes (cond full (EndsUnit DepthExceeded) (goes_if (enter u c.memory c.input function values (record c.here { wants = wanted } ∷ c.waiting))))
         by_test true e =
             let ends = too_deep (eqb-true (length c.waiting + 1) 1024 e) in
             record { count = ends.count; few = let most = ends.few in omega (arith, most); event = ends.event; shown = ends.shown; ends = ends.ends }
         by_test false e =
             let there = begins_there (λ same. cc (eq-eqb (length c.waiting + 1) 1024 same)) in
-            subst (λ q. DoesFunctionCall p s b (length passing + 4 + length rest) (at + 1 + 1 + 1 + 1 + length rest) codes u resumes q) (sym goes)
+            subst (λ q. DoesFunctionCall p s b (length passing + 5 + length rest) (at + 1 + 1 + 1 + 1 + length rest) codes u resumes q) (sym goes)
             (record { addresses = there.addresses; count = there.count; few = let most = there.few in omega (arith, most); holding = there.holding; reaches = there.reaches; all = there.all })

@@ -1,10 +1,10 @@
 -- The machine does the step of a call: a function begins, a byte is put out or read, the run ends.
-use Rattle.std.proofs.Common.{◌≡◌, ℕ, ◌+◌, ◌<◌, ◌≤◌, sym, ap, ◌∙◌, subst, arith, refl, Option, Some, None, Bool, true, false, cond, List, [], ◌∷◌, ◌++◌, length, length-append, map, slice_get}
+use Rattle.std.proofs.Common.{◌≡◌, ℕ, ◌+◌, ◌-◌, ◌<◌, ◌≤◌, sym, ap, ◌∙◌, subst, arith, refl, Option, Some, None, Bool, true, false, cond, List, [], ◌∷◌, ◌++◌, length, length-append, map, slice_get}
 use Rattle.std.specs.Prelude.{◌==◌, option_map}
 use Rattle.std.specs.List.{AllByRecursion, list_any}
 use Rattle.std.proofs.lemmas.Option.{slice_get_within}
 use Rattle.memory_map.specs.Maps.{most_words}
-use Rattle.rv_emit_runs.proofs.Maps.{code_map, index_inside}
+use Rattle.rv_emit_runs.proofs.Maps.{code_map, jump_inside}
 use Rattle.rv_emit_storage.specs.UnitMaps.{map_of_unit}
 use Rattle.rv_code.specs.declared.instruction.Instruction.{Instruction as MachineInstruction}
 use Rattle.rv_code.specs.declared.instruction.Instruction.TheVariants as instruction
@@ -255,7 +255,7 @@ module _ (h : HomedForm) (valid : IsValid h.unit) (homed : HaveHomes h) (e : Emi
 
     -- The activation waits where its code goes on.
     resume : Resumes (program_in h e code) (codes_in h e code) (GoesOn h e code) (record (going_on c (map (placed_instruction (home_at (codes_in h e code c.here.function).storage)) more)).here { wants = option_map (placed (home_at (codes_in h e code c.here.function).storage)) target })
-        (r.index + length (passing_code (codes_in h e code c.here.function).storage 0 r.held arguments) + 1)
+        there.after
     resume =
         let waits = subst (λ k. RestFrom h e code (passed_by (position_of r.rest) (Call target callee_is arguments) more) (spot_of (going_on c rest).here) k [] false) there.is later in
         record {
@@ -266,20 +266,20 @@ module _ (h : HomedForm) (valid : IsValid h.unit) (homed : HaveHomes h) (e : Emi
           code = there.answers;
           rest = record {
             rest = waits.rest;
-            call = r.index + length passing;
+            call = there.after - 1;
             target = option_map home target;
             wants = wanted_home home target;
             among = among;
-            is = refl;
+            is = (let some = there.some in omega (arith, some));
             owned = there.owned ∙ same_owner;
             calls = ap (λ (p : Position). called p.history) waits.is;
           };
         }
 
     -- The index behind the call is one of the code, or that behind it.
-    low_index : r.index + length (passing_code (codes_in h e code c.here.function).storage 0 r.held arguments) + 1 ≤ most_words (map_of_unit (over_homes h))
+    low_index : there.after ≤ most_words (map_of_unit (over_homes h))
     low_index =
-        let low_call = index_inside (program_in h e code) (r.index + length passing) (behind q.shown passing) (instruction.Jal 1 (distance (r.index + length passing) (code.arrangement.function function))) there.calls in
+        let low_call = jump_inside (program_in h e code) (r.index + length passing) (behind q.shown passing) 1 1 (code.arrangement.function function) there.after there.calls in
         let same : most_words (map_of_unit (over_homes h)) ≡ most_words e.map = ap (λ m. most_words m) (code_map h e code) in
         omega (arith, low_call, same)
 
@@ -305,21 +305,21 @@ module _ (h : HomedForm) (valid : IsValid h.unit) (homed : HaveHomes h) (e : Emi
     begins_behind = length (beginning_behind (codes_in h e code function).storage (codes_in h e code function).graph (codes_in h e code function).saved (codes_in h e code function).size (function == h.unit.main))
 
     abbrev Done : Stepped → Type 0
-    Done z = DoesFunctionCall (program_in h e code) q.state q.shown (length passing + 4 + begins_behind) (code.arrangement.function function + 1 + 1 + 1 + 1 + begins_behind) (codes_in h e code) (over_homes h) (Resumes (program_in h e code) (codes_in h e code) (GoesOn h e code)) z
+    Done z = DoesFunctionCall (program_in h e code) q.state q.shown (length passing + 5 + begins_behind) (code.arrangement.function function + 1 + 1 + 1 + 1 + begins_behind) (codes_in h e code) (over_homes h) (Resumes (program_in h e code) (codes_in h e code) (GoesOn h e code)) z
 
     -- The words before it lead there.
     done : Done (step (over_homes h) c)
     done =
         function_call_done (program_in h e code) (codes_in h e code) (over_homes h) (all_codes h valid homed code.arrangement (over_homes h)) r.addresses (GoesOn h e code) q.state r.index q.shown r.held c r.holding r.all r.stands target wants rest arguments legal fit
         (share_statics h valid homed code.arrangement) function (code.arrangement.function function) few (function == h.unit.main) (placed_block (home_at (codes_in h e code function).storage) (first_block h valid e code function low).block)
-        (rest_is h valid homed e code c q r (Call target callee_is arguments) more is ∙ ap (λ k. placed_instruction home (Call target k arguments) ∷ rest) same) there.passes there.calls (begins_there h valid e code function low).0 many (are_bindable h valid homed code.arrangement function low) low_index resume
+        (rest_is h valid homed e code c q r (Call target callee_is arguments) more is ∙ ap (λ k. placed_instruction home (Call target k arguments) ∷ rest) same) there.passes there.after there.few there.calls (begins_there h valid e code function low).0 many (are_bindable h valid homed code.arrangement function low) low_index resume
         (over_homes_there h code.arrangement function low) (block_over_homes h valid e code function low)
 
     -- Its first block stands behind its beginning.
     label_is : code.arrangement.label function 0 ≡ code.arrangement.function function + 1 + 1 + 1 + 1 + begins_behind
     label_is = let at = (begins_there h valid e code function low).1 in omega (arith, at)
 
-    begun_step : Done (Goes d) → DoesStep h e code (position_of r.rest) (length passing + 4 + begins_behind) q (Goes d)
+    begun_step : Done (Goes d) → DoesStep h e code (position_of r.rest) (length passing + 5 + begins_behind) q (Goes d)
     begun_step begins =
         let first = subst (λ k. RestFrom h e code (at_block function 0 (first_block h valid e code function low).block []) (spot_of d.here) k [] false) label_is (activation_begins h valid e code function low c.memory c.input values waiting) in
         record {
@@ -339,13 +339,13 @@ module _ (h : HomedForm) (valid : IsValid h.unit) (homed : HaveHomes h) (e : Emi
           advances = subst (λ p. Advances (blocks_in h e code) (position_of r.rest) p) (sym first.is) (begins_function target function arguments more (first_block h valid e code function low).block (is ∙ ap (λ k. Call target k arguments ∷ more) same) refl);
         }
 
-    by_tests : (odd full : Bool) → Done (cond odd Wild (cond full (EndsUnit TooDeep) (Goes d))) → DoesStep h e code (position_of r.rest) (length passing + 4 + begins_behind) q (cond odd Wild (cond full (EndsUnit TooDeep) (Goes d)))
+    by_tests : (odd full : Bool) → Done (cond odd Wild (cond full (EndsUnit TooDeep) (Goes d))) → DoesStep h e code (position_of r.rest) (length passing + 5 + begins_behind) q (cond odd Wild (cond full (EndsUnit TooDeep) (Goes d)))
     by_tests true full it = tt
     by_tests false true it = end_done h e code q _ TooDeep it tt
     by_tests false false it = begun_step it
 
-    -- Passing the arguments takes no more words than the instruction has pieces.
-    passing_few : length passing ≤ pieces_of (codes_in h e code c.here.function).storage (codes_in h e code c.here.function).graph.entry (Call target callee_is arguments) (growing r.held r.rest.owner q.shown)
+    -- Passing the arguments takes fewer words than the instruction has pieces.
+    passing_few : length passing + 1 ≤ pieces_of (codes_in h e code c.here.function).storage (codes_in h e code c.here.function).graph.entry (Call target callee_is arguments) (growing r.held r.rest.owner q.shown)
     passing_few =
         let s : CodeState = growing r.held r.rest.owner q.shown in
         let many = called_pieces f.storage target function arguments s in
@@ -355,5 +355,5 @@ module _ (h : HomedForm) (valid : IsValid h.unit) (homed : HaveHomes h) (e : Emi
     pub function_step : DoesStep h e code (position_of r.rest) (pieces_of (codes_in h e code c.here.function).storage (codes_in h e code c.here.function).graph.entry (Call target callee_is arguments) (growing r.held r.rest.owner q.shown) + 4 + length (beginning_behind (codes_in h e code function).storage (codes_in h e code function).graph (codes_in h e code function).saved (codes_in h e code function).size (function == h.unit.main))) q (step (over_homes h) c)
     function_step =
         let few = passing_few in
-        does_within h e code (position_of r.rest) (length passing + 4 + begins_behind) _ q (step (over_homes h) c) (omega (arith, few))
-        (subst (λ z. DoesStep h e code (position_of r.rest) (length passing + 4 + begins_behind) q z) (sym does) (by_tests (list_any is_odd values) (length c.waiting + 1 == 1024) (subst (λ z. Done z) does done)))
+        does_within h e code (position_of r.rest) (length passing + 5 + begins_behind) _ q (step (over_homes h) c) (omega (arith, few))
+        (subst (λ z. DoesStep h e code (position_of r.rest) (length passing + 5 + begins_behind) q z) (sym does) (by_tests (list_any is_odd values) (length c.waiting + 1 == 1024) (subst (λ z. Done z) does done)))

@@ -2,18 +2,23 @@
 use Rattle.std.proofs.Common.{◌≡◌, ◌≢◌, ℕ, ◌+◌, ◌-◌, ◌*◌, ◌<◌, ◌≤◌, sym, ap, ◌∙◌, subst, arith, Option, Some, Bool, true, false, cond, List, [], ◌∷◌, ◌++◌, length, append-nil}
 use Rattle.std.specs.Prelude.{◌==◌}
 use Rattle.std.specs.Option.{option_map_or}
+use Rattle.rv_code.specs.declared.instruction.Instruction.TheVariants as instruction
+use Rattle.rv_code.specs.declared.instruction.StoreOperation.TheVariants.{Sw}
 use Rattle.graph_core.specs.declared.instruction.Callee.TheVariants as callee
-use Rattle.graph_core.specs.Graphs.{Operand, Instruction, Marker, Zero, CopyWords, Call, Return, Block}
+use Rattle.graph_core.specs.Graphs.{Operand, Instruction, Marker, Zero, CopyWords, Call, Return, Block, Graph}
 use Rattle.graph_core.specs.Paths.{Path, place_of, called}
 use Rattle.graph_core.specs.Validity.{KeepsPlace, place_behind}
 use Rattle.graph_core.specs.WellMarked.{InPlace}
+use Rattle.word_base.specs.Arithmetic.{subtracted}
 use Rattle.graph_core_weights.proofs.Standing.{StandsSo, path_stands, IsStart, in_place}
 use Rattle.graph_core_weights.proofs.Sums.{sum_has}
 use Rattle.graph_homes.specs.Homed.{HomedForm}
 use Rattle.rv_emit_tables.specs.Emitted.{EmittedForm}
 use Rattle.rv_emit_words.specs.declared.piece.Held.{Held}
+use Rattle.rv_emit_storage.specs.Storages.{StorageForm}
 use Rattle.rv_emit_words.specs.Growing.{CodeState}
-use Rattle.rv_emit_code.specs.Beginning.{beginning_behind}
+use Rattle.rv_emit_code.specs.Beginning.{beginning_behind, base_code, bindings_code, saving_code}
+use Rattle.rv_emit_code.specs.Leaving.{moving_code}
 use Rattle.rv_emit_runs.specs.Waiting.{FunctionCode}
 use Rattle.rv_emit_runs.specs.Laid.{IsCode}
 use Rattle.rv_emit_runs.proofs.Beginnings.{FirstBlock, first_block, begins_there}
@@ -29,6 +34,15 @@ use Rattle.rv_emit_runs.proofs.Amounts.{plain_cost, early_cost, later_cost, firs
 use Rattle.rv_emit_runs.proofs.Payments.{pay, pay_few}
 use Rattle.rv_emit_runs.proofs.Totals.{first_there, all_few}
 use Rattle.base_laws.proofs.Options.{same_some as same_of}
+
+-- Lists with something between them are not empty.
+between : {A : Type 0} (xs : List A) (y : A) (ys zs ws : List A) → 1 ≤ length (((xs ++ y ∷ ys) ++ zs) ++ ws)
+between [] y ys zs ws = omega arith
+between (x ∷ xs) y ys zs ws = omega arith
+
+-- A function begins with the words of the guard, and more: one stores the address to which it returns.
+behind_some : (s : StorageForm) (g : Graph) (saved : List ℕ) (size : ℕ) (is_main : Bool) → 1 ≤ length (beginning_behind s g saved size is_main)
+behind_some s g saved size is_main = between (moving_code (subtracted 0 size)) (instruction.Store Sw 1 2 0) (saving_code saved 4) (base_code is_main s.base) (bindings_code s g 0 g.parameters)
 
 module _ (h : HomedForm) (timed : AreTimed h.unit) (e : EmittedForm) (code : IsCode h e) (room : HasRoom h e code) where
   -- What is to be paid of each sort of cost.
@@ -52,13 +66,20 @@ module _ (h : HomedForm) (timed : AreTimed h.unit) (e : EmittedForm) (code : IsC
     pub start : p.history ≡ [] → all_plain h e code room p.function + all_early h e code room p.function ≤ b
     pub early : place_of p.history ≡ Some (entry_at p) → pay_plain p + pay_early p ≤ b
     pub going : (q : ℕ) → place_of p.history ≡ Some q → q ≢ entry_at p
-        → pay_plain p + (4 + ends_of h e code room p.function) + cond (called p.history) 0 (pay_later p) + waiting * most_once h e code room + (most_once h e code room + most_early h e code room) ≤ b
+        → pay_plain p + (5 + ends_of h e code room p.function) + cond (called p.history) 0 (pay_later p) + waiting * most_once h e code room + (most_once h e code room + most_early h e code room) ≤ b
 
   -- ---- What functions cost
 
   pub begins_is : (f : ℕ) → f < length h.unit.graphs
       → begins_of h e code room f ≡ 4 + length (beginning_behind (codes_in h e code f).storage (codes_in h e code f).graph (codes_in h e code f).saved (codes_in h e code f).size (f == h.unit.main))
   begins_is f low = let at = (begins_there h timed.valid e code f low).1 in omega (arith, at)
+
+  pub begins_long : (f : ℕ) → f < length h.unit.graphs → 5 ≤ begins_of h e code room f
+  begins_long f low =
+      let c : FunctionCode = codes_in h e code f in
+      let is = begins_is f low in
+      let some = behind_some c.storage c.graph c.saved c.size (f == h.unit.main) in
+      omega (arith, is, some)
 
   pub once_few : (f : ℕ) → f < length h.unit.graphs → once h e code room f ≤ most_once h e code room
   once_few f low = sum_has (once h e code room) (length h.unit.graphs) f low
@@ -111,7 +132,7 @@ module _ (h : HomedForm) (timed : AreTimed h.unit) (e : EmittedForm) (code : IsC
         record {
           start = λ none. omega (arith, all, one, two);
           early = λ is. omega (arith, all, one, two, p, y);
-          going = λ q is other. by_test (pay_plain here + (4 + ends_of h e code room x.function)) (pay_later here) (waiting * most_once h e code room) (most_once h e code room + most_early h e code room) (1025 * length e.code) (called r.history) (omega (arith, all, one, two, three, p, z, four, times)) (omega (arith, all, one, two, three, p, z, four, times));
+          going = λ q is other. by_test (pay_plain here + (5 + ends_of h e code room x.function)) (pay_later here) (waiting * most_once h e code room) (most_once h e code room + most_early h e code room) (1025 * length e.code) (called r.history) (omega (arith, all, one, two, three, p, z, four, times)) (omega (arith, all, one, two, three, p, z, four, times));
         }
       where
         by_test : (n m w s b : ℕ) (c : Bool) → n + 0 + w + s ≤ b → n + m + w + s ≤ b → n + cond c 0 m + w + s ≤ b

@@ -106,7 +106,7 @@ unit_places h s firsts f [] (l ∷ more) laid short few = absurd laid
 unit_places h s firsts f (g ∷ graphs) [] laid short few = absurd laid
 unit_places h s firsts f (g ∷ graphs) (l ∷ more) laid short few =
     map-append place_of (stops_of_blocks l.sequence l.layout (slice_index firsts f) 0 (counted (length l.sequence.ends))) (stops_of_all firsts (counted (f + 1)) more)
-    ∙ ap (λ q. q ++ map place_of (stops_of_all firsts (counted (f + 1)) more)) (function_places (ground_for s g (homes_in h f) l) g (f == h.unit.main) l.sequence l.layout (slice_index firsts f) (laid.0.sequence (short 0 g refl)) (few 0 l refl) (short 0 g refl))
+    ∙ ap (λ q. q ++ map place_of (stops_of_all firsts (counted (f + 1)) more)) (function_places (ground_for s g (homes_in h f) l) g (f == h.unit.main) l.sequence l.layout (slice_index firsts f) (laid.0.drawn.sequence (short 0 g refl)) (few 0 l refl) (short 0 g refl))
     ∙ ap (λ q. stop_places_in g ++ q) (unit_places h s firsts (counted (f + 1)) graphs more laid.1 (λ k x at. short (suc k) x at) (λ k x at. few (suc k) x at))
 
 -- ---- Each once
@@ -156,13 +156,13 @@ places_different (g ∷ more) all = kept_different g.entry (markers_of_blocks g.
 -- ---- All of it
 
 module _ (h : HomedForm) (valid : IsValid h.unit) (e : EmittedForm) (emitted : IsEmittedOf h e) (short : length e.code ≤ most_words e.map) where
-  has : HasCode (program_of e short) e.owners emitted.coded
+  has : HasCode h.unit.room (program_of e short) e.owners emitted.coded
   has = record { reach = emitted_in_reach h e emitted; words = emitted.words; own = emitted.owners; stops = ap (λ l. map (λ (x : PlacedStop). x.address) l) emitted.stops }
 
   pieces_few : (k : ℕ) (l : LaidForm) → slice_get emitted.coded.all k ≡ Some l → length l.sequence.pieces ≤ most_pieces
   pieces_few k l at =
       let functions : length h.unit.graphs ≤ 256 = valid.functions in
-      let one : FunctionIn emitted.coded.words emitted.coded.firsts k l = found h emitted.statics emitted.coded emitted.code (program_of e short) e.owners has (omega (arith, functions)) k l at in
+      let one : FunctionIn h.unit.room emitted.coded.words emitted.coded.firsts k l = found h emitted.statics emitted.coded emitted.code (program_of e short) e.owners has (omega (arith, functions)) k l at in
       one.few
 
   blocks_short : (k : ℕ) (g : Graph) → slice_get h.unit.graphs k ≡ Some g → length g.blocks < 4294967295

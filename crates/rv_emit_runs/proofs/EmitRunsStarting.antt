@@ -158,7 +158,7 @@ module _ (h : HomedForm) (valid : IsValid h.unit) (homed : HaveHomes h) (e : Emi
       let at = subst (λ b. code.arrangement.label h.unit.main 0 ≡ code.arrangement.function h.unit.main + length (beginning_code c.storage c.graph c.saved c.size b)) (eq-eqb h.unit.main h.unit.main refl) (begins_there h valid e code h.unit.main main_there.0).1 in
       behind_four (code.arrangement.label h.unit.main 0) (code.arrangement.function h.unit.main) (length (beginning_code c.storage c.graph c.saved c.size true)) front at (beginning_length c.storage c.graph c.saved c.size (none_bound c.graph.parameters main_there.1))
 
-  begins : RunBegins (program_in h e code) (started e.map e.code e.initial input) (5 + front) (code.arrangement.function h.unit.main + 1 + 1 + 1 + 1 + front) (codes_in h e code) (over_homes h) (Resumes (program_in h e code) (codes_in h e code) (GoesOn h e code)) first
+  begins : RunBegins (program_in h e code) (started e.map e.code e.initial input) (6 + front) (code.arrangement.function h.unit.main + 1 + 1 + 1 + 1 + front) (codes_in h e code) (over_homes h) (Resumes (program_in h e code) (codes_in h e code) (GoesOn h e code)) first
   begins =
       run_begins (codes_in h e code) (over_homes h) (all_codes h valid homed code.arrangement (over_homes h)) (λ n. static_object_at c.storage n) (Resumes (program_in h e code) (codes_in h e code) (GoesOn h e code)) (program_in h e code) (started e.map e.code e.initial input) (held (started e.map e.code e.initial input)) first_stands
       (code.arrangement.function h.unit.main) (stub_there h e code).stub beginning (subst (λ (m : ℕ → ℕ). IsLoaded (over_homes h) c.storage (λ n. static_object_at c.storage n) m) (sym first_memory_is) (first_loaded h valid code.arrangement (let fits = code.base in omega (arith, fits)) e code.map code.initial (first_byte e code.bytes))) first_map input first_input

@@ -68,7 +68,7 @@ length_words (x ∷ code) = let same = length_words code in omega (arith, same)
 abbrev pub longest_end : (saved : List ℕ) → (size words : ℕ) → End → ℕ
 longest_end saved size n (Jump to) = n
 longest_end saved size n (Branch k x y if_true if_false) = n
-longest_end saved size n (Return v) = n + (4 + length (leaving_code saved size))
+longest_end saved size n (Return v) = n + (5 + length (leaving_code saved size))
 
 module _ (h : HomedForm) (valid : IsValid h.unit) (homed : HaveHomes h) (e : EmittedForm) (code : IsCode h e) (main : EndsMain (program_in h e code)) (c : Configuration) (q : Point) (r : Related h e code c q) (is : r.rest.more ≡ []) where
   abbrev f : FunctionCode
@@ -221,7 +221,7 @@ module _ (h : HomedForm) (valid : IsValid h.unit) (homed : HaveHomes h) (e : Emi
         more.there (program_in h e code) (places_in h e code c.here.function) r.index last (subst (λ l. PlacedAt (program_in h e code) (places_in h e code c.here.function) r.index l last) more.is (end_there (Return v) same))
 
     abbrev longest : ℕ
-    longest = result_words (codes_in h e code c.here.function).storage r.held source + (4 + length (leaving_code (codes_in h e code c.here.function).saved (codes_in h e code c.here.function).size))
+    longest = result_words (codes_in h e code c.here.function).storage r.held source + (5 + length (leaving_code (codes_in h e code c.here.function).saved (codes_in h e code c.here.function).size))
 
     returned : DoesReturn (program_in h e code) q.state r.index q.shown longest (codes_in h e code) (over_homes h) r.addresses (GoesOn h e code) c (step (over_homes h) c)
     returned =
@@ -239,7 +239,7 @@ module _ (h : HomedForm) (valid : IsValid h.unit) (homed : HaveHomes h) (e : Emi
             let each = length_words code_of_it in
             omega (arith, long, both, each)
 
-    pub return_step : DoesStep h e code (position_of r.rest) ((last - r.index) + (4 + length (leaving_code (codes_in h e code c.here.function).saved (codes_in h e code c.here.function).size))) q (step (over_homes h) c)
+    pub return_step : DoesStep h e code (position_of r.rest) ((last - r.index) + (5 + length (leaving_code (codes_in h e code c.here.function).saved (codes_in h e code c.here.function).size))) q (step (over_homes h) c)
     return_step =
         let few = result_few in
         does_within h e code (position_of r.rest) longest _ q (step (over_homes h) c) (omega (arith, few)) (by_step (step (over_homes h) c) returned (step_right (over_homes h) c))

@@ -2,6 +2,7 @@
 use Rattle.std.proofs.Common.{◌≡◌, ℕ, ◌+◌, ◌-◌, ◌≤◌, sym, ap, ◌∙◌, subst, arith, refl, Option, Some, None, Bool, true, false, cond, not, List, [], ◌∷◌, ◌++◌, length, slice_get}
 use Rattle.std.specs.Prelude.{◌==◌}
 use Rattle.std.proofs.lemmas.Bool.{eqb-true}
+use Rattle.memory_map.proofs.Facts.{map_facts}
 use Rattle.rv_code.specs.declared.instruction.Instruction.TheVariants as instruction
 use Rattle.rv_code.specs.declared.instruction.BranchOperation.{BranchOperation}
 use Rattle.rv_code.specs.declared.instruction.ImmediateOperation.TheVariants.{Addi}
@@ -41,42 +42,47 @@ use Rattle.rv_emit_runs.specs.Going.{IsGoing}
 use Rattle.rv_emit_code.specs.Ends.{words, loading_code, loading_held, going, going_by, jumping, Compared, branch_operation, word_test, with_zero, room_of, comparing_code, branching, choosing, choosing_held, end_pieces, end_held, opposite}
 use Rattle.rv_emit_runs.specs.Settings.{with_held, IsKept, AreLoads}
 use Rattle.rv_emit_runs.proofs.Comparing.{branch_tests, comparison_means, with_zero_tests, with_zero_readable}
-use Rattle.rv_emit_runs.proofs.Placed.{begins_is, WordsFirst, words_first, opposite_taken, GoesTo, jump_goes, taken_goes, not_taken_goes, goes_within, piece_long, pieces_long}
+use Rattle.rv_emit_runs.proofs.Placed.{begins_is, but_none, WordsFirst, words_first, opposite_taken, GoesTo, jump_goes, taken_goes, not_taken_goes, goes_within, jump_short, piece_long, pieces_long}
 use Rattle.rv_emit_runs.proofs.Loading.{Loads, loading_loads, frame_reheld}
 
 -- ---- Where control goes
 
 -- A label that stands next is come to by no more than a word that does nothing, and another one by a jump.
 pub going_goes : (p : Program) (t : Targets) (s : MachineState) (i : ℕ) (h : Holding) (b : Bool) (to next j : ℕ) → AreInCode p.map t → Stands p s i h → PiecesAt p t i b (going b to next) j → j ≡ t.label next
-    → GoesTo p s b (length (going b to next)) (t.label to) h
+    → GoesTo p s b (j - i) (t.label to) h
 going_goes p t s i h b to next j inside stands there follows = by_test (to == next) refl b there
   where
     here : to ≡ next → (k : ℕ) → j ≡ k → k ≡ t.label to
     here same k e = sym e ∙ follows ∙ ap t.label (sym same)
 
     by_test : (same : Bool) → (to == next) ≡ same → (c : Bool) → PiecesAt p t i c (cond same (cond c (piece.Word (instruction.Immediate Addi 0 0 0) ∷ []) []) (piece.Jump (record { 0 = to }) ∷ [])) j
-        → GoesTo p s c (length (cond same (cond c (piece.Word (instruction.Immediate Addi 0 0 0) ∷ []) []) (piece.Jump (record { 0 = to }) ∷ []))) (t.label to) h
+        → GoesTo p s c (j - i) (t.label to) h
     by_test true e true (k, (at, next_is), end) =
         let one = code_does p s i h true (instruction.Immediate Addi 0 0 0 ∷ []) stands (at, tt) (tt, tt) in
         record {
           count = 1;
-          few = omega arith;
+          few = omega (arith, next_is, end);
+          holding = h;
+          same = but_none h;
           reaches = subst (λ n. Reaches p 1 (record { state = s; shown = true }) [] n false h) (sym next_is ∙ here (eqb-true to next e) k end) one;
         }
     by_test true e false end = record {
       count = 0;
       few = omega arith;
+      holding = h;
+      same = but_none h;
       reaches = subst (λ n. Reaches p 0 (record { state = s; shown = false }) [] n false h) (here (eqb-true to next e) i end) (record { state = s; leads = leads_nowhere p.stops (record { state = s; shown = false }); stands = stands });
     }
-    by_test false e c (k, (at, next_is), end) = record { count = 1; few = omega arith; reaches = jump_goes p s i h c (t.label to) stands at (inside.labels to) }
+    by_test false e c (k, at, end) = goes_within p s c (k - i) (j - i) (t.label to) h (omega (arith, end)) (jump_goes p s i h c (t.label to) k stands at (inside.labels to))
 
-pub going_short : (b : Bool) (to next : ℕ) → length (going b to next) ≤ 1
-going_short b to next = by_test (to == next) b
+-- It is come to by two words at most.
+pub going_few : (p : Program) (t : Targets) (i : ℕ) (b : Bool) (to next j : ℕ) → PiecesAt p t i b (going b to next) j → j ≤ i + 2
+going_few p t i b to next j there = by_test (to == next) b there
   where
-    by_test : (same c : Bool) → length (cond same (cond c (piece.Word (instruction.Immediate Addi 0 0 0) ∷ []) []) (piece.Jump (record { 0 = to }) ∷ [])) ≤ 1
-    by_test true true = omega arith
-    by_test true false = omega arith
-    by_test false c = omega arith
+    by_test : (same c : Bool) → PiecesAt p t i b (cond same (cond c (piece.Word (instruction.Immediate Addi 0 0 0) ∷ []) []) (piece.Jump (record { 0 = to }) ∷ [])) j → j ≤ i + 2
+    by_test true true (k, (at, next_is), end) = omega (arith, next_is, end)
+    by_test true false end = omega (arith, end)
+    by_test false c (k, at, end) = let short = jump_short p i b 0 5 (t.label to) k at in omega (arith, short, end)
 
 -- To one label where a branch is taken, and else to another, in no more instructions than the words are.
 pub going_by_goes : (p : Program) (t : Targets) (s : MachineState) (i : ℕ) (h : Holding) (b : Bool) (op : BranchOperation) (l r if_true if_false next j : ℕ) (test : Bool) → AreInCode p.map t → Stands p s i h
@@ -90,19 +96,30 @@ going_by_goes p t s i h b op l r if_true if_false next j test inside stands ther
         let off : taken (opposite op) (h.registers l) (h.registers r) ≡ false = opposite_taken op (h.registers l) (h.registers r) ∙ ap not taken_so in
         let there : k ≡ t.label if_true = sym end ∙ follows ∙ ap t.label (sym (eqb-true if_true next e)) in
         let long = piece_long p t i b (piece.Branch (opposite op) l r (record { 0 = if_false })) k at in
-        record { count = 1; few = omega (arith, long, end); reaches = subst (λ n. Reaches p 1 (record { state = s; shown = b }) [] n false h) there (not_taken_goes p t s i h b (opposite op) l r if_false k stands at off) }
+        let low = inside.labels if_true in
+        record {
+          count = 1;
+          few = omega (arith, long, end);
+          holding = h;
+          same = but_none h;
+          reaches = subst (λ n. Reaches p 1 (record { state = s; shown = b }) [] n false h) there (not_taken_goes p t s i h b (opposite op) l r if_false k stands at (omega (arith, there, low, (map_facts p.map).few)) off);
+        }
     by_tests true e (k, at, end) false not_so =
-        goes_within (omega (arith, end)) (taken_goes p t s i h b (opposite op) l r if_false k stands at (inside.labels if_false) (opposite_taken op (h.registers l) (h.registers r) ∙ ap not not_so))
+        goes_within p s b (k - i) (j - i) (t.label if_false) h (omega (arith, end)) (taken_goes p t s i h b (opposite op) l r if_false k stands at (inside.labels if_false) (opposite_taken op (h.registers l) (h.registers r) ∙ ap not not_so))
     by_tests false e (k, at, rest) true taken_so =
         let long = pieces_long p t k false (going false if_false next) j rest in
-        goes_within (omega (arith, long)) (taken_goes p t s i h b op l r if_true k stands at (inside.labels if_true) taken_so)
+        goes_within p s b (k - i) (j - i) (t.label if_true) h (omega (arith, long)) (taken_goes p t s i h b op l r if_true k stands at (inside.labels if_true) taken_so)
     by_tests false e (k, at, rest) false not_so =
-        let first = not_taken_goes p t s i h b op l r if_true k stands at not_so in
-        let second : GoesTo p first.state false (length (going false if_false next)) (t.label if_false) h = going_goes p t first.state k h false if_false next j inside first.stands rest follows in
+        let long = pieces_long p t k false (going false if_false next) j rest in
+        let low = inside.labels next in
+        let first = not_taken_goes p t s i h b op l r if_true k stands at (omega (arith, long, follows, low, (map_facts p.map).few)) not_so in
+        let second : GoesTo p first.state false (j - k) (t.label if_false) h = going_goes p t first.state k h false if_false next j inside first.stands rest follows in
         record {
           count = 1 + second.count;
-          few = let most = second.few in let one = piece_long p t i b (piece.Branch op l r (record { 0 = if_true })) k at in let long = pieces_long p t k false (going false if_false next) j rest in omega (arith, most, one, long);
-          reaches = reaches_then p 1 second.count (record { state = s; shown = b }) [] k false h [] (t.label if_false) false h first second.reaches;
+          few = let most = second.few in let one = piece_long p t i b (piece.Branch op l r (record { 0 = if_true })) k at in omega (arith, most, one, long);
+          holding = second.holding;
+          same = second.same;
+          reaches = reaches_then p 1 second.count (record { state = s; shown = b }) [] k false h [] (t.label if_false) false second.holding first second.reaches;
         }
 
 -- ---- The machine at another block
@@ -202,16 +219,16 @@ module _ (p : Program) (t : Targets) (s : MachineState) (i : ℕ) (b : Bool) (w 
       let u : Holding = done_by_all code h in
       let first : WordsFirst p t i b code (going (behind b code) to next) j = words_first p t i b code (going (behind b code) to next) j there in
       let one = code_does p s i h b code stands first.code_there l.can in
-      let two : GoesTo p one.state (behind b code) (length (going (behind b code) to next)) (t.label to) u = going_goes p t one.state (i + length code) u (behind b code) to next j inside one.stands first.rest_there follows in
+      let two : GoesTo p one.state (behind b code) (j - (i + length code)) (t.label to) u = going_goes p t one.state (i + length code) u (behind b code) to next j inside one.stands first.rest_there follows in
       record {
         count = length code + two.count;
         few = let long = pieces_long p t (i + length code) (behind b code) (going (behind b code) to next) j first.rest_there in let most = two.few in omega (arith, long, most);
-        holding = u;
-        reaches = reaches_then p (length code) two.count (record { state = s; shown = b }) [] (i + length code) (behind b code) u [] (t.label to) false u one two.reaches;
-        frame = loaded_frame 8;
-        kept = l.kept;
-        memory = l.memory;
-        input = l.input;
+        holding = two.holding;
+        reaches = reaches_then p (length code) two.count (record { state = s; shown = b }) [] (i + length code) (behind b code) u [] (t.label to) false two.holding one two.reaches;
+        frame = frame_stays (with_held (loading_held w.storage.base 8 loads w.held) w) c u two.holding two.same.regions (λ q left. two.same.registers q left.t0) two.same.memory (loaded_frame 8);
+        kept = λ q kept. two.same.registers q kept.left.t0 ∙ l.kept q kept;
+        memory = two.same.memory ∙ l.memory;
+        input = two.same.input ∙ l.input;
       }
 
   jump_comes : (to : ℕ) → PiecesAt p t i b (jumping w.storage w.held b loads to next) j
@@ -249,12 +266,12 @@ module _ (p : Program) (t : Targets) (s : MachineState) (i : ℕ) (b : Bool) (w 
       record {
         count = length code + two.count;
         few = let long = pieces_long p t (i + length code) (behind b code) (going_by op q1 q2 if_true if_false next) j first.rest_there in let most = two.few in omega (arith, long, most);
-        holding = v;
-        reaches = reaches_then p (length code) two.count (record { state = s; shown = b }) [] (i + length code) (behind b code) v [] (t.label (cond test if_true if_false)) false v one two.reaches;
-        frame = frame_stays (with_held held w) c u v (regions_stay fetch u) found.kept found.memory framed;
-        kept = λ q kept. found.kept q kept.left ∙ l.kept q kept;
-        memory = found.memory ∙ l.memory;
-        input = found.input ∙ l.input;
+        holding = two.holding;
+        reaches = reaches_then p (length code) two.count (record { state = s; shown = b }) [] (i + length code) (behind b code) v [] (t.label (cond test if_true if_false)) false two.holding one two.reaches;
+        frame = frame_stays (with_held held w) c v two.holding two.same.regions (λ q left. two.same.registers q left.t0) two.same.memory (frame_stays (with_held held w) c u v (regions_stay fetch u) found.kept found.memory framed);
+        kept = λ q kept. two.same.registers q kept.left.t0 ∙ found.kept q kept.left ∙ l.kept q kept;
+        memory = two.same.memory ∙ found.memory ∙ l.memory;
+        input = two.same.input ∙ found.input ∙ l.input;
       }
 
   -- A branch by two operands.

@@ -153,7 +153,7 @@ module _ (h : HomedForm) (timed : AreTimed h.unit) (e : EmittedForm) (code : IsC
         left : code.arrangement.label x.function r.at.next - index ≤ pay_plain h timed e code room (position_of r)
         left = let one = words_left h timed e code room r is in let two = plain_end is in omega (arith, one, two)
 
-        by_going : code.arrangement.label x.function r.at.next - index + (4 + ends_of h e code room x.function) ≤ b → (z : End) → longest_end (codes_in h e code x.function).saved (codes_in h e code x.function).size (code.arrangement.label x.function r.at.next - index) z ≤ b
+        by_going : code.arrangement.label x.function r.at.next - index + (5 + ends_of h e code room x.function) ≤ b → (z : End) → longest_end (codes_in h e code x.function).saved (codes_in h e code x.function).size (code.arrangement.label x.function r.at.next - index) z ≤ b
         by_going le (Jump to) = omega (arith, le)
         by_going le (Branch k a c if_true if_false) = omega (arith, le)
         by_going le (Return v) = omega (arith, le)

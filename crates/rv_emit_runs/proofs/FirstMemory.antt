@@ -207,14 +207,14 @@ module _ (u : UnitForm) (valid : IsValid u) (e : EmittedForm) (same_map : e.map 
       (chunks_mapped (object_bytes u) static_bytes (λ o. padded_length (taken_by (static_bytes o)) (bytes_by_element u o o.element)) u.statics)
       (chunks_mapped (λ (b : List ℕ). padded (taken_by (length b)) b) (λ (b : List ℕ). length b) (λ b. padded_length (taken_by (length b)) b) u.array_bytes)
 
-  start_is : statics_start ≡ bytes_start (map_of_unit u)
+  start_is : (statics_start u) ≡ bytes_start (map_of_unit u)
   start_is = statics_begin u
 
   -- The regions are those of the unit.
-  begin_is : statics_start ≡ bytes_start e.map
+  begin_is : (statics_start u) ≡ bytes_start e.map
   begin_is = start_is ∙ sym (ap (λ m. bytes_start m) same_map)
 
-  fits : statics_start + total taken_by (static_sizes u) ≤ bytes_end (map_of_unit u)
+  fits : (statics_start u) + total taken_by (static_sizes u) ≤ bytes_end (map_of_unit u)
   fits =
       let all = total_both static_bytes (λ (b : List ℕ). length b) u.statics u.array_bytes in
       let few = valid.statics in
@@ -227,14 +227,14 @@ module _ (u : UnitForm) (valid : IsValid u) (e : EmittedForm) (same_map : e.map 
       let start = begin_is in
       let inside = start_is in
       let most = fits in
-      let lies = lies_among (static_sizes u) statics_start n s sized in
+      let lies = lies_among (static_sizes u) (statics_start u) n s sized in
       let low = lies.low in
       let high = lies.high in
-      let at : statics_start + (slice_index (static_addresses u) n + k - bytes_start e.map) ≡ slice_index (static_addresses u) n + k = omega (arith, start, low) in
+      let at : (statics_start u) + (slice_index (static_addresses u) n + k - bytes_start e.map) ≡ slice_index (static_addresses u) n + k = omega (arith, start, low) in
       in_bytes e.map (e.initial ++ zeros (bytes_size - length e.initial)) (zeros stack_size) (slice_index (static_addresses u) n + k) (omega (arith, start, low)) (omega (arith, high, most, within, start, inside, (map_facts e.map).apart))
       ∙ with_zeros e.initial (bytes_size - length e.initial) (slice_index (static_addresses u) n + k - bytes_start e.map)
       ∙ ap (λ l. slice_index l (slice_index (static_addresses u) n + k - bytes_start e.map)) initial_is
-      ∙ chunk_at chunks (static_sizes u) statics_start n c are_chunks there k (slice_index (static_addresses u) n + k - bytes_start e.map) lt at
+      ∙ chunk_at chunks (static_sizes u) (statics_start u) n c are_chunks there k (slice_index (static_addresses u) n + k - bytes_start e.map) lt at
 
   -- ---- Static objects
 
@@ -252,7 +252,7 @@ module _ (u : UnitForm) (valid : IsValid u) (e : EmittedForm) (same_map : e.map 
 
   pub static_lies : (n : ℕ) (o : StaticObject) → slice_get u.statics n ≡ Some o → StaticLies n o
   static_lies n o is =
-      let lies = lies_among (static_sizes u) statics_start n (static_bytes o) (static_sized n o is) in
+      let lies = lies_among (static_sizes u) (statics_start u) n (static_bytes o) (static_sized n o is) in
       let start = start_is in
       let most = fits in
       let low = lies.low in
@@ -412,8 +412,8 @@ module _ (u : UnitForm) (valid : IsValid u) (e : EmittedForm) (same_map : e.map 
           let wm = slice_get_within (static_sizes u) m (static_bytes f.static) (static_sized m f.static f.there) in
           let wn = slice_get_within (static_sizes u) n (static_bytes g.static) (static_sized n g.static g.there) in
           ⊎_elim
-          (λ (lt : m < n). let before = lies_before (static_sizes u) statics_start m n (static_bytes f.static) lt (static_sized m f.static f.there) wn in inl (omega (arith, am, an, sm, before)))
-          (λ (ge : n ≤ m). let other : m ≢ n = ne in let before = lies_before (static_sizes u) statics_start n m (static_bytes g.static) (omega (arith, ge, other)) (static_sized n g.static g.there) wm in inr (omega (arith, am, an, sn, before)))
+          (λ (lt : m < n). let before = lies_before (static_sizes u) (statics_start u) m n (static_bytes f.static) lt (static_sized m f.static f.there) wn in inl (omega (arith, am, an, sm, before)))
+          (λ (ge : n ≤ m). let other : m ≢ n = ne in let before = lies_before (static_sizes u) (statics_start u) n m (static_bytes g.static) (omega (arith, ge, other)) (static_sized n g.static g.there) wm in inr (omega (arith, am, an, sn, before)))
           (cases_lt m n);
     }
 
@@ -449,7 +449,7 @@ module _ (u : UnitForm) (valid : IsValid u) (e : EmittedForm) (same_map : e.map 
     array_held : (w : Setting) → map_of_unit w.unit ≡ map_of_unit u → w.storage ≡ storage → w.addresses ≡ (λ n. static_object_at storage n) → (n : ℕ) (all : List ℕ) → slice_get u.array_bytes n ≡ Some all → HasArray w (first_memory u.statics) (first_bytes e) n all
     array_held w same_unit same_storage same_addresses n all is =
         let same_start : bytes_start (map_of_unit w.unit) ≡ bytes_start (map_of_unit u) = ap (λ m. bytes_start m) same_unit in
-        let lies = lies_among (static_sizes u) statics_start (length u.statics + n) (length all) (array_sized n all is) in
+        let lies = lies_among (static_sizes u) (statics_start u) (length u.statics + n) (length all) (array_sized n all is) in
         let start = start_is in
         let most = fits in
         let low = lies.low in
@@ -470,7 +470,7 @@ module _ (u : UnitForm) (valid : IsValid u) (e : EmittedForm) (same_map : e.map 
               let size = f.bytes in
               let lt = slice_get_within u.statics k f.static f.there in
               let within = slice_get_within (static_sizes u) (length u.statics + n) (length all) (array_sized n all is) in
-              let before = lies_before (static_sizes u) statics_start k (length u.statics + n) (static_bytes f.static) (omega (arith, lt)) (static_sized k f.static f.there) within in
+              let before = lies_before (static_sizes u) (statics_start u) k (length u.statics + n) (static_bytes f.static) (omega (arith, lt)) (static_sized k f.static f.there) within in
               inl (omega (arith, at, ak, size, before));
         }
 

@@ -23,7 +23,7 @@ use Rattle.rv_emit_sequence.specs.Sequences.{Ground, IsSequenceOf, counted}
 use Rattle.rv_emit_runs.specs.Laid.{Arrangement, code_of, graph_at, IsInWords}
 use Rattle.rv_emit_runs.proofs.Frames.{graph_there, laid_out}
 use Rattle.rv_emit_runs.proofs.Lists.{all_at}
-use Rattle.rv_emit_layout.specs.Laid.{LaidForm, StaticForm, ground_for, IsLaidOf}
+use Rattle.rv_emit_layout.specs.Laid.{LaidForm, StaticForm, ground_for, IsDrawnOf}
 use Rattle.rv_emit_layout.proofs.Fitting.{statics_fit}
 use Rattle.rv_emit_layout.specs.Laid.{AreAddressesOf}
 use Rattle.rv_emit_runs.proofs.Endings.{AreFitSaved}
@@ -86,9 +86,9 @@ addresses_low (x ∷ more) a (suc n) low = addresses_low more (a + taken_by x) n
 arrays_low : (u : UnitForm) → IsValid u → (s : StaticForm) → AreAddressesOf u s → (n : ℕ) → slice_index s.arrays n < 4294967296
 arrays_low u valid s are n =
     let fits : FitsStatics u = statics_fit u valid in
-    let start : statics_start ≡ bytes_start (map_of_unit u) = statics_begin u in
+    let start : (statics_start u) ≡ bytes_start (map_of_unit u) = statics_begin u in
     subst (λ k. k < 4294967296) (sym (ap (λ l. slice_index l n) are.arrays ∙ get_or-drop (length u.statics) (static_addresses u) n 0))
-    (addresses_low (static_sizes u) statics_start (length u.statics + n) (omega (arith, fits, start)))
+    (addresses_low (static_sizes u) (statics_start u) (length u.statics + n) (omega (arith, fits, start)))
 
 padded_count : (n : ℕ) (bytes : List ℕ) → length (padded n bytes) ≡ n
 padded_count n bytes =
@@ -170,7 +170,7 @@ module _ (h : HomedForm) (valid : IsValid h.unit) (homed : HaveHomes h) (s : Sta
   }
 
   -- The code that is laid out rests on that.
-  pub ground_is : (f : ℕ) → f < length h.unit.graphs → (is_main : Bool) (l : LaidForm) → IsLaidOf s (graph f) (homes_in h f) is_main l → ground_for s (graph f) (homes_in h f) l ≡ ground_at f
+  pub ground_is : (f : ℕ) → f < length h.unit.graphs → (is_main : Bool) (l : LaidForm) → IsDrawnOf s (graph f) (homes_in h f) is_main l → ground_for s (graph f) (homes_in h f) l ≡ ground_at f
   ground_is f low is_main l is =
       let kept : l.saved ≡ saved (home_of h f) (graph f) = is.saved in
       let count : length l.saved ≡ length (saved (home_of h f) (graph f)) = ap (λ (r : List ℕ). length r) kept in

@@ -89,6 +89,7 @@ pub mod SparingParts
 pub mod Spelled
 pub mod StopPlaces
 pub mod Stops
+pub mod Stub
 pub mod TableWords
 pub mod Tables
 pub mod Told

@@ -32,10 +32,12 @@ marker_appended g entry place s = by_test s.begins
 -- Where a place is in force that is a stop and has no word yet, there is a stop at the next word.
 pub stop_stands : (p : Program) (t : Targets) (i : ℕ) (b : Bool) (x : Piece) (more : List Piece) (j : ℕ) → PiecesAt p t i b (x ∷ more) j → is_stop p.stops (address_of i) ≡ b
 stop_stands p t i b (piece.Word x) more j (k, (at, next), rest) = at.stop
-stop_stands p t i b (piece.Jump to) more j (k, (at, next), rest) = at.stop
-stop_stands p t i b (piece.Call f) more j (k, (at, next), rest) = at.stop
+stop_stands p t i b (piece.Jump to) more j (k, inl (at, next), rest) = at.stop
+stop_stands p t i b (piece.Jump to) more j (k, inr (at, low, next), rest) = at.stop
+stop_stands p t i b (piece.Call f) more j (k, inl (at, next), rest) = at.stop
+stop_stands p t i b (piece.Call f) more j (k, inr (at, low, next), rest) = at.stop
 stop_stands p t i b (piece.Branch op l r to) more j (k, inl (at, next), rest) = at.stop
-stop_stands p t i b (piece.Branch op l r to) more j (k, inr (at, over, next), rest) = at.stop
+stop_stands p t i b (piece.Branch op l r to) more j (k, inr (at, jump), rest) = at.stop
 
 -- Which place is in force is no part of the frame.
 pub place_framed : (w : Setting) (c : Configuration) (h : Holding) (place : ℕ) → HoldsFrame w c h → HoldsFrame w (at_place place c) h

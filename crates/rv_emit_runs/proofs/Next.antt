@@ -21,7 +21,7 @@ use Rattle.rv_emit_runs.proofs.UnitSteps.{Spot}
 use Rattle.rv_emit_runs.specs.Timed.{AreTimed}
 use Rattle.rv_emit_runs.specs.Room.{HasRoom}
 use Rattle.rv_emit_runs.proofs.Amounts.{turns, plain_cost, early_cost, later_cost, left_words, all_plain, all_early, ends_of, most_once, most_early}
-use Rattle.rv_emit_runs.proofs.Credits.{pay_plain, pay_early, pay_later, Credit, begins_is, once_few, early_few, plain_all, early_all, first, first_marked, stands, starts_with, starts_some, owner_is, no_early_call, no_early_return, zero_uncalled, copy_uncalled, words_left}
+use Rattle.rv_emit_runs.proofs.Credits.{pay_plain, pay_early, pay_later, Credit, begins_is, begins_long, once_few, early_few, plain_all, early_all, first, first_marked, stands, starts_with, starts_some, owner_is, no_early_call, no_early_return, zero_uncalled, copy_uncalled, words_left}
 use Rattle.rv_emit_runs.proofs.Enough.{plain_first, plain_end, early_is, later_is, Going, mode, called_low, never_new}
 use Rattle.rv_emit_runs.proofs.Plain.{IsOther, Plain, plain_is}
 use Rattle.rv_emit_runs.proofs.Payments.{pay_passed, pay_block}
@@ -91,8 +91,8 @@ module _ (h : HomedForm) (timed : AreTimed h.unit) (e : EmittedForm) (code : IsC
               (omega (arith, three, z)) calls one long p most;
         }
       where
-        by_called : (c : Bool) (m n k l v u d z2 t : ℕ) → m ≡ n → k ≤ cond c 0 n → u ≡ d + t → l ≡ v → d ≡ v → u + (4 + ends_of h e code room x.function) + cond c 0 m + w * most_once h e code room + z2 ≤ b
-            → t + (4 + ends_of h e code room x.function) + k + w * most_once h e code room + z2 ≤ b - l
+        by_called : (c : Bool) (m n k l v u d z2 t : ℕ) → m ≡ n → k ≤ cond c 0 n → u ≡ d + t → l ≡ v → d ≡ v → u + (5 + ends_of h e code room x.function) + cond c 0 m + w * most_once h e code room + z2 ≤ b
+            → t + (5 + ends_of h e code room x.function) + k + w * most_once h e code room + z2 ≤ b - l
         by_called true m n k l v u d z2 t a k2 o lo p most = omega (arith, a, k2, o, lo, p, most)
         by_called false m n k l v u d z2 t a k2 o lo p most = omega (arith, a, k2, o, lo, p, most)
 
@@ -217,8 +217,8 @@ module _ (h : HomedForm) (timed : AreTimed h.unit) (e : EmittedForm) (code : IsC
       by_end (Branch c y z if_true if_false) a = omega arith
       by_end (Return v) a = elim a [ ]
 
-      by_called : (c : Bool) (m n u t z2 l2 : ℕ) → n ≤ m → l2 + t ≤ u → u + (4 + ends_of h e code room x.function) + cond c 0 m + w * most_once h e code room + z2 ≤ b
-          → t + (4 + ends_of h e code room x.function) + cond c 0 n + w * most_once h e code room + z2 ≤ b - l2
+      by_called : (c : Bool) (m n u t z2 l2 : ℕ) → n ≤ m → l2 + t ≤ u → u + (5 + ends_of h e code room x.function) + cond c 0 m + w * most_once h e code room + z2 ≤ b
+          → t + (5 + ends_of h e code room x.function) + cond c 0 n + w * most_once h e code room + z2 ≤ b - l2
       by_called true m n u t z2 l2 a p most = omega (arith, a, p, most)
       by_called false m n u t z2 l2 a p most = omega (arith, a, p, most)
 
@@ -259,12 +259,12 @@ module _ (h : HomedForm) (timed : AreTimed h.unit) (e : EmittedForm) (code : IsC
           let most = credit.going going.0 going.1 going.2 in
           let left = words_left h timed e code room r is in
           let paid = plain_end h timed e code room r is in
-          let long : longest_with [] ≡ code.arrangement.label x.function r.at.next - index + (4 + ends_of h e code room x.function) = ap (λ z. longest_end f.saved f.size (code.arrangement.label x.function r.at.next - index) z) end in
+          let long : longest_with [] ≡ code.arrangement.label x.function r.at.next - index + (5 + ends_of h e code room x.function) = ap (λ z. longest_end f.saved f.size (code.arrangement.label x.function r.at.next - index) z) end in
           let split : suc w2 * most_once h e code room ≡ w2 * most_once h e code room + most_once h e code room = grind arith in
           let same : w * most_once h e code room ≡ suc w2 * most_once h e code room = ap (λ n. n * most_once h e code room) waits in
           let few = once_few h timed e code room x2.function r2.low in
           let early_so = early_few h timed e code room x2.function r2.low in
-          let begins_so = begins_is h timed e code room x2.function r2.low in
+          let begins_so = begins_long h timed e code room x2.function r2.low in
           let p = plain_all h timed e code room r2 in
           let y = early_all h timed e code room r2 in
           let counts : ◌≡◌ {A = ℕ} (cond (called r2.history) 0 (pay_later h timed e code room (position_of r2))) (0) = ap (λ c. cond c 0 (pay_later h timed e code room (position_of r2))) calls in

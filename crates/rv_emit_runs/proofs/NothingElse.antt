@@ -88,7 +88,7 @@ module _ (h : HomedForm) (valid : IsValid h.unit) (homed : HaveHomes h) (e : Emi
   abbrev p : Program
   p = program_of e short
 
-  has : HasCode p e.owners emitted.coded
+  has : HasCode h.unit.room p e.owners emitted.coded
   has = record { reach = emitted_in_reach h e emitted; words = emitted.words; own = emitted.owners; stops = ap (λ l. map (λ (x : PlacedStop). x.address) l) emitted.stops }
 
   few : length h.unit.graphs ≤ 4294967295
@@ -114,11 +114,11 @@ module _ (h : HomedForm) (valid : IsValid h.unit) (homed : HaveHomes h) (e : Emi
     first = slice_index emitted.coded.firsts f
 
     -- They stand one behind the other from the beginning of the function to its end.
-    pieces_there : PlacedAt p (targets_of e.owners there.laid.sequence there.laid.layout first emitted.coded.firsts) (first + words_before there.laid.layout.far there.laid.sequence.pieces 0) there.laid.sequence.pieces
-        (first + words_before there.laid.layout.far there.laid.sequence.pieces (length there.laid.sequence.pieces))
+    pieces_there : PlacedAt p (targets_of e.owners there.laid.sequence there.laid.layout first emitted.coded.firsts) (first + words_before there.laid.layout.reaches there.laid.sequence.pieces 0) there.laid.sequence.pieces
+        (first + words_before there.laid.layout.reaches there.laid.sequence.pieces (length there.laid.sequence.pieces))
     pieces_there =
         let all : 0 + length there.laid.sequence.pieces ≡ length there.laid.sequence.pieces = omega arith in
-        subst (λ k. PlacedAt p (targets_of e.owners there.laid.sequence there.laid.layout first emitted.coded.firsts) (first + words_before there.laid.layout.far there.laid.sequence.pieces 0) there.laid.sequence.pieces (first + words_before there.laid.layout.far there.laid.sequence.pieces k)) all
+        subst (λ k. PlacedAt p (targets_of e.owners there.laid.sequence there.laid.layout first emitted.coded.firsts) (first + words_before there.laid.layout.reaches there.laid.sequence.pieces 0) there.laid.sequence.pieces (first + words_before there.laid.layout.reaches there.laid.sequence.pieces k)) all
         (part_there p e.owners there.laid.sequence there.laid.layout first emitted.coded.firsts there.code [] there.laid.sequence.pieces [] (sym (append-nil there.laid.sequence.pieces)))
 
     written : (code : FunctionCode) → slice_get e.functions f ≡ Some code → (index : ℕ) → code.first ≤ address_of index → address_of index < code.end → slice_index e.owners index ≢ 0 → (x : ℕ) → x < graph.name_count
@@ -131,12 +131,12 @@ module _ (h : HomedForm) (valid : IsValid h.unit) (homed : HaveHomes h) (e : Emi
         (sym (ap (λ l. slice_get l f) emitted.functions ∙ told_there h.unit.graphs emitted.coded.firsts emitted.coded.all 0 f there.laid (omega (arith, few, count)) there.there ∙ ap (λ j. Some (told_by (slice_index emitted.coded.firsts j) (parameters_in h.unit.graphs j) there.laid)) here) ∙ told) in
         let begins = ap (λ (c : FunctionCode). c.first) code_is in
         let ends = ap (λ (c : FunctionCode). c.end) code_is in
-        let fit : Fits e.map there.laid first = fits h emitted.statics emitted.coded emitted.code p e.owners has few f there.laid there.there in
-        let all : there.laid.layout.words ≡ words_before there.laid.layout.far there.laid.sequence.pieces (length there.laid.sequence.pieces) = fit.layout.words in
-        let most : first + words_before there.laid.layout.far there.laid.sequence.pieces (length there.laid.sequence.pieces) ≤ most_words e.map = fit.low in
-        let none : words_before there.laid.layout.far there.laid.sequence.pieces 0 ≡ 0 = none_before there.laid.layout.far there.laid.sequence.pieces in
+        let fit : Fits h.unit.room e.map there.laid first = fits h emitted.statics emitted.coded emitted.code p e.owners has few f there.laid there.there in
+        let all : there.laid.layout.words ≡ words_before there.laid.layout.reaches there.laid.sequence.pieces (length there.laid.sequence.pieces) = fit.layout.words in
+        let most : first + words_before there.laid.layout.reaches there.laid.sequence.pieces (length there.laid.sequence.pieces) ≤ most_words e.map = fit.low in
+        let none : words_before there.laid.layout.reaches there.laid.sequence.pieces 0 ≡ 0 = none_before there.laid.layout.reaches there.laid.sequence.pieces in
         words_allowed p (targets_of e.owners there.laid.sequence there.laid.layout first emitted.coded.firsts) (code_of h a f).storage (code_of h a f).slots (IsWrittenBy h valid homed a f)
-        (first + words_before there.laid.layout.far there.laid.sequence.pieces 0) (first + words_before there.laid.layout.far there.laid.sequence.pieces (length there.laid.sequence.pieces)) there.laid.sequence.pieces pieces_there pieces_spare index
+        (first + words_before there.laid.layout.reaches there.laid.sequence.pieces 0) (first + words_before there.laid.layout.reaches there.laid.sequence.pieces (length there.laid.sequence.pieces)) there.laid.sequence.pieces pieces_there pieces_spare index
         (omega (arith, from, begins, most, none, (map_facts e.map).few)) (omega (arith, to, ends, all, most, (map_facts e.map).few)) (home_of h f x) ((laid_out h valid homed a f).homes x named) writes owned
 
   -- No other word of a place writes a home.

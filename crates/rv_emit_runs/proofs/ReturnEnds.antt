@@ -1,10 +1,10 @@
 -- The code of an end that returns does the unit's step.
-use Rattle.std.proofs.Common.{◌≡◌, ℕ, ◌+◌, sym, subst, arith, refl, Option, Some, None, Bool, false, List, [], ◌∷◌, ◌++◌, length}
+use Rattle.std.proofs.Common.{◌≡◌, ℕ, ◌+◌, sym, subst, arith, refl, Option, Some, None, Bool, false, List, [], ◌++◌, length}
 use Rattle.std.specs.Prelude.{option_map}
 use Rattle.rv_machine.specs.State.{MachineState}
 use Rattle.graph_core.specs.declared.value.Value.TheVariants.{Odd}
 use Rattle.graph_core.specs.Graphs.{Operand, Return, UnitForm}
-use Rattle.graph_core.specs.Runs.{Activation, Configuration, Stepped, Goes, Shows, Ends, Wild, value, leave, execute_end, step, step_from}
+use Rattle.graph_core.specs.Runs.{Activation, Configuration, value, leave, execute_end, step, step_from}
 use Rattle.graph_core.specs.Validity.{AreOperandsOfEnd}
 use Rattle.graph_homes.specs.Homed.{placed_operand, placed_end}
 use Rattle.rv_emit_words.specs.declared.piece.Held.{Held}
@@ -14,8 +14,7 @@ use Rattle.rv_emit_words.specs.Operands.{bringing}
 use Rattle.rv_emit_steps.specs.Holding.{Holding}
 use Rattle.rv_emit_steps.specs.Doing.{done_by_all}
 use Rattle.rv_emit_steps.specs.Programs.{Program, CodeAt, behind, Stands}
-use Rattle.rv_emit_steps.specs.Points.{Reaches}
-use Rattle.rv_emit_steps.proofs.Placing.{reaches_then, reaches_end, regions_stay}
+use Rattle.rv_emit_steps.proofs.Placing.{regions_stay}
 use Rattle.rv_emit_steps.proofs.Straight.{code_does}
 use Rattle.rv_emit_steps.specs.EmitMovesDoing.{Brings, IsReadable, value_of}
 use Rattle.rv_emit_steps.specs.Meaning.{Means}
@@ -30,35 +29,7 @@ use Rattle.rv_emit_runs.proofs.Bringing.{source_brought, words_in_range}
 use Rattle.rv_emit_runs.proofs.Keeping.{all_reheld}
 use Rattle.rv_emit_runs.proofs.Loading.{kept_no_a0}
 use Rattle.rv_emit_runs.proofs.Placed.{begins_is, WordsFirst, words_first}
-use Rattle.rv_emit_runs.proofs.Returning.{DoesReturn, return_done}
-
--- The same of what is done behind other words.
-returned_behind : (p : Program) (s : MachineState) (i : ℕ) (b : Bool) (n j : ℕ) (last : Bool) (g : Holding) (most : ℕ) (codes : ℕ → FunctionCode) (u : UnitForm) (addresses : ℕ → ℕ) (goes_on : Activation → ℕ → Type 0) (c : Configuration) (q : Stepped)
-    → (first : Reaches p n (record { state = s; shown = b }) [] j last g) → DoesReturn p first.state j last most codes u addresses goes_on c q → DoesReturn p s i b (n + most) codes u addresses goes_on c q
-returned_behind p s i b n j last g most codes u addresses goes_on c (Goes d) first done = record {
-  caller = done.caller;
-  waits = done.waits;
-  to = done.to;
-  resumed = done.resumed;
-  value = done.value;
-  here = done.here;
-  comes = record {
-    count = n + done.comes.count;
-    few = let few = done.comes.few in omega (arith, few);
-    holding = done.comes.holding;
-    reaches = reaches_then p n done.comes.count (record { state = s; shown = b }) [] j last g [] done.to false done.comes.holding first done.comes.reaches;
-    all = done.comes.all;
-  };
-}
-returned_behind p s i b n j last g most codes u addresses goes_on c (Shows e d) first done = done
-returned_behind p s i b n j last g most codes u addresses goes_on c (Ends e) first done = record {
-  count = n + done.count;
-  few = let few = done.few in omega (arith, few);
-  event = done.event;
-  shown = done.shown;
-  ends = reaches_end p n done.count (record { state = s; shown = b }) [] j last g (done.event ∷ []) first done.ends;
-}
-returned_behind p s i b n j last g most codes u addresses goes_on c Wild first done = tt
+use Rattle.rv_emit_runs.proofs.Returning.{DoesReturn, returned_behind, return_done}
 
 -- How many words bring a result, if there is one.
 abbrev pub result_words : StorageForm → List Held → Option Source → ℕ
@@ -75,10 +46,10 @@ module _ (p : Program) (codes : ℕ → FunctionCode) (u : UnitForm) (valid : (k
       (ending : CodeAt p (t.label end) false (leaving_code (codes c.here.function).saved (codes c.here.function).size)) where
     returns_with : (v : Option Operand) → AreOperandsOfEnd u.statics (codes c.here.function).graph (Return v) → IsWordIfAny v
         → PiecesAt p t i b (return_pieces (codes c.here.function).storage held (codes c.here.function).saved (codes c.here.function).size b end next (option_map (source_of (codes c.here.function).storage) v)) j
-        → DoesReturn p s i b (result_words (codes c.here.function).storage held (option_map (source_of (codes c.here.function).storage) v) + (4 + length (leaving_code (codes c.here.function).saved (codes c.here.function).size))) codes u addresses goes_on c
+        → DoesReturn p s i b (result_words (codes c.here.function).storage held (option_map (source_of (codes c.here.function).storage) v) + (5 + length (leaving_code (codes c.here.function).saved (codes c.here.function).size))) codes u addresses goes_on c
         (execute_end u (placed_end (home_at (codes c.here.function).storage) (Return v)) c)
     returns_with None legal fits there =
-        let more : 4 + length (leaving_code (codes c.here.function).saved (codes c.here.function).size) ≡ 0 + (4 + length (leaving_code (codes c.here.function).saved (codes c.here.function).size)) = omega arith in
+        let more : 5 + length (leaving_code (codes c.here.function).saved (codes c.here.function).size) ≡ 0 + (5 + length (leaving_code (codes c.here.function).saved (codes c.here.function).size)) = omega arith in
         subst (λ n. DoesReturn p s i b n codes u addresses goes_on c (leave c Odd)) more
         (return_done p codes u valid addresses goes_on t inside s i b c h (all_reheld codes u valid addresses (Resumes p codes goes_on) held [] c h h all (λ q kept. refl) refl refl refl tt tt) stands end next j 9 there follows ending main Odd tt)
     returns_with (Some a) legal fits there =
@@ -95,15 +66,15 @@ module _ (p : Program) (codes : ℕ → FunctionCode) (u : UnitForm) (valid : (k
         (subst (λ q. PiecesAt p t i b (words code ++ leaving f.saved f.size q end next (room_behind f.storage.base source)) j) (begins_is b code) there) in
         let one = code_does p s i h b code stands first.code_there brings.can in
         let all1 = all_reheld codes u valid addresses (Resumes p codes goes_on) held [] c h g all (λ q kept. brings.kept q (kept_no_a0 q kept) kept.left.t0) (regions_stay code h) brings.memory brings.input tt tt in
-        returned_behind p s i b (length code) (i + length code) (behind b code) g (4 + length (leaving_code f.saved f.size)) codes u addresses goes_on c (leave c v) one
+        returned_behind p s i b (length code) (i + length code) (behind b code) g (5 + length (leaving_code f.saved f.size)) codes u addresses goes_on c (leave c v) one
         (return_done p codes u valid addresses goes_on t inside one.state (i + length code) (behind b code) c g all1 one.stands end next j (room_behind f.storage.base source) first.rest_there follows ending main v
         (subst (λ x. Means addresses c.memory v x) (sym brings.value) (operand_means w c h a storage all.here legal)))
 
     -- Where nothing but a return is left of a block, its code does the unit's step.
     pub return_end_done : (v : Option Operand) → c.here.rest ≡ [] → c.here.end ≡ placed_end (home_at (codes c.here.function).storage) (Return v) → AreOperandsOfEnd u.statics (codes c.here.function).graph (Return v) → IsWordIfAny v
         → PiecesAt p t i b (return_pieces (codes c.here.function).storage held (codes c.here.function).saved (codes c.here.function).size b end next (option_map (source_of (codes c.here.function).storage) v)) j
-        → DoesReturn p s i b (result_words (codes c.here.function).storage held (option_map (source_of (codes c.here.function).storage) v) + (4 + length (leaving_code (codes c.here.function).saved (codes c.here.function).size))) codes u addresses goes_on c (step u c)
+        → DoesReturn p s i b (result_words (codes c.here.function).storage held (option_map (source_of (codes c.here.function).storage) v) + (5 + length (leaving_code (codes c.here.function).saved (codes c.here.function).size))) codes u addresses goes_on c (step u c)
     return_end_done v none is legal fits there =
-        let most : ℕ = result_words (codes c.here.function).storage held (option_map (source_of (codes c.here.function).storage) v) + (4 + length (leaving_code (codes c.here.function).saved (codes c.here.function).size)) in
+        let most : ℕ = result_words (codes c.here.function).storage held (option_map (source_of (codes c.here.function).storage) v) + (5 + length (leaving_code (codes c.here.function).saved (codes c.here.function).size)) in
         subst (λ l. DoesReturn p s i b most codes u addresses goes_on c (step_from u l c)) (sym none)
         (subst (λ e. DoesReturn p s i b most codes u addresses goes_on c (execute_end u e c)) (sym is) (returns_with v legal fits there))

@@ -1,10 +1,8 @@
 -- The code of a return restores what the caller is to find, and goes on behind its call, or ends the run with the result of main.
-use Rattle.std.proofs.Common.{◌≡◌, ◌≢◌, ℕ, ◌+◌, ◌≤◌, ◌⊎◌, inl, inr, sym, ap, ◌∙◌, subst, arith, refl, Option, Some, None, Bool, true, false, cond, not, List, [], ◌∷◌, length}
+use Rattle.std.proofs.Common.{◌≡◌, ◌≢◌, ℕ, ◌+◌, ◌-◌, ◌<◌, ◌≤◌, ◌⊎◌, inl, inr, sym, ap, ◌∙◌, subst, arith, refl, Option, Some, None, Bool, true, false, cond, not, List, [], ◌∷◌, length}
 use Rattle.std.specs.Prelude.{◌==◌, ◌||◌, nat_le, nat_lt, option_map}
 use Rattle.std.specs.Int.{cast_signed, w32}
-use Rattle.memory_map.specs.declared.map.Map.{Map}
-use Rattle.memory_map.specs.Maps.{most_words, bytes_end, stack_start, stack_end}
-use Rattle.rv_emit_layout.proofs.Bound.{code_has_room}
+use Rattle.memory_map.specs.Maps.{most_words, bytes_end, stack_start, stack_end, stub_words}
 use Rattle.rv_emit_storage.specs.UnitMaps.{map_of_unit}
 use Rattle.rv_code.specs.declared.instruction.Instruction.TheVariants.{Lui, Store, Immediate, Register as OnRegisters}
 use Rattle.rv_code.specs.declared.instruction.ImmediateOperation.TheVariants.{Addi}
@@ -44,39 +42,17 @@ use Rattle.rv_emit_runs.specs.Returns.{IsShownAs, exited as exited_so, Resumes, 
 use Rattle.rv_emit_runs.specs.Waiting.{FunctionCode, IsFunctionCode, setting_of, behind_frame, HoldsWaiting, HoldsAll}
 use Rattle.rv_emit_runs.proofs.Bringing.{home_made}
 use Rattle.rv_emit_runs.proofs.Ended.{IsEndedOr, ended_or, those_ended, objects_ended, length_ended, frame_those}
-use Rattle.rv_emit_runs.proofs.Ends.{going_goes, going_short}
-use Rattle.rv_emit_runs.proofs.Keeping.{grown_those, performed_leaves, all_kept}
+use Rattle.rv_emit_runs.proofs.Ends.{going_goes, going_few}
+use Rattle.rv_emit_runs.proofs.Keeping.{grown_those, performed_leaves, all_kept, all_reheld}
 use Rattle.rv_emit_runs.proofs.Leaving.{IsLeftBy, Leaves, CanLeave, leaving_leaves, leaving_returns}
 use Rattle.rv_emit_runs.proofs.Loading.{frame_found}
+use Rattle.rv_emit_runs.proofs.Maps.{index_inside}
 use Rattle.rv_emit_runs.proofs.Outer.{LeavesAbove, waiting_kept}
 use Rattle.rv_emit_runs.proofs.Placed.{behind_none, GoesTo, words_alone}
 use Rattle.rv_emit_runs.proofs.Restoring.{low_no_home, restored_a0, behind_other}
 use Rattle.rv_emit_runs.proofs.Same.{SameActivation}
 use Rattle.rv_emit_steps.proofs.Arrays.{those_same}
 use Rattle.rv_emit_runs.proofs.Stepping.{AllCome}
-
--- ---- The function is left
-
--- By its end, or where that is repeated.
-pub leave_goes : (regions : Map) (p : Program) (t : Targets) (s : MachineState) (i : ℕ) (b : Bool) (h : Holding) (saved : List ℕ) (size end next room j index : ℕ) → AreInCode p.map t → CanLeave saved size h → Stands p s i h → PiecesAt p t i b (leaving saved size b end next room) j → j ≡ t.label next
-    → CodeAt p (t.label end) false (leaving_code saved size) → word_at h.memory (h.registers 2) ≡ address_of index → index ≤ most_words regions → GoesTo p s b (1 + length (leaving_code saved size)) index (done_by_all (leaving_front saved size) h)
-leave_goes regions p t s i b h saved size end next room j index inside can stands there follows ending returns low =
-    by_test (next == end || (not (nat_le (length saved) 9) || not (nat_le (length saved + 3 + words_of_moving size) room))) there
-  where
-    by_test : (c : Bool) → PiecesAt p t i b (cond c (going b end next) (words (leaving_code saved size))) j → GoesTo p s b (1 + length (leaving_code saved size)) index (done_by_all (leaving_front saved size) h)
-    by_test true at =
-        let first : GoesTo p s b (length (going b end next)) (t.label end) h = going_goes p t s i h b end next j inside stands at follows in
-        let second = leaving_returns regions p first.reaches.state (t.label end) false h saved size index can first.reaches.stands ending returns low in
-        record {
-          count = first.count + length (leaving_code saved size);
-          few = let most = first.few in let short = going_short b end next in omega (arith, most, short);
-          reaches = reaches_then p first.count (length (leaving_code saved size)) (record { state = s; shown = b }) [] (t.label end) false h [] index false (done_by_all (leaving_front saved size) h) first.reaches second;
-        }
-    by_test false at = record {
-      count = length (leaving_code saved size);
-      few = omega arith;
-      reaches = leaving_returns regions p s i b h saved size index can stands (words_alone p t i b (leaving_code saved size) j at).0 returns low;
-    }
 
 -- A result is written by three words or less.
 answer_short : (g : StorageForm) (target : Option Home) → length (answer_code g target) ≤ 3
@@ -114,6 +90,50 @@ DoesReturn p s i b most codes u addresses goes_on c (Goes d) = Returned p s i b 
 DoesReturn p s i b most codes u addresses goes_on c (Shows e d) = ⊥
 DoesReturn p s i b most codes u addresses goes_on c (EndsUnit e) = EndsRun p s b most e
 DoesReturn p s i b most codes u addresses goes_on c Wild = Unit {0}
+
+-- More instructions may be said to be enough.
+returned_within : (p : Program) (s : MachineState) (i : ℕ) (b : Bool) (most more : ℕ) (codes : ℕ → FunctionCode) (u : UnitForm) (addresses : ℕ → ℕ) (goes_on : Activation → ℕ → Type 0) (c : Configuration) (q : Stepped) → most ≤ more
+    → DoesReturn p s i b most codes u addresses goes_on c q → DoesReturn p s i b more codes u addresses goes_on c q
+returned_within p s i b most more codes u addresses goes_on c (Goes d) le done = record {
+  caller = done.caller;
+  waits = done.waits;
+  to = done.to;
+  resumed = done.resumed;
+  value = done.value;
+  here = done.here;
+  comes = record { count = done.comes.count; few = let few = done.comes.few in omega (arith, le, few); holding = done.comes.holding; reaches = done.comes.reaches; all = done.comes.all };
+}
+returned_within p s i b most more codes u addresses goes_on c (Shows e d) le done = done
+returned_within p s i b most more codes u addresses goes_on c (EndsUnit e) le done = record { count = done.count; few = let few = done.few in omega (arith, le, few); event = done.event; shown = done.shown; ends = done.ends }
+returned_within p s i b most more codes u addresses goes_on c Wild le done = tt
+
+-- The same of what is done behind other words.
+pub returned_behind : (p : Program) (s : MachineState) (i : ℕ) (b : Bool) (n j : ℕ) (last : Bool) (g : Holding) (most : ℕ) (codes : ℕ → FunctionCode) (u : UnitForm) (addresses : ℕ → ℕ) (goes_on : Activation → ℕ → Type 0) (c : Configuration) (q : Stepped)
+    → (first : Reaches p n (record { state = s; shown = b }) [] j last g) → DoesReturn p first.state j last most codes u addresses goes_on c q → DoesReturn p s i b (n + most) codes u addresses goes_on c q
+returned_behind p s i b n j last g most codes u addresses goes_on c (Goes d) first done = record {
+  caller = done.caller;
+  waits = done.waits;
+  to = done.to;
+  resumed = done.resumed;
+  value = done.value;
+  here = done.here;
+  comes = record {
+    count = n + done.comes.count;
+    few = let few = done.comes.few in omega (arith, few);
+    holding = done.comes.holding;
+    reaches = reaches_then p n done.comes.count (record { state = s; shown = b }) [] j last g [] done.to false done.comes.holding first done.comes.reaches;
+    all = done.comes.all;
+  };
+}
+returned_behind p s i b n j last g most codes u addresses goes_on c (Shows e d) first done = done
+returned_behind p s i b n j last g most codes u addresses goes_on c (EndsUnit e) first done = record {
+  count = n + done.count;
+  few = let few = done.few in omega (arith, few);
+  event = done.event;
+  shown = done.shown;
+  ends = reaches_end p n done.count (record { state = s; shown = b }) [] j last g (done.event ∷ []) first done.ends;
+}
+returned_behind p s i b n j last g most codes u addresses goes_on c Wild first done = tt
 
 module _ (p : Program) (codes : ℕ → FunctionCode) (u : UnitForm) (valid : (k : ℕ) → IsFunctionCode u (codes k)) (addresses : ℕ → ℕ) (goes_on : Activation → ℕ → Type 0) where
   -- What a frame is left with that stands.
@@ -242,8 +262,8 @@ module _ (p : Program) (codes : ℕ → FunctionCode) (u : UnitForm) (valid : (k
 
   -- ---- The return
 
-  module _ (t : Targets) (inside : AreInCode p.map t) (s : MachineState) (i : ℕ) (b : Bool) (c : Configuration) (h : Holding) (all : HoldsAll codes u addresses (Resumes p codes goes_on) [] c h) (stands : Stands p s i h) (end next j room : ℕ)
-      (there : PiecesAt p t i b (leaving (codes c.here.function).saved (codes c.here.function).size b end next room) j) (follows : j ≡ t.label next) (ending : CodeAt p (t.label end) false (leaving_code (codes c.here.function).saved (codes c.here.function).size))
+  -- The words of the function's end stand where the machine is.
+  module _ (s : MachineState) (i : ℕ) (b : Bool) (c : Configuration) (h : Holding) (all : HoldsAll codes u addresses (Resumes p codes goes_on) [] c h) (stands : Stands p s i h) (there : CodeAt p i b (leaving_code (codes c.here.function).saved (codes c.here.function).size))
       (main : EndsMain p) (v : Value) (means : Means addresses c.memory v (h.registers 10)) where
     leaves_front : Leaves (codes c.here.function).saved (codes c.here.function).size h
     leaves_front = leaving_leaves (codes c.here.function).saved (codes c.here.function).size h (can_leave c h all)
@@ -256,18 +276,18 @@ module _ (p : Program) (codes : ℕ → FunctionCode) (u : UnitForm) (valid : (k
 
     -- To an activation that waits.
     to_caller : (a : Activation) (waiting : List Activation) → c.waiting ≡ a ∷ waiting
-        → Returned p s i b (4 + length (leaving_code (codes c.here.function).saved (codes c.here.function).size)) codes u addresses goes_on c (record { memory = ended_from c.here.first_object c.memory; input = c.input; here = take_wanted a.wants v a; waiting = waiting })
+        → Returned p s i b (3 + length (leaving_code (codes c.here.function).saved (codes c.here.function).size)) codes u addresses goes_on c (record { memory = ended_from c.here.first_object c.memory; input = c.input; here = take_wanted a.wants v a; waiting = waiting })
     to_caller a waiting waits =
         let two = both c h g a waiting all waits leaves_front.left in
         let wait = two.0 in
-        let gone : GoesTo p s b (1 + length (leaving_code (codes c.here.function).saved (codes c.here.function).size)) wait.index g =
-        leave_goes (map_of_unit u) p t s i b h (codes c.here.function).saved (codes c.here.function).size end next room j wait.index inside (can_leave c h all) stands there follows ending wait.returns wait.low in
+        let gone : Reaches p (length (leaving_code (codes c.here.function).saved (codes c.here.function).size)) (record { state = s; shown = b }) [] wait.index false g =
+        leaving_returns (map_of_unit u) p s i b h (codes c.here.function).saved (codes c.here.function).size wait.index (can_leave c h all) stands there wait.returns wait.low in
         let later : Memory = ended_from c.here.first_object c.memory in
         let c1 : Configuration = record { memory = later; input = c.input; here = a; waiting = waiting } in
         let held = caller_all c h g a waiting all waits leaves_front.left in
         let resumed = wait.code in
         let value_means : Means addresses later v (g.registers 10) = subst (λ x. Means addresses later v x) (sym result_kept) (means_later addresses c.memory later (those_ended c.here.first_object c.memory) v (h.registers 10) means) in
-        let rest = answered_comes [] c1 g a v held refl gone.reaches.state wait.index a.wants resumed.target resumed.wants resumed.among resumed.saved gone.reaches.stands resumed.code value_means in
+        let rest = answered_comes [] c1 g a v held refl gone.state wait.index a.wants resumed.target resumed.wants resumed.among resumed.saved gone.stands resumed.code value_means in
         let short = answer_short (codes a.function).storage resumed.target in
         record {
           caller = a;
@@ -277,47 +297,86 @@ module _ (p : Program) (codes : ℕ → FunctionCode) (u : UnitForm) (valid : (k
           value = v;
           here = refl;
           comes = record {
-            count = gone.count + rest.count;
-            few = let m1 = gone.few in let m2 = rest.few in omega (arith, m1, m2, short);
+            count = length (leaving_code (codes c.here.function).saved (codes c.here.function).size) + rest.count;
+            few = let few = rest.few in omega (arith, few, short);
             holding = rest.holding;
-            reaches = reaches_then p gone.count rest.count (record { state = s; shown = b }) [] wait.index false g [] (wait.index + length (answer_code (codes a.function).storage resumed.target)) false rest.holding gone.reaches rest.reaches;
+            reaches = reaches_then p (length (leaving_code (codes c.here.function).saved (codes c.here.function).size)) rest.count (record { state = s; shown = b }) [] wait.index false g [] (wait.index + length (answer_code (codes a.function).storage resumed.target)) false rest.holding gone rest.reaches;
             all = rest.all;
           };
         }
 
+    -- The code rests on the memory of the unit.
+    same_map : map_of_unit u ≡ p.map
+    same_map = sym all.here.map ∙ sym (ap (λ (x : Holding). x.regions) stands.holds) ∙ stands.map
+
+    -- Where the code goes on behind the call of main.
+    abbrev behind_main : ℕ
+    behind_main = stub_words p.map - 2
+
     -- From main.
-    from_main : (n : ℕ) → v ≡ Number n → c.waiting ≡ [] → EndsRun p s b (4 + length (leaving_code (codes c.here.function).saved (codes c.here.function).size)) (Exited n)
+    from_main : (n : ℕ) → v ≡ Number n → c.waiting ≡ [] → EndsRun p s b (3 + length (leaving_code (codes c.here.function).saved (codes c.here.function).size)) (Exited n)
     unfolding operated_immediate
     from_main n is none =
         let top = subst (λ l. HoldsWaiting codes u addresses (Resumes p codes goes_on) c.memory c.input (codes c.here.function) c.here.first_object h l) none all.waiting in
-        let gone : GoesTo p s b (1 + length (leaving_code (codes c.here.function).saved (codes c.here.function).size)) 3 g =
-        leave_goes (map_of_unit u) p t s i b h (codes c.here.function).saved (codes c.here.function).size end next room j 3 inside (can_leave c h all) stands there follows ending top.0 (omega (arith, code_has_room (map_of_unit u))) in
-        let one = code_does p gone.reaches.state 3 g false (Immediate Addi 17 0 10 ∷ []) gone.reaches.stands (main.0, tt) (tt, tt) in
+        let returns : word_at h.memory (h.registers 2) ≡ address_of behind_main = subst (λ m. word_at h.memory (h.registers 2) ≡ address_of (stub_words m - 2)) same_map top.0 in
+        let low : behind_main < most_words p.map = index_inside p behind_main false (Immediate Addi 17 0 10) main.0 in
+        let gone : Reaches p (length (leaving_code (codes c.here.function).saved (codes c.here.function).size)) (record { state = s; shown = b }) [] behind_main false g =
+        leaving_returns p.map p s i b h (codes c.here.function).saved (codes c.here.function).size behind_main (can_leave c h all) stands there returns (omega (arith, low)) in
+        let one = code_does p gone.state behind_main g false (Immediate Addi 17 0 10 ∷ []) gone.stands (main.0, tt) (tt, tt) in
         let g1 : Holding = done_by_all (Immediate Addi 17 0 10 ∷ []) g in
-        let zero : g.registers 0 ≡ 0 = gone.reaches.stands.in_range.none in
+        let zero : g.registers 0 ≡ 0 = gone.stands.in_range.none in
         let call : g1.registers 17 ≡ 10 = omega (arith, zero) in
-        let last = ends_with_status p one.state 4 g1 false one.stands main.1.0 call in
+        let last = ends_with_status p one.state (behind_main + 1) g1 false one.stands main.1.0 call in
         let word : h.registers 10 ≡ n = subst (λ x. Means addresses c.memory x (h.registers 10)) is means in
         let status : g1.registers 10 ≡ n = result_kept ∙ word in
-        let two = reaches_end p 1 1 (record { state = gone.reaches.state; shown = false }) [] 4 false g1 (Exit (cast_signed w32 (g1.registers 10)) ∷ []) one last in
-        let three = reaches_end p gone.count (1 + 1) (record { state = s; shown = b }) [] 3 false g (Exit (cast_signed w32 (g1.registers 10)) ∷ []) gone.reaches two in
+        let two = reaches_end p 1 1 (record { state = gone.state; shown = false }) [] (behind_main + 1) false g1 (Exit (cast_signed w32 (g1.registers 10)) ∷ []) one last in
+        let three =
+        reaches_end p (length (leaving_code (codes c.here.function).saved (codes c.here.function).size)) (1 + 1) (record { state = s; shown = b }) [] behind_main false g (Exit (cast_signed w32 (g1.registers 10)) ∷ []) gone two in
         record {
-          count = gone.count + (1 + 1);
-          few = let most = gone.few in omega (arith, most);
+          count = length (leaving_code (codes c.here.function).saved (codes c.here.function).size) + (1 + 1);
+          few = omega arith;
           event = Exit (cast_signed w32 n);
           shown = exited_so;
-          ends = subst (λ x. Ends p.stops (gone.count + (1 + 1)) (record { state = s; shown = b }) (Exit (cast_signed w32 x) ∷ [])) status three;
+          ends = subst (λ x. Ends p.stops (length (leaving_code (codes c.here.function).saved (codes c.here.function).size) + (1 + 1)) (record { state = s; shown = b }) (Exit (cast_signed w32 x) ∷ [])) status three;
         }
 
     -- Whichever it is.
-    pub return_done : DoesReturn p s i b (4 + length (leaving_code (codes c.here.function).saved (codes c.here.function).size)) codes u addresses goes_on c (leave c v)
-    return_done = by_waiting c.waiting refl
+    returned_here : DoesReturn p s i b (3 + length (leaving_code (codes c.here.function).saved (codes c.here.function).size)) codes u addresses goes_on c (leave c v)
+    returned_here = by_waiting c.waiting refl
       where
-        by_value : (x : Value) → v ≡ x → c.waiting ≡ [] → DoesReturn p s i b (4 + length (leaving_code (codes c.here.function).saved (codes c.here.function).size)) codes u addresses goes_on c (exited x)
+        by_value : (x : Value) → v ≡ x → c.waiting ≡ [] → DoesReturn p s i b (3 + length (leaving_code (codes c.here.function).saved (codes c.here.function).size)) codes u addresses goes_on c (exited x)
         by_value (Number n) is none = from_main n is none
         by_value (Pointer object size offset) is none = tt
         by_value Odd is none = tt
 
-        by_waiting : (waiting : List Activation) → c.waiting ≡ waiting → DoesReturn p s i b (4 + length (leaving_code (codes c.here.function).saved (codes c.here.function).size)) codes u addresses goes_on c (returned (ended_from c.here.first_object c.memory) c.input v waiting)
+        by_waiting : (waiting : List Activation) → c.waiting ≡ waiting → DoesReturn p s i b (3 + length (leaving_code (codes c.here.function).saved (codes c.here.function).size)) codes u addresses goes_on c (returned (ended_from c.here.first_object c.memory) c.input v waiting)
         by_waiting [] none = by_value v refl none
         by_waiting (a ∷ waiting) waits = to_caller a waiting waits
+
+  -- A jump to them has two words at most, and changes nothing but t0.
+  module _ (t : Targets) (inside : AreInCode p.map t) (s : MachineState) (i : ℕ) (b : Bool) (c : Configuration) (h : Holding) (all : HoldsAll codes u addresses (Resumes p codes goes_on) [] c h) (stands : Stands p s i h) (end next j room : ℕ)
+      (there : PiecesAt p t i b (leaving (codes c.here.function).saved (codes c.here.function).size b end next room) j) (follows : j ≡ t.label next) (ending : CodeAt p (t.label end) false (leaving_code (codes c.here.function).saved (codes c.here.function).size))
+      (main : EndsMain p) (v : Value) (means : Means addresses c.memory v (h.registers 10)) where
+    abbrev words_of_end : ℕ
+    words_of_end = length (leaving_code (codes c.here.function).saved (codes c.here.function).size)
+
+    pub return_done : DoesReturn p s i b (5 + length (leaving_code (codes c.here.function).saved (codes c.here.function).size)) codes u addresses goes_on c (leave c v)
+    return_done =
+        let f : FunctionCode = codes c.here.function in
+        by_test (next == end || (not (nat_le (length f.saved) 9) || not (nat_le (length f.saved + 3 + words_of_moving f.size) room))) there
+      where
+        by_test : (q : Bool) → PiecesAt p t i b (cond q (going b end next) (words (leaving_code (codes c.here.function).saved (codes c.here.function).size))) j
+            → DoesReturn p s i b (5 + words_of_end) codes u addresses goes_on c (leave c v)
+        by_test true at =
+            let first : GoesTo p s b (j - i) (t.label end) h = going_goes p t s i h b end next j inside stands at follows in
+            let few = first.few in
+            let short : j ≤ i + 2 = going_few p t i b end next j at in
+            let same = first.same in
+            let later = all_reheld codes u valid addresses (Resumes p codes goes_on) [] [] c h first.holding all (λ q kept. same.registers q kept.left.t0) same.regions same.memory same.input tt tt in
+            let word : h.registers 10 ≡ first.holding.registers 10 = sym (same.registers 10 (λ e. cc)) in
+            returned_within p s i b (first.count + (3 + words_of_end)) (5 + words_of_end) codes u addresses goes_on c (leave c v) (omega (arith, few, short))
+            (returned_behind p s i b first.count (t.label end) false first.holding (3 + words_of_end) codes u addresses goes_on c (leave c v) first.reaches
+            (returned_here first.reaches.state (t.label end) false c first.holding later first.reaches.stands ending main v (subst (λ x. Means addresses c.memory v x) word means)))
+        by_test false at =
+            let code = words_alone p t i b (leaving_code (codes c.here.function).saved (codes c.here.function).size) j at in
+            returned_within p s i b (3 + words_of_end) (5 + words_of_end) codes u addresses goes_on c (leave c v) (omega arith) (returned_here s i b c h all stands code.0 main v means)

@@ -2,6 +2,7 @@
 use Rattle.std.proofs.Common.{◌≢◌, ℕ, ◌+◌, ◌<◌, ◌≤◌, inl, inr, ⊎_elim, arith, length, ◌≡◌, subst, false, List, []}
 use Rattle.graph_core_weights.proofs.Apart.{AreApart, apart_between}
 use Rattle.graph_homes.specs.Homed.{HomedForm}
+use Rattle.memory_map.specs.Maps.{stub_words}
 use Rattle.rv_emit_tables.specs.Emitted.{EmittedForm}
 use Rattle.rv_emit_code.specs.Blocks.{no_code}
 use Rattle.rv_emit_code.specs.Leaving.{leaving_code}
@@ -33,7 +34,7 @@ module _ (h : HomedForm) (e : EmittedForm) (code : IsCode h e) (parts : StandApa
   apart_has_room = record {
     words = parts.words;
     blocks = parts.blocks;
-    all = apart_between code.arrangement.function (words_of_function h code.arrangement parts.words) (length h.unit.graphs) 5 (length e.code) parts.stub (λ f low. (parts.begins f low).0)
+    all = apart_between code.arrangement.function (words_of_function h code.arrangement parts.words) (length h.unit.graphs) (stub_words e.map) (length e.code) parts.stub (λ f low. (parts.begins f low).0)
         (λ f low. let one = function_fits f low in let most = parts.all f low in omega (arith, one, most)) functions_apart;
   }
 

@@ -1,7 +1,7 @@
 -- Where a run begins the machine comes to hold the activation of main: the words before all functions set sp and tp and call it, and its own make its frame and set gp.
 use Rattle.std.proofs.Common.{◌≡◌, ℕ, zero, suc, ◌+◌, ◌-◌, ◌*◌, ◌%◌, ◌<◌, ◌≤◌, ◌⊎◌, ⊎_elim, inl, inr, sym, ap, ◌∙◌, subst, arith, refl, Some, None, true, cond, List, [], ◌∷◌, ◌++◌, length, length-append, map, slice_get}
 use Rattle.std.proofs.lemmas.Bool.{le-ltb}
-use Rattle.memory_map.specs.Maps.{bytes_end, stack_start, stack_end}
+use Rattle.memory_map.specs.Maps.{bytes_end, stack_start, stack_end, stub_words}
 use Rattle.memory_map.proofs.Facts.{map_facts}
 use Rattle.rv_emit_storage.specs.UnitMaps.{map_of_unit}
 use Rattle.graph_core.specs.declared.value.Value.TheVariants.{Odd}
@@ -46,7 +46,7 @@ static_size statics (x ∷ all) k (suc n) o e = static_size statics all (k + 1) 
 
 -- What the machine holds where the words before all functions begin: nothing but static memory and the input is looked at.
 module _ (codes : ℕ → FunctionCode) (u : UnitForm) (valid : (k : ℕ) → IsFunctionCode u (codes k)) (addresses : ℕ → ℕ) (resumes : Activation → ℕ → Type 0) (h : Holding) (input : List ℕ) (same_input : h.input ≡ input) (loaded : IsLoaded u (codes u.main).storage addresses h.memory)
-    (same_map : h.regions ≡ map_of_unit u) (zero_is : h.registers 0 ≡ 0) (sp_is : h.registers 2 ≡ stack_end (map_of_unit u)) (ra : h.registers 1 ≡ address_of 3) (tp : h.registers 4 ≡ 1023) (words : (q : ℕ) → h.registers q < 4294967296) where
+    (same_map : h.regions ≡ map_of_unit u) (zero_is : h.registers 0 ≡ 0) (sp_is : h.registers 2 ≡ stack_end (map_of_unit u)) (ra : h.registers 1 ≡ address_of (stub_words (map_of_unit u) - 2)) (tp : h.registers 4 ≡ 1023) (words : (q : ℕ) → h.registers q < 4294967296) where
   abbrev pub f : FunctionCode
   f = codes u.main
 

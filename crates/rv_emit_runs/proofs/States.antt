@@ -1,5 +1,5 @@
 -- Code as it grows by an instruction: what it appends stands as words do, and what is known behind it.
-use Rattle.std.proofs.Common.{◌≡◌, ℕ, ◌+◌, ◌<◌, ◌≤◌, inl, inr, sym, ap, ◌∙◌, subst, arith, refl, Option, Some, None, Bool, false, List, [], ◌∷◌, ◌++◌, length, length-append}
+use Rattle.std.proofs.Common.{◌≡◌, ℕ, ◌+◌, ◌-◌, ◌<◌, ◌≤◌, inl, inr, sym, ap, ◌∙◌, subst, arith, refl, Option, Some, None, Bool, false, List, [], ◌∷◌, ◌++◌, length, length-append}
 use Rattle.std.specs.Prelude.{option_map}
 use Rattle.rv_code.specs.declared.instruction.Instruction.{Instruction as MachineInstruction}
 use Rattle.rv_code.specs.declared.instruction.Instruction.TheVariants as instruction
@@ -19,12 +19,12 @@ use Rattle.rv_emit_steps.specs.Programs.{Program, distance, IsAt, CodeAt, behind
 use Rattle.rv_emit_code.specs.Ends.{words}
 use Rattle.rv_emit_code.proofs.Growing.{code_reheld, begins_then}
 use Rattle.rv_emit_runs.specs.Passing.{passing_code, passing_held}
-use Rattle.rv_emit_runs.specs.Pieces.{Targets, PieceAt}
+use Rattle.rv_emit_runs.specs.Pieces.{Targets, PieceAt, IsJump}
 use Rattle.rv_emit_runs.specs.Placed.{PlacedAt}
 use Rattle.rv_emit_runs.specs.Returns.{answer_code}
 use Rattle.rv_emit_runs.proofs.Appended.{BothPlaced, both_placed}
 use Rattle.rv_emit_runs.proofs.Grown.{Appends, code_append}
-use Rattle.rv_emit_runs.proofs.Placed.{behind_none, begins_is, words_alone}
+use Rattle.rv_emit_runs.proofs.Placed.{behind_none, begins_is, jump_long, jump_short, piece_long, words_alone}
 
 -- Where code begins to grow, of a place, with constants held, and a stop that has no word yet or none.
 abbrev pub growing : (held : List Held) (owner : ℕ) (begins : Bool) → CodeState
@@ -70,11 +70,7 @@ code_behind p t i k code s at =
 
 -- A piece has a word.
 piece_some : (p : Program) (t : Targets) (i : ℕ) (b : Bool) (x : Piece) (k : ℕ) → PieceAt p t i b x k → i < k
-piece_some p t i b (piece.Word x) k (at, next) = omega (arith, next)
-piece_some p t i b (piece.Jump to) k (at, next) = omega (arith, next)
-piece_some p t i b (piece.Call f) k (at, next) = omega (arith, next)
-piece_some p t i b (piece.Branch op l r to) k (inl (at, next)) = omega (arith, next)
-piece_some p t i b (piece.Branch op l r to) k (inr (at, over, next)) = omega (arith, next)
+piece_some p t i b x k at = let long = piece_long p t i b x k at in omega (arith, long)
 
 -- What stands behind pieces stands at no lower index.
 pub placed_within : (p : Program) (t : Targets) (i : ℕ) (all : List PlacedPiece) (j : ℕ) → PlacedAt p t i all j → i ≤ j
@@ -181,13 +177,16 @@ called_pieces g target f all s =
     let last = pieces_of_code answer (with_piece (piece.Call f) (record s1 { held = [] })) in
     omega (arith, front, one, last)
 
--- Its words, where they stand: the arguments are passed, the function is called by a word of the place in force, and the result is written behind that.
+-- Its words, where they stand: the arguments are passed, the function is called by one word or two of the place in force, and the result is written behind them.
 pub record CallThere (p : Program) (t : Targets) (i k : ℕ) (passing : List MachineInstruction) (b : Bool) (owner f : ℕ) (answer : List MachineInstruction) : Type 0 where
   pub passes : CodeAt p i b passing
-  pub calls : IsAt p (i + length passing) (behind b passing) (instruction.Jal 1 (distance (i + length passing) (t.function f)))
-  pub owned : t.owner (i + length passing) ≡ owner
-  pub answers : CodeAt p (i + length passing + 1) false answer
-  pub is : k ≡ i + length passing + 1 + length answer
+  pub after : ℕ
+  pub calls : IsJump p (i + length passing) (behind b passing) 1 1 (t.function f) after
+  pub owned : t.owner (after - 1) ≡ owner
+  pub answers : CodeAt p after false answer
+  pub is : k ≡ after + length answer
+  pub some : i + length passing + 1 ≤ after
+  pub few : after ≤ i + length passing + 2
 
 pub function_there : (p : Program) (t : Targets) (i k : ℕ) (g : StorageForm) (target : Option ℕ) (f : ℕ) (all : List Operand) (s : CodeState) → s.pieces ≡ [] → PlacedAt p t i (function_called g target f all s).pieces k
     → CallThere p t i k (passing_code g 0 s.held all) s.begins s.owner f (answer_code g (option_map (home_at g) target))
@@ -205,14 +204,18 @@ function_there p t i k g target f all s none at =
         → PlacedAt p t n ((record { piece = piece.Call f; owner = (with_code (passing_code g 0 s.held all) s).owner; is_stop = (with_code (passing_code g 0 s.held all) s).begins; writes = None }) ∷ []) m
         → CodeAt p m false (answer_code g (option_map (home_at g) target)) → k ≡ m + length (answer_code g (option_map (home_at g) target))
         → CallThere p t i k (passing_code g 0 s.held all) s.begins s.owner f (answer_code g (option_map (home_at g) target))
-    parts passes n same m (j, (call, next), of, end) answers is =
+    parts passes n same m (j, call, of, end) answers is =
         let passing : List MachineInstruction = passing_code g 0 s.held all in
-        let here : m ≡ i + length passing + 1 = omega (arith, end, next, same) in
+        let long = jump_long p n (with_code (passing_code g 0 s.held all) s).begins 1 1 (t.function f) j call in
+        let short = jump_short p n (with_code (passing_code g 0 s.held all) s).begins 1 1 (t.function f) j call in
         record {
           passes = passes;
-          calls = subst (λ q. IsAt p q (behind s.begins passing) (instruction.Jal 1 (distance q (t.function f)))) same
-              (subst (λ c. IsAt p n c (instruction.Jal 1 (distance n (t.function f)))) (code_begins passing s) call);
-          owned = ap t.owner (sym same) ∙ of n (omega arith) (omega (arith, next)) ∙ code_owner passing s;
-          answers = subst (λ q. CodeAt p q false (answer_code g (option_map (home_at g) target))) here answers;
-          is = is ∙ ap (λ q. q + length (answer_code g (option_map (home_at g) target))) here;
+          after = m;
+          calls = subst (λ q. IsJump p q (behind s.begins passing) 1 1 (t.function f) m) same
+              (subst (λ c. IsJump p n c 1 1 (t.function f) m) (code_begins passing s) (subst (λ k. IsJump p n (with_code (passing_code g 0 s.held all) s).begins 1 1 (t.function f) k) (sym end) call));
+          owned = of (m - 1) (omega (arith, long, end)) (omega (arith, long, end)) ∙ code_owner passing s;
+          answers = answers;
+          is = is;
+          some = omega (arith, long, end, same);
+          few = omega (arith, short, end, same);
         }

@@ -10,13 +10,15 @@ use Rattle.graph_core.specs.Runs.{Configuration, step}
 use Rattle.graph_core.specs.Validity.{IsValid, IsInstruction, IsNoteValue}
 use Rattle.graph_homes.specs.Homed.{HomedForm, HaveHomes, over_homes}
 use Rattle.rv_emit_tables.specs.Emitted.{EmittedForm}
-use Rattle.rv_emit_steps.specs.Programs.{Program, distance, IsAt}
+use Rattle.rv_emit_steps.specs.Programs.{Program, IsAt}
 use Rattle.rv_emit_steps.specs.Points.{Point}
 use Rattle.rv_emit_storage.specs.Storages.{StorageForm}
 use Rattle.rv_emit_words.specs.Growing.{CodeState}
 use Rattle.rv_emit_code.specs.Beginning.{beginning_behind}
 use Rattle.rv_emit_code.specs.Blocks.{no_code, with_stub}
-use Rattle.rv_emit_runs.specs.Pieces.{Targets}
+use Rattle.memory_map.specs.Maps.{stub_words}
+use Rattle.memory_map.proofs.Facts.{map_facts}
+use Rattle.rv_emit_runs.specs.Pieces.{Targets, IsJump}
 use Rattle.rv_emit_runs.specs.Placed.{PlacedAt}
 use Rattle.rv_emit_runs.specs.Returns.{EndsMain}
 use Rattle.rv_emit_runs.specs.Waiting.{FunctionCode}
@@ -38,22 +40,23 @@ use Rattle.rv_emit_runs.proofs.UnitSteps.{spot_of}
 pub record StubThere (p : Program) (t : Targets) (main : ℕ) : Type 0 where
   pub stub : StubAt p (t.function main)
   pub ends : EndsMain p
-  pub owned : t.owner 2 ≡ 0
+  pub owned : t.owner (stub_words p.map - 3) ≡ 0
 
-stub_is : (p : Program) (t : Targets) (main : ℕ) → PlacedAt p t 0 (with_stub p.map main (no_code 0 [])).pieces 5 → StubThere p t main
-stub_is p t main (k1, (a1, n1), o1, (k2, (a2, n2), o2, (k3, (a3, n3), o3, (k4, (a4, n4), o4, (k5, (a5, n5), o5, end))))) =
+stub_is : (p : Program) (t : Targets) (main : ℕ) → PlacedAt p t 0 (with_stub p.map main (no_code 0 [])).pieces (stub_words p.map) → StubThere p t main
+stub_is p t main (k1, (a1, n1), o1, (k2, (a2, n2), o2, (k3, a3, o3, (k4, (a4, n4), o4, (k5, (a5, n5), o5, end))))) =
     let is1 : k1 ≡ 1 = omega (arith, n1) in
     let is2 : k2 ≡ 2 = omega (arith, n1, n2) in
-    let is3 : k3 ≡ 3 = omega (arith, n1, n2, n3) in
-    let is4 : k4 ≡ 4 = omega (arith, n1, n2, n3, n4) in
+    let some = (map_facts p.map).stub in
+    let is3 : k3 ≡ stub_words p.map - 2 = omega (arith, n4, n5, end, some) in
+    let is4 : k4 ≡ stub_words p.map - 2 + 1 = omega (arith, n4, is3) in
     record {
       stub = record {
         sp = a1;
         tp = subst (λ k. IsAt p k false (instruction.Immediate Addi 4 0 1024)) is1 a2;
-        call = subst (λ k. IsAt p k false (instruction.Jal 1 (distance k (t.function main)))) is2 a3;
+        call = subst (λ k. IsJump p k false 1 1 (t.function main) (stub_words p.map - 2)) is2 (subst (λ k. IsJump p k2 false 1 1 (t.function main) k) is3 a3);
       };
       ends = (subst (λ k. IsAt p k false (instruction.Immediate Addi 17 0 10)) is3 a4, (subst (λ k. IsAt p k false instruction.Ecall) is4 a5, tt));
-      owned = o3 2 (omega (arith, is2)) (omega (arith, is3));
+      owned = o3 (stub_words p.map - 3) (omega (arith, is2, some)) (omega (arith, is3, some));
     }
 
 pub stub_there : (h : HomedForm) (e : EmittedForm) (code : IsCode h e) → StubThere (program_in h e code) (places_in h e code h.unit.main) h.unit.main
@@ -61,8 +64,8 @@ stub_there h e code = stub_is (program_in h e code) (places_in h e code h.unit.m
 
 -- ---- Steps
 
--- How many instructions the machine takes at most for one of the unit: as many as its code has pieces, of which each is a word; where words are set or copied, three or five more for each of them;
--- and where a function is called, also those with which that begins.
+-- How many instructions the machine takes at most for one of the unit: as many as its code has pieces; where words are set or copied, three or five more for each of them;
+-- and where a function is called, by one word or two, also those with which that begins.
 abbrev pub longest_of : HomedForm → Arrangement → StorageForm → (entry : ℕ) → Instruction → CodeState → ℕ
 longest_of h a g entry (Zero object count) s = pieces_of g entry (Zero object count) s + 3 * count
 longest_of h a g entry (CopyWords object bytes count) s = pieces_of g entry (CopyWords object bytes count) s + 5 * count

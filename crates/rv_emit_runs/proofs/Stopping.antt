@@ -1,8 +1,8 @@
 -- At a stop the machine holds what a debugger reads there: the place, the frames of all activations, the homes of the innermost one, and all objects.
-use Rattle.std.proofs.Common.{◌≡◌, ℕ, ◌+◌, ◌%◌, ◌≤◌, inl, inr, sym, ap, ◌∙◌, subst, arith, refl, Option, Some, None, Bool, true, false, ◌||◌, List, [], ◌∷◌, length, map}
+use Rattle.std.proofs.Common.{◌≡◌, ℕ, ◌+◌, ◌-◌, ◌%◌, ◌≤◌, inl, inr, sym, ap, ◌∙◌, subst, arith, refl, Option, Some, None, Bool, true, false, ◌||◌, List, [], ◌∷◌, length, map}
 use Rattle.std.specs.Prelude.{◌==◌, option_map, slice_index}
 use Rattle.std.proofs.lemmas.Bool.{eqb-true}
-use Rattle.memory_map.specs.Maps.{most_words, stack_start, stack_end}
+use Rattle.memory_map.specs.Maps.{most_words, stack_start, stack_end, stub_words}
 use Rattle.memory_map.proofs.Facts.{map_facts}
 use Rattle.rv_emit_runs.proofs.Maps.{code_map}
 use Rattle.rv_emit_storage.specs.UnitMaps.{map_of_unit}
@@ -19,7 +19,7 @@ use Rattle.rv_emit_storage.specs.StaticAddresses.{static_addresses}
 use Rattle.rv_emit_tables.specs.declared.emitted.PlacedStop.{PlacedStop}
 use Rattle.rv_emit_tables.specs.Emitted.{EmittedForm}
 use Rattle.rv_emit_words.specs.declared.piece.Held.{Held}
-use Rattle.rv_emit_steps.specs.Holding.{AreInRange, Holding}
+use Rattle.rv_emit_steps.specs.Holding.{AreInRange, Holding, word_at}
 use Rattle.rv_emit_steps.specs.Programs.{address_of, Stands}
 use Rattle.rv_emit_steps.specs.EmitMovesDoing.{value_of_home}
 use Rattle.rv_emit_steps.specs.Meaning.{Means, HoldsObjects, AreLaid}
@@ -116,7 +116,7 @@ module _ (h : HomedForm) (valid : IsValid h.unit) (homed : HaveHomes h) (e : Emi
   stack_is memory input held x [] g frame (returns, top) =
       let whole = whole_size x.function in (
         frame_is held (record { memory = memory; input = input; here = x; waiting = [] }) g frame (omega (arith, top, whole, (map_facts (map_of_unit (over_homes h))).frames)),
-        returns,
+        subst (λ m. word_at g.memory (g.registers 2) ≡ address_of (stub_words m - 2)) (code_map h e code) returns,
         subst (λ m. g.registers 2 + (codes_in h e code x.function).size ≡ stack_end m) (code_map h e code) top,
       )
   stack_is memory input held x (y ∷ waiting) g frame (wait, others) =

@@ -5,6 +5,7 @@ use Rattle.std.specs.List.{AllByRecursion}
 use Rattle.std.proofs.lemmas.Bool.{cases_eq, or_left, or_right, or_from, eq-eqb, ne_eqb}
 use Rattle.std.proofs.lemmas.Option.{slice_get_within}
 use Rattle.memory_map.specs.declared.map.Map.{Map}
+use Rattle.memory_map.specs.declared.map.Room.{Room}
 use Rattle.memory_map.specs.Maps.{most_words}
 use Rattle.memory_map.proofs.Facts.{map_facts}
 use Rattle.rv_machine.specs.Run.{is_stop}
@@ -37,12 +38,12 @@ no_stop_there (x ∷ more) a all = or_from (x.address == a) (is_stop (map (λ (s
 
 -- ---- The stops of a function
 
-module _ (regions : Map) (s : SequenceForm) (l : LayoutForm) (first : ℕ) (layout : IsLayoutOf s l) (low : first + words_before l.far s.pieces (length s.pieces) ≤ most_words regions) where
-  pub address_is : (i : ℕ) (x : PlacedPiece) → slice_get s.pieces i ≡ Some x → piece_address l first i ≡ address_of (first + words_before l.far s.pieces i)
+module _ (room : Room) (regions : Map) (s : SequenceForm) (l : LayoutForm) (first : ℕ) (layout : IsLayoutOf room s l) (low : first + words_before l.reaches s.pieces (length s.pieces) ≤ most_words regions) where
+  pub address_is : (i : ℕ) (x : PlacedPiece) → slice_get s.pieces i ≡ Some x → piece_address l first i ≡ address_of (first + words_before l.reaches s.pieces i)
   address_is i x e =
       let within : i < length s.pieces = slice_get_within s.pieces i x e in
-      let offset : slice_index l.offsets i ≡ words_before l.far s.pieces i = layout.offsets i (omega (arith, within)) in
-      let more : words_before l.far s.pieces i ≤ words_before l.far s.pieces (length s.pieces) = words_more l.far s.pieces i (length s.pieces) (omega (arith, within)) in
+      let offset : slice_index l.offsets i ≡ words_before l.reaches s.pieces i = layout.offsets i (omega (arith, within)) in
+      let more : words_before l.reaches s.pieces i ≤ words_before l.reaches s.pieces (length s.pieces) = words_more l.reaches s.pieces i (length s.pieces) (omega (arith, within)) in
       omega (arith, offset, more, low, (map_facts regions).few)
 
   -- The stop of a piece.

@@ -12,7 +12,7 @@ use Rattle.rv_emit_storage.proofs.Filling.{addresses_count, have_all}
 use Rattle.rv_emit_sequence.specs.Sequences.{Ground, counted}
 use Rattle.rv_emit_runs.specs.Laid.{graph_at}
 use Rattle.rv_emit_runs.proofs.Frames.{graph_is}
-use Rattle.rv_emit_layout.specs.Laid.{LaidForm, ground_for, parameters_in, told_by, told_of_all, IsEmittedOf, IsLaidOf}
+use Rattle.rv_emit_layout.specs.Laid.{LaidForm, ground_for, parameters_in, told_by, told_of_all, IsEmittedOf, IsDrawnOf}
 use Rattle.rv_emit_runs.specs.Told.{IsTold, Tells}
 use Rattle.rv_emit_runs.proofs.Grounds.{ground_at, ground_is}
 use Rattle.rv_emit_runs.proofs.UnitCode.{arranged}
@@ -36,7 +36,7 @@ told_there graphs firsts (x ∷ more) f (suc k) l few e =
 
 objects_many : (u : UnitForm) (addresses : List ℕ) → addresses ≡ take (length u.statics) (static_addresses u) → length addresses ≡ length u.statics
 objects_many u addresses is =
-    let all = addresses_count statics_start (static_sizes u) in
+    let all = addresses_count (statics_start u) (static_sizes u) in
     let both = length-append (map static_bytes u.statics) (map (λ (b : List ℕ). length b) u.array_bytes) in
     let objects = length-map u.statics static_bytes in
     ap (λ (l : List ℕ). length l) is ∙ length-take-le (length u.statics) (static_addresses u) (omega (arith, all, both, objects))
@@ -53,8 +53,8 @@ module _ (h : HomedForm) (valid : IsValid h.unit) (homed : HaveHomes h) (e : Emi
           let few : length h.unit.graphs ≤ 256 = valid.functions in
           let count : length emitted.coded.all ≡ length h.unit.graphs = laid_count h emitted.statics 0 h.unit.graphs emitted.coded.all emitted.code.laid in
           let graph : g ≡ graph_at h.unit f = sym (graph_is h.unit f g is) in
-          let laid : IsLaidOf emitted.statics (graph_at h.unit f) (homes_in h f) (f == h.unit.main) found.laid =
-          subst (λ q. IsLaidOf emitted.statics q (homes_in h f) (f == h.unit.main) found.laid) graph (subst (λ j. IsLaidOf emitted.statics g (homes_in h j) (j == h.unit.main) found.laid) here found.is) in
+          let laid : IsDrawnOf emitted.statics (graph_at h.unit f) (homes_in h f) (f == h.unit.main) found.laid =
+          subst (λ q. IsDrawnOf emitted.statics q (homes_in h f) (f == h.unit.main) found.laid) graph (subst (λ j. IsDrawnOf emitted.statics g (homes_in h j) (j == h.unit.main) found.laid) here found.is) in
           let ground : ground_for emitted.statics (graph_at h.unit f) (homes_in h f) found.laid ≡ ground_at h valid homed emitted.statics emitted.addresses (arranged emitted.statics emitted.coded) refl f =
           ground_is h valid homed emitted.statics emitted.addresses (arranged emitted.statics emitted.coded) refl f (slice_get_within h.unit.graphs f g is) (f == h.unit.main) found.laid laid in
           record {

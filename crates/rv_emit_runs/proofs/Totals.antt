@@ -9,6 +9,7 @@ use Rattle.graph_core_weights.specs.Costs.{Costs, cost_of_all, cost_of_block}
 use Rattle.graph_core_weights.proofs.Standing.{in_place, place_there}
 use Rattle.graph_core_weights.proofs.Sums.{sum_most, sum_both, sum_times}
 use Rattle.graph_homes.specs.Homed.{HomedForm}
+use Rattle.memory_map.proofs.Facts.{map_facts}
 use Rattle.rv_emit_tables.specs.Emitted.{EmittedForm}
 use Rattle.rv_emit_words.specs.declared.piece.Held.{Held}
 use Rattle.rv_emit_words.specs.Growing.{CodeState}
@@ -155,4 +156,5 @@ module _ (h : HomedForm) (timed : AreTimed h.unit) (e : EmittedForm) (code : IsC
         let three = sum_times 1025 (once h e code room) n in
         let four = sum_times 1025 w n in
         let most = room.all in
-        omega (arith, le, one, two, three, four, most)
+        let stub = (map_facts e.map).stub in
+        omega (arith, le, one, two, three, four, most, stub)

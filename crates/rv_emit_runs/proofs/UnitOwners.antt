@@ -15,11 +15,13 @@ use Rattle.rv_emit_tables.specs.declared.emitted.PlacedStop.{PlacedStop}
 use Rattle.rv_emit_tables.specs.Emitted.{EmittedForm, FunctionCode}
 use Rattle.rv_emit_words.specs.declared.piece.PlacedPiece.{PlacedPiece}
 use Rattle.rv_emit_sequence.specs.Sequences.{IsSequenceOf}
+use Rattle.rv_emit_layout.specs.declared.reaching.Reach.TheVariants.{Near}
+use Rattle.rv_emit_layout.specs.declared.reaching.Reach.{Reach}
 use Rattle.rv_emit_layout.specs.declared.layout.OwnedWord.{OwnedWord}
 use Rattle.rv_emit_layout.specs.Layouts.{Lying, function_words, lying, owned_words, piece_code, words_from, words_before}
 use Rattle.rv_emit_runs.specs.Laid.{program_of}
 use Rattle.rv_emit_runs.proofs.Lists.{all_at}
-use Rattle.rv_emit_layout.specs.Laid.{LaidForm, ground_for, parameters_in, told_by, IsEmittedOf, IsLaidOf}
+use Rattle.rv_emit_layout.specs.Laid.{LaidForm, ground_for, parameters_in, told_by, IsEmittedOf, IsDrawnOf}
 use Rattle.rv_emit_sequence.specs.Sequences.{counted}
 use Rattle.rv_emit_runs.specs.Owners.{HasOwnWords, IsOwnedBy}
 use Rattle.rv_emit_runs.proofs.Functions.{FunctionIn, function_count}
@@ -40,11 +42,11 @@ module _ (P : ℕ → Type 0) where
   piece_words_owned owner [] own = tt
   piece_words_owned owner (i ∷ more) own = (own, piece_words_owned owner more own)
 
-  words_owned : (t : Lying) (far : List Bool) (i : ℕ) (pieces : List PlacedPiece) → AreOwned P pieces → AreWordsOwned (words_from t far i pieces)
-  words_owned t far i [] own = tt
-  words_owned t far i (x ∷ more) own =
-      all_append (λ (w : OwnedWord). P w.owner) (owned_words x.owner (piece_code t (get_or far i false) (slice_index t.offsets i) x.piece)) (words_from t far (counted (i + 1)) more)
-      (piece_words_owned x.owner (piece_code t (get_or far i false) (slice_index t.offsets i) x.piece) own.0) (words_owned t far (counted (i + 1)) more own.1)
+  words_owned : (t : Lying) (reaches : List Reach) (i : ℕ) (pieces : List PlacedPiece) → AreOwned P pieces → AreWordsOwned (words_from t reaches i pieces)
+  words_owned t reaches i [] own = tt
+  words_owned t reaches i (x ∷ more) own =
+      all_append (λ (w : OwnedWord). P w.owner) (owned_words x.owner (piece_code t (get_or reaches i Near) (slice_index t.offsets i) x.piece)) (words_from t reaches (counted (i + 1)) more)
+      (piece_words_owned x.owner (piece_code t (get_or reaches i Near) (slice_index t.offsets i) x.piece) own.0) (words_owned t reaches (counted (i + 1)) more own.1)
 
   -- the owner of one of some words that stand among others
   word_owner : (before own rest : List OwnedWord) (i : ℕ) → AreWordsOwned own → length before ≤ i → i < length before + length own → P (slice_index (map (λ (w : OwnedWord). w.owner) (before ++ (own ++ rest))) i)
@@ -75,10 +77,10 @@ module _ (h : HomedForm) (valid : IsValid h.unit) (e : EmittedForm) (emitted : I
   few : length h.unit.graphs ≤ 4294967295
   few = let functions : length h.unit.graphs ≤ 256 = valid.functions in omega (arith, functions)
 
-  has : HasCode (program_of e short) e.owners emitted.coded
+  has : HasCode h.unit.room (program_of e short) e.owners emitted.coded
   has = record { reach = emitted_in_reach h e emitted; words = emitted.words; own = emitted.owners; stops = ap (λ l. map (λ (x : PlacedStop). x.address) l) emitted.stops }
 
-  pieces_owned : (f : ℕ) (g : Graph) (is_main : Bool) (l : LaidForm) → slice_get h.unit.graphs f ≡ Some g → IsLaidOf emitted.statics g (homes_in h f) is_main l → AreOwned (IsOwnedBy g) l.sequence.pieces
+  pieces_owned : (f : ℕ) (g : Graph) (is_main : Bool) (l : LaidForm) → slice_get h.unit.graphs f ≡ Some g → IsDrawnOf emitted.statics g (homes_in h f) is_main l → AreOwned (IsOwnedBy g) l.sequence.pieces
   pieces_owned f g is_main l at is =
       let graph : IsGraph h.unit g = all_at (IsGraph h.unit) h.unit.graphs f g valid.graphs at in
       let blocks : length g.blocks ≤ 120000 = blocks_few h.unit valid f g at in
@@ -94,13 +96,13 @@ module _ (h : HomedForm) (valid : IsValid h.unit) (e : EmittedForm) (emitted : I
       by_laid laid =
           let here : 0 + f ≡ f = omega arith in
           let count : length emitted.coded.all ≡ length h.unit.graphs = laid_count h emitted.statics 0 h.unit.graphs emitted.coded.all emitted.code.laid in
-          let is : IsLaidOf emitted.statics g (homes_in h f) (f == h.unit.main) laid.laid = subst (λ j. IsLaidOf emitted.statics g (homes_in h j) (j == h.unit.main) laid.laid) here laid.is in
-          let one : FunctionIn emitted.coded.words emitted.coded.firsts f laid.laid = found h emitted.statics emitted.coded emitted.code (program_of e short) e.owners has few f laid.laid laid.there in
-          let fit : Fits e.map laid.laid (slice_index emitted.coded.firsts f) = fits h emitted.statics emitted.coded emitted.code (program_of e short) e.owners has few f laid.laid laid.there in
+          let is : IsDrawnOf emitted.statics g (homes_in h f) (f == h.unit.main) laid.laid = subst (λ j. IsDrawnOf emitted.statics g (homes_in h j) (j == h.unit.main) laid.laid) here laid.is in
+          let one : FunctionIn h.unit.room emitted.coded.words emitted.coded.firsts f laid.laid = found h emitted.statics emitted.coded emitted.code (program_of e short) e.owners has few f laid.laid laid.there in
+          let fit : Fits h.unit.room e.map laid.laid (slice_index emitted.coded.firsts f) = fits h emitted.statics emitted.coded emitted.code (program_of e short) e.owners has few f laid.laid laid.there in
           let words = function_words laid.laid.sequence laid.laid.layout (slice_index emitted.coded.firsts f) emitted.coded.firsts in
-          let size : length words ≡ words_before laid.laid.layout.far laid.laid.sequence.pieces (length laid.laid.sequence.pieces) = function_count laid.laid.sequence laid.laid.layout (slice_index emitted.coded.firsts f) emitted.coded.firsts one.few in
-          let all : laid.laid.layout.words ≡ words_before laid.laid.layout.far laid.laid.sequence.pieces (length laid.laid.sequence.pieces) = fit.layout.words in
-          let most : slice_index emitted.coded.firsts f + words_before laid.laid.layout.far laid.laid.sequence.pieces (length laid.laid.sequence.pieces) ≤ most_words e.map = fit.low in
+          let size : length words ≡ words_before laid.laid.layout.reaches laid.laid.sequence.pieces (length laid.laid.sequence.pieces) = function_count laid.laid.sequence laid.laid.layout (slice_index emitted.coded.firsts f) emitted.coded.firsts one.few in
+          let all : laid.laid.layout.words ≡ words_before laid.laid.layout.reaches laid.laid.sequence.pieces (length laid.laid.sequence.pieces) = fit.layout.words in
+          let most : slice_index emitted.coded.firsts f + words_before laid.laid.layout.reaches laid.laid.sequence.pieces (length laid.laid.sequence.pieces) ≤ most_words e.map = fit.low in
           let code_is : told_by (slice_index emitted.coded.firsts f) (parameters_in h.unit.graphs f) laid.laid ≡ code =
           same_Some (told_by (slice_index emitted.coded.firsts f) (parameters_in h.unit.graphs f) laid.laid) code
           (sym (ap (λ l. slice_get l f) emitted.functions ∙ told_there h.unit.graphs emitted.coded.firsts emitted.coded.all 0 f laid.laid (omega (arith, few, count)) laid.there ∙ ap (λ j. Some (told_by (slice_index emitted.coded.firsts j) (parameters_in h.unit.graphs j) laid.laid)) here) ∙ told) in
@@ -109,5 +111,5 @@ module _ (h : HomedForm) (valid : IsValid h.unit) (e : EmittedForm) (emitted : I
           let begin : length one.before ≡ slice_index emitted.coded.firsts f = one.begin in
           subst (λ own. IsOwnedBy g (slice_index own i)) (sym (emitted.owners ∙ ap (λ ws. map (λ (w : OwnedWord). w.owner) ws) one.words))
           (word_owner (IsOwnedBy g) one.before words one.behind i
-          (words_owned (IsOwnedBy g) (lying laid.laid.sequence laid.laid.layout (slice_index emitted.coded.firsts f) emitted.coded.firsts) laid.laid.layout.far 0 laid.laid.sequence.pieces (pieces_owned f g (f == h.unit.main) laid.laid at is))
+          (words_owned (IsOwnedBy g) (lying laid.laid.sequence laid.laid.layout (slice_index emitted.coded.firsts f) emitted.coded.firsts) laid.laid.layout.reaches 0 laid.laid.sequence.pieces (pieces_owned f g (f == h.unit.main) laid.laid at is))
           (omega (arith, low, first, begin, most, (map_facts e.map).few)) (omega (arith, high, end, begin, size, all, most, (map_facts e.map).few)))

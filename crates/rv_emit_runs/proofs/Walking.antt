@@ -1,5 +1,5 @@
 -- Where pieces stand that write no home but those that their places may write, the words of a place write no other.
-use Rattle.std.proofs.Common.{◌≡◌, ◌≢◌, ℕ, ◌+◌, ◌*◌, ◌%◌, ◌<◌, ◌≤◌, ◌⊎◌, inl, inr, ⊎_elim, Bool, Option, Some, None, List, [], ◌∷◌, slice_get, refl, sym, ap, ◌∙◌, subst, arith}
+use Rattle.std.proofs.Common.{◌≡◌, ◌≢◌, ℕ, ◌+◌, ◌-◌, ◌*◌, ◌%◌, ◌<◌, ◌≤◌, ◌⊎◌, inl, inr, ⊎_elim, Bool, false, Option, Some, None, List, [], ◌∷◌, slice_get, refl, sym, ap, ◌∙◌, subst, arith}
 use Rattle.std.proofs.lemmas.Bool.{cases_lt}
 use Rattle.std.proofs.lemmas.Option.{none-some, same_Some}
 use Rattle.rv_code.specs.declared.instruction.Instruction.{Instruction}
@@ -11,12 +11,14 @@ use Rattle.rv_code.proofs.RoundTrip.{decoded_encoded}
 use Rattle.graph_homes.specs.declared.home.Home.{Home}
 use Rattle.graph_homes.specs.declared.home.Home.TheVariants.{Register, Slot}
 use Rattle.graph_homes.specs.Homed.{IsHomeAmong, IsHomeRegister}
+use Rattle.rv_emit_words.specs.Constants.{high_part, low_part}
 use Rattle.rv_emit_words.specs.declared.piece.Piece.{Piece}
 use Rattle.rv_emit_words.specs.declared.piece.Piece.TheVariants as piece
 use Rattle.rv_emit_words.specs.declared.piece.PlacedPiece.{PlacedPiece}
 use Rattle.rv_emit_storage.specs.Storages.{StorageForm, slot_at}
-use Rattle.rv_emit_steps.specs.Programs.{Program, IsAt}
-use Rattle.rv_emit_runs.specs.Pieces.{Targets, PieceAt}
+use Rattle.rv_emit_code.specs.Ends.{opposite}
+use Rattle.rv_emit_steps.specs.Programs.{Program, IsAt, distance}
+use Rattle.rv_emit_runs.specs.Pieces.{Targets, IsJump, PieceAt}
 use Rattle.rv_emit_runs.specs.Placed.{PlacedAt}
 use Rattle.rv_emit_runs.specs.Writing.{AreSpelledAt, IsSpelledAt, MakesRegister, MayReach, MayStore, MayWrite, near, far}
 use Rattle.rv_emit_runs.proofs.Sparing.{Before, IsBehind, IsSparing, MayStoreAt, low}
@@ -82,33 +84,37 @@ module _ (p : Program) (t : Targets) (g : StorageForm) (slots : ℕ) (V : (owner
 
   -- ---- One piece
 
-  -- A jump writes no home, nor does a branch.
-  jump_allowed : (W : Home → Type 0) (i d n : ℕ) (stops : Bool) (home : Home) → d < 9 → IsHomeAmong slots home → IsAt p i stops (Jal d n) → MayWrite g p.words home i → W home
-  jump_allowed W i d n stops home lt kept at writes = word_allowed W None None i (Jal d n) home kept (spelled_there i stops (Jal d n) at) (low g slots W d lt) (nothing_known i) writes
+  -- A word that spells an instruction which writes no home, whatever stands before it.
+  apart_allowed : (W : Home → Type 0) (i : ℕ) (stops : Bool) (x : Instruction) → IsAt p i stops x → IsSparing g slots W None None x → (index : ℕ) → index ≡ i → (home : Home) → IsHomeAmong slots home → MayWrite g p.words home index → W home
+  apart_allowed W i stops x at is index here home kept writes = word_allowed W None None i x home kept (spelled_there i stops x at) is (nothing_known i) (subst (MayWrite g p.words home) here writes)
+
+  -- A jump writes no home, in one word or in two: its link and the register by which it goes are none.
+  jump_allowed : (W : Home → Type 0) (i : ℕ) (stops : Bool) (link by to j : ℕ) → link < 9 → by < 9 → IsJump p i stops link by to j → (index : ℕ) → i ≤ index → index < j → (home : Home) → IsHomeAmong slots home → MayWrite g p.words home index → W home
+  jump_allowed W i stops link by to j low_link low_by (inl at) index le lt home kept writes =
+      let end : j ≡ i + 1 = at.1 in
+      apart_allowed W i stops (Jal link (distance i to)) at.0 (low g slots W link low_link) index (omega (arith, end, le, lt)) home kept writes
+  jump_allowed W i stops link by to j low_link low_by (inr at) index le lt home kept writes =
+      let end : j ≡ i + 2 = at.2 in
+      ⊎_elim
+      (λ (first : index < i + 1). apart_allowed W i stops (Auipc by (high_part (distance i to))) at.0 (low g slots W by low_by) index (omega (arith, le, first)) home kept writes)
+      (λ (second : i + 1 ≤ index). apart_allowed W (i + 1) false (Jalr link by (low_part (distance i to))) at.1 (low g slots W link low_link) index (omega (arith, second, lt, end)) home kept writes)
+      (cases_lt index (i + 1))
 
   piece_allowed : (owner i k : ℕ) (stops : Bool) (a b : Before) (q : Piece) → PieceAt p t i stops q k → IsSparingPiece g slots V owner a b q → IsKnown i a b → (index : ℕ) → i ≤ index → index < k → (home : Home) → IsHomeAmong slots home → MayWrite g p.words home index → V owner home
   piece_allowed owner i k stops a b (piece.Word x) at is known index le lt home kept writes =
       let end : k ≡ i + 1 = at.1 in
       let here : index ≡ i = omega (arith, end, le, lt) in
       word_allowed (V owner) a b i x home kept (spelled_there i stops x at.0) is known (subst (MayWrite g p.words home) here writes)
-  piece_allowed owner i k stops a b (piece.Jump to) at is known index le lt home kept writes =
-      let end : k ≡ i + 1 = at.1 in
-      let here : index ≡ i = omega (arith, end, le, lt) in
-      jump_allowed (V owner) i 0 _ stops home (omega arith) kept at.0 (subst (MayWrite g p.words home) here writes)
+  piece_allowed owner i k stops a b (piece.Jump to) at is known index le lt home kept writes = jump_allowed (V owner) i stops 0 5 (t.label to.0) k (omega arith) (omega arith) at index le lt home kept writes
   piece_allowed owner i k stops a b (piece.Branch op l r to) (inl at) is known index le lt home kept writes =
       let end : k ≡ i + 1 = at.1 in
-      let here : index ≡ i = omega (arith, end, le, lt) in
-      word_allowed (V owner) None None i _ home kept (spelled_there i stops _ at.0) tt (nothing_known i) (subst (MayWrite g p.words home) here writes)
+      apart_allowed (V owner) i stops (Branch op l r (distance i (t.label to.0))) at.0 tt index (omega (arith, end, le, lt)) home kept writes
   piece_allowed owner i k stops a b (piece.Branch op l r to) (inr at) is known index le lt home kept writes =
-      let end : k ≡ i + 2 = at.2 in
       ⊎_elim
-      (λ (first : index < i + 1). let here : index ≡ i = omega (arith, le, first) in word_allowed (V owner) None None i _ home kept (spelled_there i stops _ at.0) tt (nothing_known i) (subst (MayWrite g p.words home) here writes))
-      (λ (second : i + 1 ≤ index). let here : index ≡ i + 1 = omega (arith, second, lt, end) in jump_allowed (V owner) (i + 1) 0 _ _ home (omega arith) kept at.1 (subst (MayWrite g p.words home) here writes))
+      (λ (first : index < i + 1). apart_allowed (V owner) i stops (Branch (opposite op) l r (4 * (k - i))) at.0 tt index (omega (arith, le, first)) home kept writes)
+      (λ (second : i + 1 ≤ index). jump_allowed (V owner) (i + 1) false 0 5 (t.label to.0) k (omega arith) (omega arith) at.1 index second lt home kept writes)
       (cases_lt index (i + 1))
-  piece_allowed owner i k stops a b (piece.Call f) at is known index le lt home kept writes =
-      let end : k ≡ i + 1 = at.1 in
-      let here : index ≡ i = omega (arith, end, le, lt) in
-      jump_allowed (V owner) i 1 _ stops home (omega arith) kept at.0 (subst (MayWrite g p.words home) here writes)
+  piece_allowed owner i k stops a b (piece.Call f) at is known index le lt home kept writes = jump_allowed (V owner) i stops 1 1 (t.function f) k (omega arith) (omega arith) at index le lt home kept writes
 
   known_behind : (i k : ℕ) (stops : Bool) (a b : Before) (q : Piece) → PieceAt p t i stops q k → IsKnown i a b → IsKnown k (first_behind b q) (second_behind q)
   known_behind i k stops a b (piece.Word x) at known =

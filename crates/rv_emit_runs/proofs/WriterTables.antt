@@ -29,7 +29,8 @@ use Rattle.rv_emit_runs.proofs.Appended.{BothPlaced, both_placed, marked_there}
 use Rattle.rv_emit_code.specs.Ends.{words}
 use Rattle.rv_emit_code.specs.Leaving.{words_of_moving}
 use Rattle.rv_emit_sequence.specs.Sequences.{AreLabelled, AreOnce, Ground, IsSequenceOf, IsStanding, SequenceForm, Standing, all_pieces, counted, first_pieces, last_pieces, numbers_from, standing_code, standing_pieces}
-use Rattle.rv_emit_layout.specs.Layouts.{LayoutForm, label_at, width, words_before, IsLayoutOf, most_pieces}
+use Rattle.rv_emit_layout.specs.Reaches.{width}
+use Rattle.rv_emit_layout.specs.Layouts.{LayoutForm, label_at, words_before, IsLayoutOf, most_pieces}
 use Rattle.rv_emit_layout.specs.Tracing.{piece_address, with_writers}
 use Rattle.rv_emit_runs.specs.Laid.{Arrangement, code_of, graph_at, program_of, IsInWords}
 use Rattle.rv_emit_runs.proofs.Frames.{graph_is, graph_there}
@@ -272,15 +273,15 @@ module _ (p : Program) (owners : List ℕ) (g : Ground) (f : Graph) (is_main : B
         let tab : List ℕ = replicate (slice_index s.numbers (counted (length s.ends))) 0 in
         let tab_count : length {A = ℕ} tab ≡ slice_index s.numbers (counted (length s.ends)) = length-replicate {A = ℕ} (slice_index s.numbers (counted (length s.ends))) 0 in
         let word : WordThere p owners s y first g.storage (home_at g.storage x) place (length ahead) (length ahead + length w.inner + length w.code - 1) =
-        word_there p owners s y first firsts there g.storage (home_at g.storage x) wanted place ahead w.inner back w.code w.stops pieces w.narrow w.writes in
+        word_there p owners s y first firsts there g.storage (home_at g.storage x) wanted place ahead w.inner back w.code w.stops pieces w.writes in
         let told : slice_get table wanted ≡ Some (piece_address y first (length (ahead ++ w.inner) + length w.code - 1)) =
         told_there p owners s y first firsts there (λ k. nat_le s.begin k) wanted place tab (ahead ++ w.inner) back w.code w.stops again some (omega (arith, inside, tab_count))
         (le-leb s.begin (length (ahead ++ w.inner) + length w.code - 1) (omega (arith, begin, ahead_count, joint, some)))
         (λ t. others_keep y first (λ k. nat_le s.begin k) wanted (length (ahead ++ w.inner) + length mine) back t others) in
         let place_is : length (ahead ++ w.inner) + length w.code - 1 ≡ length ahead + length w.inner + length w.code - 1 = omega (arith, joint) in
         let label : slice_index s.labels l ≡ length ahead = w.start ∙ (omega (arith, ahead_count, total, counts, most)) in
-        let offset : slice_index y.offsets (slice_index s.labels l) ≡ words_before y.far s.pieces (slice_index s.labels l) = there.layout.offsets (slice_index s.labels l) (omega (arith, label, total, counts)) in
-        let at : words_before y.far s.pieces (slice_index s.labels l) ≡ words_before y.far s.pieces (length ahead) = ap (words_before y.far s.pieces) label in
+        let offset : slice_index y.offsets (slice_index s.labels l) ≡ words_before y.reaches s.pieces (slice_index s.labels l) = there.layout.offsets (slice_index s.labels l) (omega (arith, label, total, counts)) in
+        let at : words_before y.reaches s.pieces (slice_index s.labels l) ≡ words_before y.reaches s.pieces (length ahead) = ap (words_before y.reaches s.pieces) label in
         let within = word.within in
         record {
           index = word.index;
@@ -308,7 +309,7 @@ module _ (h : HomedForm) (valid : IsValid h.unit) (homed : HaveHomes h) (e : Emi
   abbrev p : Program
   p = program_of e short
 
-  has : HasCode p e.owners emitted.coded
+  has : HasCode h.unit.room p e.owners emitted.coded
   has = record { reach = emitted_in_reach h e emitted; words = emitted.words; own = emitted.owners; stops = ap (λ l. map (λ (x : PlacedStop). x.address) l) emitted.stops }
 
   few : length h.unit.graphs ≤ 4294967295

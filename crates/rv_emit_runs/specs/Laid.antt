@@ -3,7 +3,7 @@
 use Rattle.std.specs.Prelude.{◌≡◌, ℕ, ◌-◌, ◌<◌, ◌≤◌, ◌==◌, Some, None, List, [], ◌++◌, length, map, take, drop, slice_get, slice_index}
 use Rattle.std.specs.Option.{option_map_or}
 use Rattle.std.specs.List.{AllByRecursion}
-use Rattle.memory_map.specs.Maps.{bytes_size, most_words, stack_size}
+use Rattle.memory_map.specs.Maps.{bytes_size, most_words, stack_size, stub_words}
 use Rattle.rv_machine.specs.Table.{zeros}
 use Rattle.graph_core.specs.Graphs.{Instruction, Marker, Note, Move, Operate, Truncate, Same, Address, Load, Store, Zero, CopyWords, Call, End, Jump, Branch, Return, Block, Graph, UnitForm}
 use Rattle.graph_core.specs.Paths.{Among}
@@ -18,7 +18,7 @@ use Rattle.rv_emit_storage.specs.Storages.{StorageForm}
 use Rattle.rv_emit_storage.specs.UnitMaps.{map_of_unit}
 use Rattle.rv_emit_steps.specs.Holding.{memory_of}
 use Rattle.rv_emit_steps.specs.Programs.{Program, address_of}
-use Rattle.rv_emit_steps.specs.Frames.{IsWord, IsWordIn}
+pub use Rattle.rv_emit_steps.specs.Frames.{IsWord, IsWordIn}
 use Rattle.rv_emit_code.specs.Beginning.{with_beginning}
 use Rattle.rv_emit_code.specs.Blocks.{no_code, block_code, with_stub}
 use Rattle.rv_emit_code.specs.Leaving.{words_of_moving, with_leaving}
@@ -173,7 +173,7 @@ pub record IsCode (h : HomedForm) (e : EmittedForm) : Type 0 where
   pub inside : (f : ℕ) → AreInCode e.map (targets_in e arrangement f)
   -- what stands before all functions
   pub stub : PlacedAt (program_of e short) (targets_in e arrangement h.unit.main) 0
-      (with_stub e.map h.unit.main (no_code 0 [])).pieces 5
+      (with_stub e.map h.unit.main (no_code 0 [])).pieces (stub_words e.map)
   pub functions : (f : ℕ) → f < length h.unit.graphs
       → IsFunctionAt h arrangement (program_of e short) (targets_in e arrangement f) f
   -- a stop is the first word of its place

@@ -1,7 +1,8 @@
 -- What a return is to do, and what stands behind a call.
-use Rattle.std.specs.Prelude.{◌≡◌, ℕ, ◌+◌, false, Option, option_map, List, [], ◌∷◌, length}
+use Rattle.std.specs.Prelude.{◌≡◌, ℕ, ◌+◌, ◌-◌, false, Option, option_map, List, [], ◌∷◌, length}
 use Rattle.std.specs.Option.{option_map_or}
 use Rattle.std.specs.Int.{cast_signed, w32}
+use Rattle.memory_map.specs.Maps.{stub_words}
 use Rattle.rv_code.specs.declared.instruction.Instruction.{Instruction}
 use Rattle.rv_code.specs.declared.instruction.Instruction.TheVariants.{Immediate, Ecall}
 use Rattle.rv_code.specs.declared.instruction.ImmediateOperation.TheVariants.{Addi}
@@ -38,4 +39,4 @@ pub record Resumes (p : Program) (codes : ℕ → FunctionCode) (goes_on : Activ
 
 -- The words behind the call of main: they end the run with its result.
 abbrev pub EndsMain : Program → Type 0
-EndsMain p = CodeAt p 3 false (Immediate Addi 17 0 10 ∷ Ecall ∷ [])
+EndsMain p = CodeAt p (stub_words p.map - 2) false (Immediate Addi 17 0 10 ∷ Ecall ∷ [])

@@ -1,8 +1,8 @@
 -- What the machine holds where it stands at a stop of a unit over homes, and when it shows what the unit shows.
-use Rattle.std.specs.Prelude.{◌≡◌, ℕ, ◌+◌, ◌%◌, ◌<◌, ◌≤◌, Some, List, [], ◌∷◌, length, slice_get, slice_index}
+use Rattle.std.specs.Prelude.{◌≡◌, ℕ, ◌+◌, ◌-◌, ◌%◌, ◌<◌, ◌≤◌, Some, List, [], ◌∷◌, length, slice_get, slice_index}
 use Rattle.std.specs.Int.{cast_signed, w32}
 use Rattle.memory_map.specs.declared.map.Map.{Map}
-use Rattle.memory_map.specs.Maps.{most_words, stack_end, stack_start}
+use Rattle.memory_map.specs.Maps.{most_words, stack_end, stack_start, stub_words}
 use Rattle.rv_machine.specs.State.{MachineState, reg}
 use Rattle.rv_machine.specs.Run.{MachineEvent, Byte, Arrival, Exit, TooDeep}
 use Rattle.graph_core.specs.Graphs.{StaticObject}
@@ -45,7 +45,7 @@ pub record ReturnsTo (e : EmittedForm) (place address : ℕ) : Type 0 where
 abbrev pub IsStack : EmittedForm → (codes : ℕ → FunctionCode) → (addresses : ℕ → ℕ) → (memory : ℕ → ℕ) → (sp : ℕ)
     → Activation → List Activation → Type 0
 IsStack e codes addresses memory sp a [] =
-    IsFrame e.map (codes a.function) addresses sp a × (word_at memory sp ≡ address_of 3)
+    IsFrame e.map (codes a.function) addresses sp a × (word_at memory sp ≡ address_of (stub_words e.map - 2))
     × (sp + (codes a.function).size ≡ stack_end e.map)
 IsStack e codes addresses memory sp a (b ∷ more) =
     IsFrame e.map (codes a.function) addresses sp a × ReturnsTo e b.place (word_at memory sp)

@@ -14,7 +14,7 @@ pub record IsStopOf (s : SequenceForm) (l : LayoutForm) (first : ℕ) (stop : Pl
   pub there : slice_get s.pieces index ≡ Some piece
   pub flag : piece.is_stop ≡ true
   pub place : stop.place ≡ piece.owner
-  pub address : stop.address ≡ address_of (first + words_before l.far s.pieces index)
+  pub address : stop.address ≡ address_of (first + words_before l.reaches s.pieces index)
 
 -- It is that of a piece of one of the functions.
 pub record IsStopOfOne (all : List LaidForm) (firsts : List ℕ) (stop : PlacedStop) : Type 0 where

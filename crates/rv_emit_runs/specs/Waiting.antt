@@ -1,7 +1,7 @@
 -- What the machine holds of activations that wait: the frames above the innermost one, as their code finds them again.
-use Rattle.std.specs.Prelude.{◌≡◌, ℕ, ◌+◌, ◌*◌, ◌%◌, ◌≤◌, ◌<◌, ◌⊎◌, ◌≢◌, true, Some, List, [], ◌∷◌, length, slice_get}
+use Rattle.std.specs.Prelude.{◌≡◌, ℕ, ◌+◌, ◌-◌, ◌*◌, ◌%◌, ◌≤◌, ◌<◌, ◌⊎◌, ◌≢◌, true, Some, List, [], ◌∷◌, length, slice_get}
 use Rattle.std.specs.List.{AllByRecursion}
-use Rattle.memory_map.specs.Maps.{bytes_end, most_words, stack_end}
+use Rattle.memory_map.specs.Maps.{bytes_end, most_words, stack_end, stub_words}
 use Rattle.graph_core.specs.Graphs.{Graph, UnitForm}
 use Rattle.graph_core.specs.declared.graph.MemoryObject.{MemoryObject}
 use Rattle.graph_core.specs.Values.{size_of}
@@ -107,7 +107,8 @@ abbrev pub HoldsWaiting : (codes : ℕ → FunctionCode) → UnitForm → (addre
     → (resumes : Activation → ℕ → Type 0) → Memory → (input : List ℕ) → FunctionCode → (first : ℕ) → Holding
     → List Activation → Type 0
 HoldsWaiting codes u addresses resumes memory input f first h [] =
-    (word_at h.memory (h.registers 2) ≡ address_of 3) × (h.registers 2 + f.size ≡ stack_end (map_of_unit u))
+    (word_at h.memory (h.registers 2) ≡ address_of (stub_words (map_of_unit u) - 2))
+    × (h.registers 2 + f.size ≡ stack_end (map_of_unit u))
 HoldsWaiting codes u addresses resumes memory input f first h (a ∷ waiting) =
     Waits codes u addresses resumes memory input f first h a waiting
     × HoldsWaiting codes u addresses resumes memory input (codes a.function) a.first_object (behind_frame f h)

@@ -7,6 +7,7 @@ pub mod Operating
 pub mod Standing
 pub mod Straight
 pub mod Jumping
+pub mod LongJumping
 pub mod Calling
 pub mod Placing
 pub mod Computing

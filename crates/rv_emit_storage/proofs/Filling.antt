@@ -275,7 +275,7 @@ before_last addresses size (x ∷ rest) r bytes = ap (with_relocation addresses 
 
 pub have_all : (u : UnitForm) (addresses : List ℕ) → HaveAddresses u addresses → (n : ℕ) → n < length u.statics → slice_get addresses n ≡ Some (static_at u n)
 have_all u addresses is n lt =
-    let all = addresses_count statics_start (static_sizes u) in
+    let all = addresses_count (statics_start u) (static_sizes u) in
     let both = length-append (map static_bytes u.statics) (map (λ (b : List ℕ). length b) u.array_bytes) in
     let objects = length-map u.statics static_bytes in
     ap (λ l. slice_get l n) is ∙ index_taken (length u.statics) n (static_addresses u) lt (omega (arith, lt, all, both, objects))

@@ -8,12 +8,12 @@ use Rattle.graph_core.specs.declared.unit.Relocation.{Relocation}
 use Rattle.graph_core.specs.Graphs.{StaticObject, UnitForm}
 use Rattle.graph_core.specs.Memory.{static_bytes}
 use Rattle.graph_core.specs.Validity.{taken_by}
-use Rattle.memory_map.specs.declared.map.Room.TheVariants.{Small}
 use Rattle.memory_map.specs.Maps.{bytes_start, map_of}
 
--- the address at which static storage begins, by the map of the memory: not to be computed with
-unfoldable pub statics_start : ℕ
-statics_start = bytes_start (map_of Small)
+-- the address at which static storage begins, by the map of the memory of what is compiled of a unit: not to be
+-- computed with
+unfoldable pub statics_start : UnitForm → ℕ
+statics_start u = bytes_start (map_of u.room)
 
 -- the addresses of things that take so many bytes, one behind the other
 abbrev pub addresses_from : (address : ℕ) → List ℕ → List ℕ
@@ -26,7 +26,7 @@ static_sizes u = map static_bytes u.statics ++ map (λ (b : List ℕ). length b)
 
 -- the addresses of the static objects and of the bytes that initialise arrays, one behind the other
 abbrev pub static_addresses : UnitForm → List ℕ
-static_addresses u = addresses_from statics_start (static_sizes u)
+static_addresses u = addresses_from (statics_start u) (static_sizes u)
 
 -- the address of a static object
 abbrev pub static_at : UnitForm → (object : ℕ) → ℕ

@@ -13,7 +13,7 @@ ghost use Rattle.rv_emit_storage.specs.UnitMaps.{map_of_unit};
 
 use crate::frame::{Placed, taken_by, word_of};
 use graph_core::{Bytes, Element, Relocation, StaticObject, Unit};
-use memory_map::{Map, Room, map_of};
+use memory_map::{Map, map_of};
 use std::alloc::{AllocError, Global};
 
 /// The addresses of what lies in static memory.
@@ -87,12 +87,12 @@ fn placed_arrays(alloc: Global, all: &[Bytes], start: u32) -> Result<Placed, All
     })
 }
 
-/// The map of the memory of what is compiled of a unit; each is small yet.
+/// The map of the memory of what is compiled of a unit: its room decides it.
 #[tactic(auto, unfolding(crate::specs::UnitMaps::map_of_unit))]
 pub fn map_of_unit(unit: &Unit) -> Map
     ensures { result ≡ map_of_unit (unit_view unit.now) }
 {
-    map_of(Room::Small)
+    map_of(unit.room)
 }
 
 /// The address in the middle of the first 4,096 bytes of static memory.

@@ -1,7 +1,7 @@
 use Rattle.std.proofs.Common.{◌≡◌, ◌+◌, List, ℕ, [], ◌∷◌, ◌++◌, length, replicate, slice_index, ap, ◌∙◌, arith}
 use Rattle.rv_emit_sequence.specs.Sequences.{counted, sequence_view}
 use Rattle.rv_emit_layout.specs.Longest.{is_dropped}
-use Rattle.rv_emit_layout.proofs.Longest.{added_jump, added_length, none_at, none_length}
+use Rattle.rv_emit_layout.proofs.LongestLayout.{added_jump, added_length, none_at, none_length}
 use Rattle.rv_emit_layout.proofs.measuring.dropped_jumps.Goals as goal
 
 pub loop-block-init : goal.loop-block-init

@@ -1,6 +1,7 @@
 -- The longest layout: where its pieces stand, step by step, and that no layout has more words between two of them.
-use Rattle.std.proofs.Common.{◌≡◌, ℕ, zero, suc, ◌+◌, ◌-◌, ◌<◌, ◌≤◌, ◌≢◌, ⊎_elim, ◌==◌, eqb, ◌&&◌, nat_lt, nat_le, max, cond, Bool, true, false, Some, List, [], ◌∷◌, ◌++◌, length, map, replicate, take, drop, slice_get, slice_index, slice_set, get_or, count_by, refl, sym, ap, ◌∙◌, subst, arith}
+use Rattle.std.proofs.Common.{◌≡◌, ℕ, zero, suc, ◌+◌, ◌-◌, ◌*◌, ◌<◌, ◌≤◌, ◌≢◌, ⊎_elim, ◌==◌, eqb, ◌&&◌, nat_lt, nat_le, max, cond, Bool, true, false, Some, List, [], ◌∷◌, ◌++◌, length, map, replicate, take, drop, slice_get, slice_index, slice_set, get_or, count_by, refl, sym, ap, ◌∙◌, subst, arith}
 use Rattle.std.proofs.lemmas.Bool.{and_parts, leb-true, ltb-true, cases_lt}
+use Rattle.std.proofs.lemmas.List.{get_or-drop}
 use Rattle.std.proofs.lemmas.Bool.Decides.{eqb_tells, nat_tests}
 use Rattle.std.proofs.lemmas.List.FromFn.{get_or-map-range_with_len, length-map-range_with_len, map-range_with_len_more}
 use Rattle.std.proofs.lemmas.List.Sums.{sum_by-cons}
@@ -9,10 +10,15 @@ use Rattle.std.specs.Option.{option_map_or}
 use Rattle.rv_emit_words.specs.declared.piece.Piece.{Piece}
 use Rattle.rv_emit_words.specs.declared.piece.Piece.TheVariants.{Word, Jump, Branch, Call}
 use Rattle.rv_emit_words.specs.declared.piece.PlacedPiece.{PlacedPiece}
-use Rattle.rv_emit_words.specs.Words.{words_in, words_of_piece}
+use Rattle.memory_map.specs.declared.map.Room.{Room}
+use Rattle.memory_map.specs.declared.map.Room.TheVariants.{Small, Large}
+use Rattle.graph_core.specs.Validity.{total}
 use Rattle.rv_emit_sequence.specs.Sequences.{SequenceForm, counted}
-use Rattle.rv_emit_layout.specs.Layouts.{width, words_before}
-use Rattle.rv_emit_layout.specs.Longest.{dropped_at, dropped_until, has_word_at, has_word_before, is_dropped, is_near, long_before, longest}
+use Rattle.rv_emit_layout.specs.declared.reaching.Reach.{Reach}
+use Rattle.rv_emit_layout.specs.declared.reaching.Reach.TheVariants.{Near}
+use Rattle.rv_emit_layout.specs.Reaches.{farthest, is_near, is_within_jump, jump_width, width}
+use Rattle.rv_emit_layout.specs.Layouts.{words_before}
+use Rattle.rv_emit_layout.specs.Longest.{dropped_at, dropped_until, has_word_at, has_word_before, is_dropped, long_before, longest, longest_words}
 
 -- ---- Counts
 
@@ -160,131 +166,142 @@ added_jump d ends xs ys b k is within before =
 
 -- ---- Where pieces stand
 
-words_step : (pieces : List PlacedPiece) (k : ℕ) (x : PlacedPiece) → slice_get pieces k ≡ Some x → words_in (take (suc k) pieces) ≡ words_in (take k pieces) + words_of_piece x.piece
-words_step [] k x e = cc
-words_step (p ∷ more) zero x e = (let same : words_of_piece p.piece ≡ words_of_piece x.piece = (let is : p ≡ x = cc in ap (λ (y : PlacedPiece). words_of_piece y.piece) is) in omega (arith, same, words_none more))
-  where
-    words_none : (pieces : List PlacedPiece) → words_in (take 0 pieces) ≡ 0
-    words_none [] = refl
-    words_none (q ∷ pieces) = refl
-words_step (p ∷ more) (suc k) x e = omega (arith, words_step more k x e)
+words_none : (room : Room) (pieces : List PlacedPiece) → longest_words room (take 0 pieces) ≡ 0
+words_none room [] = refl
+words_none room (q ∷ pieces) = refl
+
+words_step : (room : Room) (pieces : List PlacedPiece) (k : ℕ) (x : PlacedPiece) → slice_get pieces k ≡ Some x
+    → longest_words room (take (suc k) pieces) ≡ longest_words room (take k pieces) + width (farthest room) x.piece
+words_step room [] k x e = cc
+words_step room (p ∷ more) zero x e = (let same : width (farthest room) p.piece ≡ width (farthest room) x.piece = (let is : p ≡ x = cc in ap (λ (y : PlacedPiece). width (farthest room) y.piece) is) in omega (arith, same, words_none room more))
+words_step room (p ∷ more) (suc k) x e = omega (arith, words_step room more k x e)
+
+count_none_yet : (pieces : List PlacedPiece) → count_by has_word_before (take 0 pieces) ≡ 0
+count_none_yet [] = refl
+count_none_yet (q ∷ pieces) = refl
 
 -- The first piece stands behind what is counted right before it.
-pub long_start : (s : SequenceForm) → long_before s 0 ≡ dropped_at s 0 + cond (has_word_at s.pieces 0) 1 0
-long_start s = omega (
-  arith,
-  words_none s.pieces,
-  count_step has_word_before s.pieces 0,
-  count_none s.pieces,
-  dropped_start (is_dropped s) (λ b. slice_index s.ends b) (range_with_len 0 (length s.ends)),
-)
-  where
-    words_none : (pieces : List PlacedPiece) → words_in (take 0 pieces) ≡ 0
-    words_none [] = refl
-    words_none (q ∷ pieces) = refl
-
-    count_none : (pieces : List PlacedPiece) → count_by has_word_before (take 0 pieces) ≡ 0
-    count_none [] = refl
-    count_none (q ∷ pieces) = refl
+pub long_start : (room : Room) (s : SequenceForm) → long_before room s 0 ≡ jump_width (farthest room) * dropped_at s 0 + cond (has_word_at s.pieces 0) 1 0
+long_start Small s = omega (arith, words_none Small s.pieces, count_step has_word_before s.pieces 0, count_none_yet s.pieces, dropped_start (is_dropped s) (λ b. slice_index s.ends b) (range_with_len 0 (length s.ends)))
+long_start Large s = omega (arith, words_none Large s.pieces, count_step has_word_before s.pieces 0, count_none_yet s.pieces, dropped_start (is_dropped s) (λ b. slice_index s.ends b) (range_with_len 0 (length s.ends)))
 
 -- Each other one stands behind the one before at its longest, and what is counted right before it.
-pub long_step : (s : SequenceForm) (k : ℕ) (x : PlacedPiece) → slice_get s.pieces k ≡ Some x
-    → long_before s (suc k) ≡ long_before s k + (words_of_piece x.piece + (dropped_at s (suc k) + cond (has_word_at s.pieces (suc k)) 1 0))
-long_step s k x e = omega (
+pub long_step : (room : Room) (s : SequenceForm) (k : ℕ) (x : PlacedPiece) → slice_get s.pieces k ≡ Some x
+    → long_before room s (suc k) ≡ long_before room s k + (width (farthest room) x.piece + (jump_width (farthest room) * dropped_at s (suc k) + cond (has_word_at s.pieces (suc k)) 1 0))
+long_step Small s k x e = omega (
   arith,
-  words_step s.pieces k x e,
+  words_step Small s.pieces k x e,
+  count_step has_word_before s.pieces (suc k),
+  dropped_step (is_dropped s) (λ b. slice_index s.ends b) k (range_with_len 0 (length s.ends)),
+)
+long_step Large s k x e = omega (
+  arith,
+  words_step Large s.pieces k x e,
   count_step has_word_before s.pieces (suc k),
   dropped_step (is_dropped s) (λ b. slice_index s.ends b) k (range_with_len 0 (length s.ends)),
 )
 
 -- So words are counted: up to a piece by what is counted right before it, and up to the next one behind that by its own.
-pub starts_at : (s : SequenceForm) → counted (0 + (dropped_at s 0 + cond (has_word_at s.pieces 0) 1 0)) ≡ counted (long_before s 0)
-starts_at s = omega (arith, long_start s)
+pub starts_at : (room : Room) (s : SequenceForm) → counted (0 + (jump_width (farthest room) * dropped_at s 0 + cond (has_word_at s.pieces 0) 1 0)) ≡ counted (long_before room s 0)
+starts_at Small s = omega (arith, long_start Small s)
+starts_at Large s = omega (arith, long_start Large s)
 
-pub stands_at : (s : SequenceForm) (words more k : ℕ) (pieces : List PlacedPiece) (dropped items : List ℕ) → pieces ≡ s.pieces → dropped ≡ items
-    → slice_index items k ≡ counted (dropped_at s k) → more ≡ counted (slice_index dropped k + cond (has_word_at pieces k) 1 0)
-    → counted (words + (dropped_at s k + cond (has_word_at s.pieces k) 1 0)) ≡ counted (long_before s k) → counted (words + more) ≡ counted (long_before s k)
-stands_at s words more k pieces dropped items these those jumps is before =
+pub stands_at : (room : Room) (s : SequenceForm) (words more k : ℕ) (pieces : List PlacedPiece) (dropped items : List ℕ) → pieces ≡ s.pieces → dropped ≡ items
+    → slice_index items k ≡ counted (dropped_at s k) → more ≡ counted (jump_width (farthest room) * slice_index dropped k + cond (has_word_at pieces k) 1 0)
+    → counted (words + (jump_width (farthest room) * dropped_at s k + cond (has_word_at s.pieces k) 1 0)) ≡ counted (long_before room s k) → counted (words + more) ≡ counted (long_before room s k)
+stands_at room s words more k pieces dropped items these those jumps is before =
     let dropped_here : slice_index dropped k ≡ counted (dropped_at s k) = ap (λ l. slice_index l k) those ∙ jumps in
     let word_here : ◌≡◌ {A = ℕ} (cond (has_word_at pieces k) 1 0) (cond (has_word_at s.pieces k) 1 0) = ap (λ l. cond (has_word_at l k) 1 0) these in
-    omega (arith, dropped_here, word_here, is, before)
+    go room is before dropped_here word_here
+  where
+    go : (r : Room) → more ≡ counted (jump_width (farthest r) * slice_index dropped k + cond (has_word_at pieces k) 1 0)
+        → counted (words + (jump_width (farthest r) * dropped_at s k + cond (has_word_at s.pieces k) 1 0)) ≡ counted (long_before r s k)
+        → slice_index dropped k ≡ counted (dropped_at s k) → ◌≡◌ {A = ℕ} (cond (has_word_at pieces k) 1 0) (cond (has_word_at s.pieces k) 1 0) → counted (words + more) ≡ counted (long_before r s k)
+    go Small is before dropped_here word_here = omega (arith, dropped_here, word_here, is, before)
+    go Large is before dropped_here word_here = omega (arith, dropped_here, word_here, is, before)
 
-pub goes_on : (s : SequenceForm) (here words k : ℕ) (x : PlacedPiece) → slice_get s.pieces k ≡ Some x → here ≡ counted (long_before s k) → words ≡ counted (here + words_of_piece x.piece)
-    → counted (words + (dropped_at s (k + 1) + cond (has_word_at s.pieces (k + 1)) 1 0)) ≡ counted (long_before s (k + 1))
-goes_on s here words k x e before is =
+pub goes_on : (room : Room) (s : SequenceForm) (here words k : ℕ) (x : PlacedPiece) → slice_get s.pieces k ≡ Some x → here ≡ counted (long_before room s k) → words ≡ counted (here + width (farthest room) x.piece)
+    → counted (words + (jump_width (farthest room) * dropped_at s (k + 1) + cond (has_word_at s.pieces (k + 1)) 1 0)) ≡ counted (long_before room s (k + 1))
+goes_on room s here words k x e before is =
     let same : suc k ≡ k + 1 = omega arith in
-    subst (λ n. counted (words + (dropped_at s n + cond (has_word_at s.pieces n) 1 0)) ≡ counted (long_before s n)) same (omega (arith, long_step s k x e, before, is))
+    subst (λ n. counted (words + (jump_width (farthest room) * dropped_at s n + cond (has_word_at s.pieces n) 1 0)) ≡ counted (long_before room s n)) same (go room before is)
+  where
+    go : (r : Room) → here ≡ counted (long_before r s k) → words ≡ counted (here + width (farthest r) x.piece)
+        → counted (words + (jump_width (farthest r) * dropped_at s (suc k) + cond (has_word_at s.pieces (suc k)) 1 0)) ≡ counted (long_before r s (suc k))
+    go Small before is = omega (arith, long_step Small s k x e, before, is)
+    go Large before is = omega (arith, long_step Large s k x e, before, is)
 
-pub offsets_grow : (s : SequenceForm) (k here : ℕ) (old new : List ℕ) → new ≡ old ++ here ∷ [] → old ≡ map (λ n. counted (long_before s n)) (range_with_len 0 k)
-    → here ≡ counted (long_before s k) → new ≡ map (λ n. counted (long_before s n)) (range_with_len 0 (k + 1))
-offsets_grow s k here old new is before stands =
-    is ∙ ap (λ l. l ++ here ∷ []) before ∙ ap (λ n. map (λ m. counted (long_before s m)) (range_with_len 0 k) ++ n ∷ []) stands
-    ∙ sym (map-range_with_len_more (λ m. counted (long_before s m)) 0 k k (omega arith))
+pub offsets_grow : (room : Room) (s : SequenceForm) (k here : ℕ) (old new : List ℕ) → new ≡ old ++ here ∷ [] → old ≡ map (λ n. counted (long_before room s n)) (range_with_len 0 k)
+    → here ≡ counted (long_before room s k) → new ≡ map (λ n. counted (long_before room s n)) (range_with_len 0 (k + 1))
+offsets_grow room s k here old new is before stands =
+    is ∙ ap (λ l. l ++ here ∷ []) before ∙ ap (λ n. map (λ m. counted (long_before room s m)) (range_with_len 0 k) ++ n ∷ []) stands
+    ∙ sym (map-range_with_len_more (λ m. counted (long_before room s m)) 0 k k (omega arith))
 
 -- What the list of them has.
-pub longest_at : (s : SequenceForm) (k : ℕ) → k ≤ length s.pieces → slice_index (longest s) k ≡ counted (long_before s k)
-longest_at s k le = get_or-map-range_with_len (λ n. counted (long_before s n)) 0 (length s.pieces + 1) k k 0 (omega (arith, le)) (omega arith)
+pub longest_at : (room : Room) (s : SequenceForm) (k : ℕ) → k ≤ length s.pieces → slice_index (longest room s) k ≡ counted (long_before room s k)
+longest_at room s k le = get_or-map-range_with_len (λ n. counted (long_before room s n)) 0 (length s.pieces + 1) k k 0 (omega (arith, le)) (omega arith)
 
-pub longest_count : (s : SequenceForm) → length (longest s) ≡ length s.pieces + 1
-longest_count s = length-map-range_with_len (λ n. counted (long_before s n)) 0 (length s.pieces + 1)
+pub longest_count : (room : Room) (s : SequenceForm) → length (longest room s) ≡ length s.pieces + 1
+longest_count room s = length-map-range_with_len (λ n. counted (long_before room s n)) 0 (length s.pieces + 1)
 
 -- ---- No layout is longer
 
--- A piece has no more words than at its longest.
-width_most : (far : Bool) (x : Piece) → width far x ≤ words_of_piece x
-width_most far (Word i) = omega arith
-width_most far (Jump to) = omega arith
-width_most true (Branch op l r to) = omega arith
-width_most false (Branch op l r to) = omega arith
-width_most far (Call f) = omega arith
+-- Each piece has at most as many words as pieces have in the room.
+abbrev pub AreWithin : Room → List Reach → List PlacedPiece → Type 0
+AreWithin room reaches pieces = (k : ℕ) (x : PlacedPiece) → slice_get pieces k ≡ Some x → width (get_or reaches k Near) x.piece ≤ width (farthest room) x.piece
+
+pub within_rest : (room : Room) (reaches : List Reach) (p : PlacedPiece) (more : List PlacedPiece) → AreWithin room reaches (p ∷ more) → AreWithin room (drop 1 reaches) more
+within_rest room reaches p more all = λ k x at. let next : 1 + k ≡ suc k = omega arith in subst (λ r. width r x.piece ≤ width (farthest room) x.piece) (ap (λ n. get_or reaches n Near) (sym next) ∙ sym (get_or-drop 1 reaches k Near)) (all (suc k) x at)
 
 -- Between two pieces there are no more than the most that those between have.
-words_most : (far : List Bool) (pieces : List PlacedPiece) (i j : ℕ) → i ≤ j
-    → words_before far pieces j + words_in (take i pieces) ≤ words_in (take j pieces) + words_before far pieces i
-words_most far [] zero zero le = omega arith
-words_most far [] zero (suc j) le = omega arith
-words_most far [] (suc i) zero le = omega arith
-words_most far [] (suc i) (suc j) le = omega arith
-words_most far (p ∷ more) zero zero le = omega arith
-words_most far (p ∷ more) zero (suc j) le =
-    let later = words_most (drop 1 far) more 0 j (omega arith) in
-    omega (arith, width_most (get_or far 0 false) p.piece, later, none_before (drop 1 far) more, words_none more)
+words_most : (room : Room) (reaches : List Reach) (pieces : List PlacedPiece) (i j : ℕ) → AreWithin room reaches pieces → i ≤ j
+    → words_before reaches pieces j + longest_words room (take i pieces) ≤ longest_words room (take j pieces) + words_before reaches pieces i
+words_most room reaches [] zero zero all le = omega arith
+words_most room reaches [] zero (suc j) all le = omega arith
+words_most room reaches [] (suc i) zero all le = omega arith
+words_most room reaches [] (suc i) (suc j) all le = omega arith
+words_most room reaches (p ∷ more) zero zero all le = omega arith
+words_most room reaches (p ∷ more) zero (suc j) all le =
+    let later = words_most room (drop 1 reaches) more 0 j (within_rest room reaches p more all) (omega arith) in
+    omega (arith, all 0 p refl, later, none_before (drop 1 reaches) more, words_none room more)
   where
-    none_before : (far : List Bool) (pieces : List PlacedPiece) → words_before far pieces 0 ≡ 0
-    none_before far [] = refl
-    none_before far (q ∷ pieces) = refl
-
-    words_none : (pieces : List PlacedPiece) → words_in (take 0 pieces) ≡ 0
-    words_none [] = refl
-    words_none (q ∷ pieces) = refl
-words_most far (p ∷ more) (suc i) zero le = absurd (omega (arith, le))
-words_most far (p ∷ more) (suc i) (suc j) le = omega (arith, words_most (drop 1 far) more i j (omega (arith, le)))
+    none_before : (reaches : List Reach) (pieces : List PlacedPiece) → words_before reaches pieces 0 ≡ 0
+    none_before reaches [] = refl
+    none_before reaches (q ∷ pieces) = refl
+words_most room reaches (p ∷ more) (suc i) zero all le = absurd (omega (arith, le))
+words_most room reaches (p ∷ more) (suc i) (suc j) all le = omega (arith, words_most room (drop 1 reaches) more i j (within_rest room reaches p more all) (omega (arith, le)))
 
 -- So between two pieces no layout has more words than the longest one.
-pub words_longest : (far : List Bool) (s : SequenceForm) (i j : ℕ) → i ≤ j
-    → words_before far s.pieces j + long_before s i ≤ long_before s j + words_before far s.pieces i
-words_longest far s i j le = omega (
+pub words_longest : (room : Room) (reaches : List Reach) (s : SequenceForm) (i j : ℕ) → AreWithin room reaches s.pieces → i ≤ j
+    → words_before reaches s.pieces j + long_before room s i ≤ long_before room s j + words_before reaches s.pieces i
+words_longest Small reaches s i j all le = omega (
   arith,
-  words_most far s.pieces i j le,
+  words_most Small reaches s.pieces i j all le,
+  count_more has_word_before s.pieces (suc i) (suc j) (omega (arith, le)),
+  dropped_more s i j le,
+)
+words_longest Large reaches s i j all le = omega (
+  arith,
+  words_most Large reaches s.pieces i j all le,
   count_more has_word_before s.pieces (suc i) (suc j) (omega (arith, le)),
   dropped_more s i j le,
 )
 
 -- ---- What is near
 
--- What is near is so on either side, and could be counted.
-pub record Near (a b : ℕ) : Type 0 where
-  pub back : a ≤ b + 1024
-  pub on : b ≤ a + 1023
+-- What is within so many words back and so many on is so on either side, and could be counted.
+pub record Within (back_most on_most a b : ℕ) : Type 0 where
+  pub back : a ≤ b + back_most
+  pub on : b ≤ a + on_most
   pub from : a < 4294967295
   pub to : b < 4294967295
 
-pub near_form : (a b : ℕ) → is_near a b ≡ true → Near a b
-near_form a b e =
-    let sides : (nat_le (a - b) 1024 && nat_le (b - a) 1023 ≡ true) × (nat_lt (max a b) 4294967295 ≡ true) = and_parts (nat_le (a - b) 1024 && nat_le (b - a) 1023) (nat_lt (max a b) 4294967295) e in
-    let both : (nat_le (a - b) 1024 ≡ true) × (nat_le (b - a) 1023 ≡ true) = and_parts (nat_le (a - b) 1024) (nat_le (b - a) 1023) sides.0 in
-    let back : a - b ≤ 1024 = leb-true (a - b) 1024 both.0 in
-    let on : b - a ≤ 1023 = leb-true (b - a) 1023 both.1 in
+within_form : (m n a b : ℕ) → (nat_le (a - b) m && nat_le (b - a) n && nat_lt (max a b) 4294967295) ≡ true → Within m n a b
+within_form m n a b e =
+    let sides : (nat_le (a - b) m && nat_le (b - a) n ≡ true) × (nat_lt (max a b) 4294967295 ≡ true) = and_parts (nat_le (a - b) m && nat_le (b - a) n) (nat_lt (max a b) 4294967295) e in
+    let both : (nat_le (a - b) m ≡ true) × (nat_le (b - a) n ≡ true) = and_parts (nat_le (a - b) m) (nat_le (b - a) n) sides.0 in
+    let back : a - b ≤ m = leb-true (a - b) m both.0 in
+    let on : b - a ≤ n = leb-true (b - a) n both.1 in
     let most : max a b < 4294967295 = ltb-true (max a b) 4294967295 sides.1 in
     record {
       back = omega (arith, back);
@@ -292,3 +309,9 @@ near_form a b e =
       from = omega (arith, most);
       to = omega (arith, most);
     }
+
+pub near_form : (a b : ℕ) → is_near a b ≡ true → Within 1024 1023 a b
+near_form a b e = within_form 1024 1023 a b e
+
+pub jump_form : (a b : ℕ) → is_within_jump a b ≡ true → Within 262144 262143 a b
+jump_form a b e = within_form 262144 262143 a b e
