@@ -26,7 +26,7 @@ use Rattle.rv_emit_runs.specs.Laid.{code_of}
 use Rattle.rv_emit_runs.specs.Writing.{IsSpelledAt, MakesRegister, MayStore, MayWrite, near, far}
 use Rattle.image_form.specs.Form.{Form}
 use Rattle.image_form.specs.Rules.{IsImage}
-use Rattle.image_form.specs.RulesOfFunctions.{IsFunction, code_start}
+use Rattle.image_form.specs.RulesOfFunctions.{IsFunction, first_code_address}
 use Rattle.image_form.specs.RulesOfVariables.{IsKept, IsKeptInFunction, IsVariable as IsVariableOf}
 use Rattle.image_form.specs.declared.tables.Function.{Function}
 use Rattle.image_form.specs.declared.variables.Storage.{Storage}
@@ -242,7 +242,7 @@ module _ (p : ProgramTree) (h : HomedForm) (m : Form) (made : IsMadeOfCode p h m
   -- a word of a function of the image is one of the function's code
   within : (f index : ℕ) (fn : Function) (code : FunctionCode) → slice_get m.functions f ≡ Some fn → span fn ≡ code_span code → (fn.first - 65536) / 4 ≤ index → index < (fn.first - 65536) / 4 + (fn.end - fn.first) / 4
       → (code.first ≤ address_of index) × (address_of index < code.end)
-  unfolding code_start
+  unfolding first_code_address
   within f index fn code is same from to =
       let rule = all_at (IsFunction m) m.functions f fn image.functions.each is in
       let whole = rule.first_in_code.0 in let low = rule.first_in_code.1 in let aligned = rule.end_aligned in let some = rule.not_empty in

@@ -26,7 +26,7 @@ use Rattle.image_form.specs.Form.{Form, numbered}
 use Rattle.image_form.specs.Numbers.{row_numbers, verdict_numbers}
 use Rattle.image_form.specs.Rules.{IsImage}
 use Rattle.image_form.specs.Spelling.{size}
-use Rattle.image_form.specs.RulesOfFunctions.{IsPlaceNumber, code_start}
+use Rattle.image_form.specs.RulesOfFunctions.{IsPlaceNumber, first_code_address}
 use Rattle.memory_map.specs.Maps as maps
 use Rattle.image_form.specs.RulesOfRows.{IsEvidence, IsQuietStart, IsVerdict, IsWriter, MayBeQuiet}
 use Rattle.image_form_sections.specs.Versions.{has_quiet}
@@ -155,7 +155,7 @@ module _ (p : ProgramTree) (h : HomedForm) (m : Form) (made : IsMadeOfCode p h m
 
   -- what may stand for nothing that writes does not stand for a word of code
   no_writer : (v change start : ℕ) → IsEvidence m v change start (Some 0) → ⊥
-  unfolding code_start
+  unfolding first_code_address
   no_writer v change start is = by (numbered m.changes change) is.0
     where
       by : (o : Option Change) → IsSomeAnd o (λ (c : Change). (c.variable ≡ v) × IsWriter m c.kind (Some 0)) → ⊥

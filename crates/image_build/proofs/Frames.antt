@@ -5,7 +5,7 @@ use Rattle.std.proofs.lemmas.Bool.{eq-eqb, eqb-true}
 use Rattle.std.proofs.lemmas.Option.{none-some, same_Some, get_or_from_slice_get}
 use Rattle.image_form.specs.Form.{Form}
 use Rattle.image_form.specs.Rules.{IsImage}
-use Rattle.image_form.specs.RulesOfFunctions.{code_start}
+use Rattle.image_form.specs.RulesOfFunctions.{first_code_address}
 use Rattle.image_form.specs.declared.tables.Function.{Function}
 use Rattle.image_form.specs.declared.tables.Place.{Place}
 use Rattle.rv_machine.specs.Run.{is_stop}
@@ -112,7 +112,7 @@ among_stops (q ∷ all) t (behind among) = by_test (q.address == t.address) (amo
 
 -- The debugger finds the place of a stop at its address.
 pub place_found : (h : HomedForm) (e : EmittedForm) (m : Form) → IsCode h e → IsImage m → m.owners ≡ e.owners → ((address : ℕ) → is_stop (stop_addresses m) address ≡ is_stop (laid.stop_addresses e) address) → (t : PlacedStop) → Among t e.stops → place_at m t.address ≡ Some t.place
-unfolding code_start
+unfolding first_code_address
 place_found h e m code rules owners stops t among =
     let there = stops_at m.functions 1 m.places t.address (stops t.address ∙ among_stops e.stops t among) in
     let first = first_of 1 m.places t.address there.0 there.1 in

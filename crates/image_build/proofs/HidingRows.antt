@@ -28,7 +28,7 @@ use Rattle.currency.specs.declared.verdict.Verdict as declared-verdict
 use Rattle.currency.specs.declared.verdict.Verdict.TheVariants as told
 use Rattle.image_form.specs.Form.{Form, numbered}
 use Rattle.image_form.specs.RulesOfChanges.{AssignedRules}
-use Rattle.image_form.specs.RulesOfFunctions.{IsCodeAddress, IsPlaceNumber, code_end, code_start}
+use Rattle.image_form.specs.RulesOfFunctions.{IsCodeAddress, IsPlaceNumber, code_end, first_code_address}
 use Rattle.image_form.specs.RulesOfRows.{IsEvidence, IsVerdict, IsWriter as IsWriterOf}
 use Rattle.image_form.specs.declared.recipes.Node.{Node}
 use Rattle.image_form.specs.declared.tables.AssignedPair.{AssignedPair}
@@ -102,7 +102,7 @@ module _ (h : HomedForm) (a : Arrangement) (e : EmittedForm) (m : Form) (code : 
       (subst (AllByRecursion (λ (q : AssignedPair). IsPlaceNumber m q.place × (q.variable < length m.variables))) assigned rules.each)
 
   address_there : (g : StorageForm) (home : Home) (index : ℕ) → IsWriter g e.code home index → IsCodeAddress m (address_of index)
-  unfolding code_start
+  unfolding first_code_address
   address_there g home index is =
       let low = writer_within g e.code home index is in
       let many = ap (λ (l : List ℕ). length l) code in

@@ -1,5 +1,5 @@
 -- What an image that is made of a program's unit recovers of a scalar is the text of what the program's variable holds.
-use Rattle.std.proofs.Common.{◌≡◌, ◌≢◌, ℕ, ◌+◌, ◌≤◌, true, Option, Some, None, List, [], ◌∷◌, ◌++◌, length, map, slice_get, refl, sym, ap, ◌∙◌, subst}
+use Rattle.std.proofs.Common.{◌≡◌, ◌≢◌, ℕ, ◌+◌, ◌-◌, ◌≤◌, true, Option, Some, None, List, [], ◌∷◌, ◌++◌, length, map, slice_get, refl, sym, ap, ◌∙◌, subst}
 use Rattle.std.specs.Prelude.{slice_index, option_map}
 use Rattle.std.proofs.lemmas.Option.{none-some, same_Some}
 use Rattle.word_base.specs.Owners.{Variable as OfVariable}
@@ -9,7 +9,7 @@ use Rattle.c_tree.specs.Programs.{ProgramTree, StaticTree, AutomaticTree, Litera
 use Rattle.c_meaning_values.specs.Memory as source-memory
 use Rattle.c_meaning_values.specs.declared.value.Phase.TheVariants.{Live}
 use Rattle.c_meaning_values.specs.Memory.{contents}
-use Rattle.memory_map.specs.Maps.{most_words}
+use Rattle.memory_map.specs.Maps.{most_words, stub_words}
 use Rattle.rv_emit_storage.specs.UnitMaps.{map_of_unit}
 use Rattle.image_form.specs.Form.{Form}
 use Rattle.image_form.specs.Rules.{IsImage}
@@ -58,7 +58,7 @@ use Rattle.currency.specs.Evident.{IsScalarOf}
 module _ (p : ProgramTree) (m : Form) (functions : map name_length m.functions ≡ map length_of_name p.functions) (variables : map shape m.variables ≡ shapes_of p) (owners : map owner m.variables ≡ owners_of p) (more : List ℕ) (names : m.names ≡ declared_names p ++ more) (rules : IsImage m)
     (static_law : (n : ℕ) (t : StaticTree) → slice_get p.statics n ≡ Some t → (t.name ≢ []) × HasElements t.of) (automatic_law : (x : ℕ) (a : AutomaticTree) → slice_get p.automatics x ≡ Some a → (a.name ≢ []) × HasElements a.of)
     (literal_law : (n : ℕ) (l : LiteralTree) → slice_get p.literals n ≡ Some l → (1 ≤ length l.bytes) × (length l.bytes ≤ 4294967295))
-    (h : HomedForm) (valid : IsValid h.unit) (homed : HaveHomes h) (a : Arrangement) (e : EmittedForm) (storages : map storage m.variables ≡ storages_of h e (length m.variables)) (spans : map span m.functions ≡ map code_span e.functions) (words : m.owners ≡ e.owners) (outermost : slice_index e.owners 2 ≡ 0)
+    (h : HomedForm) (valid : IsValid h.unit) (homed : HaveHomes h) (a : Arrangement) (e : EmittedForm) (storages : map storage m.variables ≡ storages_of h e (length m.variables)) (spans : map span m.functions ≡ map code_span e.functions) (words : m.owners ≡ e.owners) (outermost : slice_index e.owners (stub_words e.map - 3) ≡ 0)
     (unit : HasVariablesIn p h.unit) (has : HasPlacesOf h.unit m) (tells : Tells h a e)
     (c : Configuration) (s : MachineState) (regions : e.map ≡ map_of_unit h.unit) (short : length s.code ≤ most_words s.map) (stands : StandsAt h e a c s) (running : IsRunning (over_homes h) c)
     (memory : source-memory.Memory) (same : SameMemory p memory c.memory) (typed : AreTyped memory) (differ : OwnersDiffer memory) (declared : (n : ℕ) (o : source-memory.Object) → slice_get memory n ≡ Some o → IsDeclared p o.owner o) where

@@ -77,7 +77,7 @@ limits_kept : (p : ProgramTree) → is_none (program_breach p) ≡ true → (obj
 limits_kept p h =
     let visible : Option Code = if nat_lt 1000000 (visible_pairs p) then Some VISIBLE_PAIRS else None in
     let rest : Option Code = if nat_lt 1048576 (objects_room p) then Some STATIC_OBJECTS else visible in
-    let one = if_none (nat_lt 4000 p.weight) PROGRAM_WEIGHT rest h in
+    let one = if_none (nat_lt 40000 p.weight) PROGRAM_WEIGHT rest h in
     let two = if_none (nat_lt 1048576 (objects_room p)) STATIC_OBJECTS visible one.1 in
     let three = if_none (nat_lt 1000000 (visible_pairs p)) VISIBLE_PAIRS None two.1 in
     (not_less 1048576 (objects_room p) two.0, not_less 1000000 (visible_pairs p) three.0)

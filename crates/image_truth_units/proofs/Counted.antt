@@ -191,7 +191,7 @@ never_before_step s (inl less) = omega (arith, less)
 never_before_step s (inr same) = let less = same.1 in omega (arith, less)
 
 -- THE STEPS OF A PROGRAM ARE FEW.
-pub steps_few : (p : ProgramTree) → IsWellFormed p → (steps : List FlowStep) → ((s : FlowStep) → Contains steps s ↔ Contains (steps_of_program p) s) → AreInOrder steps → length steps ≤ 16000
+pub steps_few : (p : ProgramTree) → IsWellFormed p → (steps : List FlowStep) → ((s : FlowStep) → Contains steps s ↔ Contains (steps_of_program p) s) → AreInOrder steps → length steps ≤ 160000
 steps_few p formed steps same ordered =
     let laws = laws_of p formed in
     let few = in_order_few IsStepBefore never_before_step steps (steps_of_program p) ordered (λ s has. (same s).0 has) in
@@ -380,7 +380,7 @@ never_before_assignment a (inl less) = omega (arith, less)
 never_before_assignment a (inr same) = let less = same.1 in omega (arith, less)
 
 -- THE ASSIGNMENTS OF A PROGRAM ARE FEW.
-pub assigned_few : (p : ProgramTree) → IsWellFormed p → (assignments : List Assignment) → ((a : Assignment) → Contains assignments a ↔ Contains (assignments_of_program p) a) → AllPairs IsAssignmentBefore assignments → length assignments ≤ 4000
+pub assigned_few : (p : ProgramTree) → IsWellFormed p → (assignments : List Assignment) → ((a : Assignment) → Contains assignments a ↔ Contains (assignments_of_program p) a) → AllPairs IsAssignmentBefore assignments → length assignments ≤ 40000
 assigned_few p formed assignments same ordered =
     let laws = laws_of p formed in
     let few = in_order_few IsAssignmentBefore never_before_assignment assignments (assignments_of_program p) ordered (λ a has. (same a).0 has) in

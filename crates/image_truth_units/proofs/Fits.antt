@@ -26,9 +26,10 @@ use Rattle.memory_map.specs.Maps.{bytes_size, most_words}
 use Rattle.memory_map.proofs.Facts.{code_few}
 use Rattle.image_form.specs.Form.{Form}
 use Rattle.image_form.specs.Rules.{FitRules, SizeRules}
-use Rattle.image_form.specs.Versions.{greatest_level, is_read, reads_large, version_number}
+use Rattle.image_form.specs.Versions.{greatest_level, is_read, version_number}
 use Rattle.image_form_sections.specs.declared.version.Version.{Version}
 use Rattle.memory_map.specs.declared.map.Map.{Map}
+use Rattle.memory_map.specs.declared.map.Map.TheVariants.{One, Two}
 use Rattle.rv_emit_storage.specs.UnitMaps.{map_of_unit}
 use Rattle.image_form.specs.Order.{sections_end, order}
 use Rattle.image_form.specs.Spelling.{record_count, size}
@@ -114,10 +115,14 @@ seen_few p n (q ∷ places) =
 
 -- ---- The version
 
--- The version of the image of a unit is read.
+-- The version of each map is read, so that of the image of a unit is.
+map_read : (r : Map) → is_read (version_number (version_of_map r)) ≡ true
+unfolding is_read greatest_level
+map_read One = refl
+map_read Two = refl
+
 unit_read : (u : UnitForm) → is_read (version_number (version_of_map (map_of_unit u))) ≡ true
-unfolding map_of_unit is_read greatest_level reads_large
-unit_read u = refl
+unit_read u = map_read (map_of_unit u)
 
 -- ---- All of it
 

@@ -4,7 +4,9 @@ use Rattle.std.specs.Prelude.{◌==◌, nat_le, nat_lt, slice_index, if◌then�
 use Rattle.std.specs.List.{AllByRecursion}
 use Rattle.std.proofs.lemmas.Bool.{le-leb, lt-ltb, eq-eqb, and_from}
 use Rattle.std.proofs.lemmas.Option.{none-some, same_Some}
-use Rattle.memory_map.specs.Maps.{code_start, stack_end, stack_start}
+use Rattle.memory_map.specs.declared.map.Map.{Map}
+use Rattle.memory_map.specs.declared.map.Map.TheVariants.{One, Two}
+use Rattle.memory_map.specs.Maps.{code_start, stack_end, stack_start, stub_words}
 use Rattle.memory_map.proofs.Facts.{code_few, map_facts}
 use Rattle.image_form.specs.Form.{Form}
 use Rattle.rv_machine.specs.State.{MachineState, word}
@@ -81,7 +83,16 @@ module _ (h : HomedForm) (a : Arrangement) (e : EmittedForm) (addresses : ℕ �
 
 -- ---- Callers
 
-module _ (h : HomedForm) (a : Arrangement) (e : EmittedForm) (addresses : ℕ → ℕ) (m : Form) (s : MachineState) (regions : s.map ≡ e.map) (owners : m.owners ≡ e.owners) (outermost : slice_index e.owners 2 ≡ 0) where
+-- The word to which main returns stands behind its call.
+stub_next : (r : Map) → stub_words r - 3 + 1 ≡ stub_words r - 2
+stub_next One = refl
+stub_next Two = refl
+
+stub_low : (r : Map) → address_of (stub_words r - 3 + 1) < 4294967296
+stub_low One = omega arith
+stub_low Two = omega arith
+
+module _ (h : HomedForm) (a : Arrangement) (e : EmittedForm) (addresses : ℕ → ℕ) (m : Form) (s : MachineState) (regions : s.map ≡ e.map) (owners : m.owners ≡ e.owners) (outermost : slice_index e.owners (stub_words e.map - 3) ≡ 0) where
   -- the place of the word before one that stands in the code
   owner_before : (index : ℕ) → address_of (index + 1) < 4294967296 → place_before m (address_of (index + 1)) ≡ slice_index m.owners index
   owner_before index low =
@@ -105,7 +116,9 @@ module _ (h : HomedForm) (a : Arrangement) (e : EmittedForm) (addresses : ℕ �
   -- A debugger finds the activations that wait, one from the other.
   pub callers_found : (sp : ℕ) (b : Activation) (more : List Activation) → IsStack e (code_of h a) addresses (memory_of s.map s.bytes s.stack) sp b more → AllByRecursion (IsPlaced h a m) (b ∷ more)
       → AreCallers m s (standing_of sp b) (standings (code_of h a) (sp + (code_of h a b.function).size) more)
-  callers_found sp b [] stack placed = calls_from sp b 2 stack.0 stack.1 (omega arith) ∙ ap (λ l. slice_index l 2) owners ∙ outermost
+  callers_found sp b [] stack placed =
+      calls_from sp b (stub_words e.map - 3) stack.0 (stack.1 ∙ ap address_of (sym (stub_next e.map))) (stub_low e.map)
+      ∙ ap (λ l. slice_index l (stub_words e.map - 3)) owners ∙ outermost
   callers_found sp b (c ∷ more) stack placed =
       let returns = stack.1 in
       let few = code_few e.map (returns.index + 1) returns.low in

@@ -14,7 +14,7 @@ use Rattle.rv_emit_tables.specs.Emitted.{EmittedForm, FunctionCode}
 use Rattle.rv_emit_runs.specs.Laid.{code_of}
 use Rattle.rv_emit_runs.proofs.Frames.{laid_out}
 use Rattle.image_form.specs.Form.{Form}
-use Rattle.image_form.specs.RulesOfFunctions.{FunctionRules, IsFunction, code_start}
+use Rattle.image_form.specs.RulesOfFunctions.{FunctionRules, IsFunction, first_code_address}
 use Rattle.image_form.specs.Masks.{mask_of, masked}
 use Rattle.image_form.specs.declared.tables.Function.{Function}
 use Rattle.image_build_tables.specs.Spans.{Span, code_span, saved, span}
@@ -94,7 +94,7 @@ module _ (p : ProgramTree) (h : HomedForm) (e : EmittedForm) (rows : List PlaceR
   none_saved k g is = sym (across saved (λ (f : TypedFunctionTree). 0) m.functions p.functions k g given.tables.saved is).2
 
   is_function : (k : ℕ) (g : Function) → slice_get m.functions k ≡ Some g → IsFunction m g
-  unfolding code_start
+  unfolding first_code_address
   is_function k g is =
       let made = made_of k g is in
       let name_is = made.name_is in

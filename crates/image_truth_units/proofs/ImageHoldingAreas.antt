@@ -52,14 +52,14 @@ module _ (u : UnitForm) (valid : IsValid u) where
   -- a static object lies in static memory
   pub static_inside : (n : ℕ) (o : StaticObject) → slice_get u.statics n ≡ Some o → (bytes_start (map_of_unit u) ≤ static_at u n) × (static_at u n + static_bytes o + 4 ≤ bytes_end (map_of_unit u))
   static_inside n o is =
-      let lies = lies_among (static_sizes u) statics_start n (static_bytes o) (sized n o is) in
+      let lies = lies_among (static_sizes u) (statics_start u) n (static_bytes o) (sized n o is) in
       let start = statics_begin u in let most = fits in let low = lies.low in let high = lies.high in
       (omega (arith, low, start), omega (arith, high, start, most))
 
   -- and ends before the next one
   pub static_before : (k n : ℕ) (o w : StaticObject) → k < n → slice_get u.statics k ≡ Some o → slice_get u.statics n ≡ Some w → static_at u k + static_bytes o < static_at u n
   static_before k n o w lt is other =
-      let before = lies_before (static_sizes u) statics_start k n (static_bytes o) lt (sized k o is) (slice_get_within (static_sizes u) n (static_bytes w) (sized n w other)) in
+      let before = lies_before (static_sizes u) (statics_start u) k n (static_bytes o) lt (sized k o is) (slice_get_within (static_sizes u) n (static_bytes w) (sized n w other)) in
       omega (arith, before)
 
 -- ---- Areas

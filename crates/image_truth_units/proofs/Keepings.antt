@@ -173,11 +173,11 @@ total_map f (x ∷ xs) = ap (λ n. taken_by (f x) + n) (total_map f xs)
 
 -- Addresses of static objects lie within static memory.
 pub static_within : (u : UnitForm) (n : ℕ) → n < length u.statics → total (λ (o : StaticObject). taken_by (static_bytes o)) u.statics + total (λ (b : List ℕ). taken_by (length b)) u.array_bytes ≤ 1048576
-    → (statics_start ≤ static_at u n) × (static_at u n + 4 ≤ statics_start + bytes_size)
+    → ((statics_start u) ≤ static_at u n) × (static_at u n + 4 ≤ (statics_start u) + bytes_size)
 static_within u n low most =
     let sum = length-append (map static_bytes u.statics) (map (λ (b : List ℕ). length b) u.array_bytes) in
     let many = length-map u.statics static_bytes in
-    let r = address_within statics_start (static_sizes u) n (omega (arith, low, sum, many)) in
+    let r = address_within (statics_start u) (static_sizes u) n (omega (arith, low, sum, many)) in
     let all = total_both (map static_bytes u.statics) (map (λ (b : List ℕ). length b) u.array_bytes) in
     let one = total_map static_bytes u.statics in
     let two = total_map (λ (b : List ℕ). length b) u.array_bytes in

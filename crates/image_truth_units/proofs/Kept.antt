@@ -11,7 +11,7 @@ use Rattle.graph_homes.specs.Homed.{HomedForm}
 use Rattle.rv_emit_tables.specs.Emitted.{EmittedForm, FunctionCode}
 use Rattle.image_form.specs.Form.{Form}
 use Rattle.image_form.specs.Rules.{IsImage}
-use Rattle.image_form.specs.RulesOfVariables.{IsVariable, IsKept, IsKeptStatically, IsKeptInFunction, static_start}
+use Rattle.image_form.specs.RulesOfVariables.{IsVariable, IsKept, IsKeptStatically, IsKeptInFunction, first_static_address}
 use Rattle.memory_map.proofs.Facts.{map_facts}
 use Rattle.image_form.specs.declared.variables.Storage.{Storage}
 use Rattle.image_form.specs.declared.variables.Storage.TheVariants as kept
@@ -25,7 +25,7 @@ use Rattle.image_truth_units.proofs.Storages.{IsKeptBy, static, scalar, object, 
 use Rattle.image_truth_units.proofs.Tables.{map_at, all_at, past_literals, owner_at, owned_behind, fixed_before}
 
 no_static_address : (m : Form) → IsKeptStatically m (kept.Static 0) → ⊥
-unfolding static_start
+unfolding first_static_address
 no_static_address m rule =
     let low = rule.0 in
     let some = (map_facts m.version.map).low in

@@ -1,10 +1,12 @@
 -- The code of functions lies in their order.
-use Rattle.std.proofs.Common.{◌≡◌, ◌≢◌, ℕ, zero, suc, ◌+◌, ◌%◌, ◌<◌, ◌≤◌, inl, inr, ◌==◌, Bool, true, false, Some, None, List, [], ◌∷◌, ◌++◌, length, map, slice_get, slice_index, get_or, refl, sym, ap, ◌∙◌, subst, arith}
+use Rattle.std.proofs.Common.{◌≡◌, ◌≢◌, ℕ, zero, suc, ◌+◌, ◌%◌, ◌<◌, ◌≤◌, inl, inr, ◌==◌, Bool, Some, None, List, [], ◌∷◌, ◌++◌, length, map, slice_get, slice_index, get_or, refl, sym, ap, ◌∙◌, subst, arith}
 use Rattle.std.proofs.lemmas.Bool.{cases_lt}
 use Rattle.std.proofs.lemmas.List.{length-append, length-map}
 use Rattle.std.proofs.lemmas.Option.{same_Some, slice_get_within}
 use Rattle.rv_code.specs.declared.instruction.Instruction.{Instruction}
-use Rattle.memory_map.specs.Maps.{most_words}
+use Rattle.memory_map.specs.declared.map.Room.{Room}
+use Rattle.memory_map.specs.declared.map.Room.TheVariants.{Small, Large}
+use Rattle.memory_map.specs.Maps.{map_of, most_words, stub_words}
 use Rattle.memory_map.proofs.Facts.{code_few, map_facts}
 use Rattle.graph_core.specs.Graphs.{Binding, Graph, UnitForm}
 use Rattle.graph_core.specs.Validity.{IsValid}
@@ -15,22 +17,26 @@ use Rattle.rv_emit_words.specs.declared.piece.Piece.{Piece}
 use Rattle.rv_emit_words.specs.declared.piece.Piece.TheVariants.{Word, Jump, Branch, Call}
 use Rattle.rv_emit_words.specs.declared.piece.PlacedPiece.{PlacedPiece}
 use Rattle.rv_emit_storage.specs.Storages.{StorageForm}
+use Rattle.rv_emit_storage.specs.UnitMaps.{map_of_unit}
 use Rattle.rv_emit_words.specs.Growing.{CodeState, marked, with_code, with_piece}
 use Rattle.rv_emit_instructions.specs.Calls.{argument_register}
 use Rattle.rv_emit_code.specs.Beginning.{base_code, binding_code, entering_code, guard_code, with_bindings, with_writer}
 use Rattle.rv_emit_code.specs.Blocks.{no_code}
 use Rattle.rv_emit_sequence.specs.Sequences.{Ground, all_pieces, counted, first_pieces, last_pieces, IsSequenceOf}
 use Rattle.rv_emit_layout.specs.declared.layout.OwnedWord.{OwnedWord}
-use Rattle.rv_emit_layout.specs.Layouts.{Lying, function_words, layout_of, lying, most_pieces, owned_words, piece_code, words_before, words_from}
+use Rattle.rv_emit_layout.specs.declared.reaching.Reach.{Reach}
+use Rattle.rv_emit_layout.specs.declared.reaching.Reach.TheVariants.{Near, Over, Far}
+use Rattle.rv_emit_layout.specs.Layouts.{Lying, function_words, longest_layout, lying, most_pieces, owned_words, piece_code, words_before, words_from}
 use Rattle.rv_emit_layout.specs.Tracing.{word_address}
 use Rattle.rv_emit_runs.specs.Laid.{program_of}
-use Rattle.rv_emit_layout.specs.Laid.{LaidForm, firsts_from, ground_for, parameters_in, stub_of, told_by, told_of_all, words_of_all, AreLaid, IsEmittedOf, StaticForm}
+use Rattle.rv_emit_layout.specs.Laid.{LaidForm, firsts_from, ground_for, parameters_in, layout_of_stub, stub_form, stub_of, told_by, told_of_all, words_of_all, AreLaid, IsEmittedOf, StaticForm}
 use Rattle.rv_emit_runs.proofs.Functions.{AreLayouts, FunctionIn, function_count, pieces_few}
 use Rattle.rv_emit_runs.proofs.Grounds.{blocks_few}
 use Rattle.rv_emit_runs.proofs.Maps.{emitted_in_reach}
 use Rattle.rv_emit_runs.proofs.Owners.{AreOwned, first_owned}
+use Rattle.rv_emit_runs.proofs.Stub.{stub_begin, stub_count}
 use Rattle.rv_emit_runs.proofs.Told.{told_there}
-use Rattle.rv_emit_runs.proofs.UnitPlaced.{HasCode, LaidAt, fits, found, laid_at, laid_count, stub_words, together}
+use Rattle.rv_emit_runs.proofs.UnitPlaced.{HasCode, LaidAt, fits, found, laid_at, laid_count, together}
 use Rattle.rv_emit_runs.proofs.UnitStops.{Fits}
 use Rattle.image_truth_units.specs.Lying.{IsLying, IsWordOf, LieInOrder}
 use Rattle.image_truth_units.proofs.Lists.{there}
@@ -81,12 +87,17 @@ begins_with owner (x ∷ pieces) more some own = record { first = x; rest = piec
 begins_more : (owner : ℕ) (pieces more : List PlacedPiece) → BeginsWith owner pieces → BeginsWith owner (pieces ++ more)
 begins_more owner pieces more begin = record { first = begin.first; rest = begin.rest ++ more; is = ap (λ l. l ++ more) begin.is; own = begin.own }
 
-code_some : (t : Lying) (far : Bool) (from : ℕ) (q : Piece) → 1 ≤ length (piece_code t far from q)
-code_some t far from (Word i) = omega arith
-code_some t far from (Jump to) = omega arith
-code_some t far from (Call f) = omega arith
-code_some t true from (Branch op a b to) = omega arith
-code_some t false from (Branch op a b to) = omega arith
+code_some : (t : Lying) (reach : Reach) (from : ℕ) (q : Piece) → 1 ≤ length (piece_code t reach from q)
+code_some t reach from (Word i) = omega arith
+code_some t Near from (Jump to) = omega arith
+code_some t Over from (Jump to) = omega arith
+code_some t Far from (Jump to) = omega arith
+code_some t Near from (Call f) = omega arith
+code_some t Over from (Call f) = omega arith
+code_some t Far from (Call f) = omega arith
+code_some t Near from (Branch op a b to) = omega arith
+code_some t Over from (Branch op a b to) = omega arith
+code_some t Far from (Branch op a b to) = omega arith
 
 abbrev owner_of : OwnedWord → ℕ
 owner_of w = w.owner
@@ -99,11 +110,11 @@ behind_these : (before words : List OwnedWord) → slice_index (map owner_of (be
 behind_these [] words = refl
 behind_these (w ∷ before) words = behind_these before words
 
-front_owner : (t : Lying) (far : List Bool) (owner : ℕ) (pieces : List PlacedPiece) (rest : List OwnedWord) → BeginsWith owner pieces → slice_index (map owner_of (words_from t far 0 pieces ++ rest)) 0 ≡ owner
-front_owner t far owner pieces rest begin =
+front_owner : (t : Lying) (reaches : List Reach) (owner : ℕ) (pieces : List PlacedPiece) (rest : List OwnedWord) → BeginsWith owner pieces → slice_index (map owner_of (words_from t reaches 0 pieces ++ rest)) 0 ≡ owner
+front_owner t reaches owner pieces rest begin =
     let x = begin.first in
-    let code = piece_code t (get_or far 0 false) (slice_index t.offsets 0) x.piece in
-    ap (λ l. slice_index (map owner_of (words_from t far 0 l ++ rest)) 0) begin.is ∙ at_front code (owned_words x.owner code) (words_from t far (counted (0 + 1)) begin.rest) ∙ first_owner x.owner code (words_from t far (counted (0 + 1)) begin.rest ++ rest) (code_some t (get_or far 0 false) (slice_index t.offsets 0) x.piece) ∙ begin.own
+    let code = piece_code t (get_or reaches 0 Near) (slice_index t.offsets 0) x.piece in
+    ap (λ l. slice_index (map owner_of (words_from t reaches 0 l ++ rest)) 0) begin.is ∙ at_front code (owned_words x.owner code) (words_from t reaches (counted (0 + 1)) begin.rest) ∙ first_owner x.owner code (words_from t reaches (counted (0 + 1)) begin.rest ++ rest) (code_some t (get_or reaches 0 Near) (slice_index t.offsets 0) x.piece) ∙ begin.own
   where
     at_front : (code : List Instruction) (xs ys : List OwnedWord) → slice_index (map owner_of ((xs ++ ys) ++ rest)) 0 ≡ slice_index (map owner_of (xs ++ (ys ++ rest))) 0
     at_front code [] ys = refl
@@ -120,16 +131,25 @@ word_at n low = omega (arith, low)
 
 -- ---- What stands before all functions, and behind them
 
-stub_owned : (u : UnitForm) (firsts : List ℕ) (rest : List OwnedWord) (i : ℕ) → i < 5 → slice_index (map owner_of (function_words (stub_of u) (layout_of (stub_of u)) 0 firsts ++ rest)) i ≡ 0
-stub_owned u firsts rest zero low = refl
-stub_owned u firsts rest (suc zero) low = refl
-stub_owned u firsts rest (suc (suc zero)) low = refl
-stub_owned u firsts rest (suc (suc (suc zero))) low = refl
-stub_owned u firsts rest (suc (suc (suc (suc zero)))) low = refl
-stub_owned u firsts rest (suc (suc (suc (suc (suc i))))) low = absurd (omega (arith, low))
+owned_by_none : (room : Room) (main : ℕ) (firsts : List ℕ) (rest : List OwnedWord) (i : ℕ) → i < stub_words (map_of room)
+    → slice_index (map owner_of (function_words (stub_form (map_of room) main) (longest_layout room (stub_form (map_of room) main)) 0 firsts ++ rest)) i ≡ 0
+owned_by_none Small main firsts rest zero low = refl
+owned_by_none Small main firsts rest (suc zero) low = refl
+owned_by_none Small main firsts rest (suc (suc zero)) low = refl
+owned_by_none Small main firsts rest (suc (suc (suc zero))) low = refl
+owned_by_none Small main firsts rest (suc (suc (suc (suc zero)))) low = refl
+owned_by_none Small main firsts rest (suc (suc (suc (suc (suc i))))) low = absurd (omega (arith, low))
+owned_by_none Large main firsts rest zero low = refl
+owned_by_none Large main firsts rest (suc zero) low = refl
+owned_by_none Large main firsts rest (suc (suc zero)) low = refl
+owned_by_none Large main firsts rest (suc (suc (suc zero))) low = refl
+owned_by_none Large main firsts rest (suc (suc (suc (suc zero)))) low = refl
+owned_by_none Large main firsts rest (suc (suc (suc (suc (suc zero))))) low = refl
+owned_by_none Large main firsts rest (suc (suc (suc (suc (suc (suc i)))))) low = absurd (omega (arith, low))
 
-stub_count : (u : UnitForm) (firsts : List ℕ) → length (function_words (stub_of u) (layout_of (stub_of u)) 0 firsts) ≡ 5
-stub_count u firsts = refl
+stub_owned : (u : UnitForm) (firsts : List ℕ) (rest : List OwnedWord) (i : ℕ) → i < stub_words (map_of_unit u) → slice_index (map owner_of (function_words (stub_of u) (layout_of_stub u) 0 firsts ++ rest)) i ≡ 0
+unfolding map_of_unit
+stub_owned u firsts rest i low = owned_by_none u.room u.main firsts rest i low
 
 beyond : (xs : List ℕ) (i : ℕ) → length xs ≤ i → slice_index xs i ≡ 0
 beyond [] i high = refl
@@ -138,7 +158,7 @@ beyond (x ∷ xs) (suc i) high = beyond xs i (omega (arith, high))
 
 -- ---- Words of functions
 
-layouts_of : (h : HomedForm) (s : StaticForm) (f : ℕ) (graphs : List Graph) (all : List LaidForm) → AreLaid h s f graphs all → AreLayouts all
+layouts_of : (h : HomedForm) (s : StaticForm) (f : ℕ) (graphs : List Graph) (all : List LaidForm) → AreLaid h s f graphs all → AreLayouts h.unit.room all
 layouts_of h s f [] [] laid = tt
 layouts_of h s f [] (l ∷ more) laid = absurd laid
 layouts_of h s f (g ∷ graphs) [] laid = absurd laid
@@ -152,19 +172,19 @@ record IsCovered (n : ℕ) (all : List LaidForm) (i : ℕ) : Type 0 where
   pub low : slice_index (firsts_from n all) number ≤ i
   pub high : i < slice_index (firsts_from n all) number + laid.layout.words
 
-covered : (firsts : List ℕ) (all : List LaidForm) (f n i : ℕ) → n + length (words_of_all firsts f all) ≤ most_pieces → AreLayouts all → n ≤ i → i < n + length (words_of_all firsts f all) → IsCovered n all i
-covered firsts [] f n i few layouts low high = absurd (omega (arith, low, high))
-covered firsts (x ∷ more) f n i few layouts low high =
+covered : (room : Room) (firsts : List ℕ) (all : List LaidForm) (f n i : ℕ) → n + length (words_of_all firsts f all) ≤ most_pieces → AreLayouts room all → n ≤ i → i < n + length (words_of_all firsts f all) → IsCovered n all i
+covered room firsts [] f n i few layouts low high = absurd (omega (arith, low, high))
+covered room firsts (x ∷ more) f n i few layouts low high =
     let words = function_words x.sequence x.layout (slice_index firsts f) firsts in
     let sum = length-append words (words_of_all firsts (counted (f + 1)) more) in
-    let short : length x.sequence.pieces ≤ length words = pieces_few (lying x.sequence x.layout (slice_index firsts f) firsts) x.layout.far 0 x.sequence.pieces in
+    let short : length x.sequence.pieces ≤ length words = pieces_few (lying x.sequence x.layout (slice_index firsts f) firsts) x.layout.reaches 0 x.sequence.pieces in
     let pieces : length x.sequence.pieces ≤ most_pieces = omega (arith, short, sum, few) in
-    let size : length words ≡ words_before x.layout.far x.sequence.pieces (length x.sequence.pieces) = function_count x.sequence x.layout (slice_index firsts f) firsts pieces in
-    let own : x.layout.words ≡ words_before x.layout.far x.sequence.pieces (length x.sequence.pieces) = (layouts.0 pieces).words in
+    let size : length words ≡ words_before x.layout.reaches x.sequence.pieces (length x.sequence.pieces) = function_count x.sequence x.layout (slice_index firsts f) firsts pieces in
+    let own : x.layout.words ≡ words_before x.layout.reaches x.sequence.pieces (length x.sequence.pieces) = (layouts.0 pieces).words in
     let next : counted (n + x.layout.words) ≡ n + x.layout.words = omega (arith, size, own, sum, few) in
     elim (cases_lt i (n + x.layout.words)) [
       | inl here ↦ record { number = 0; laid = x; is = refl; low = low; high = here }
-      | inr later ↦ further (covered firsts more (counted (f + 1)) (counted (n + x.layout.words)) i (omega (arith, next, size, own, sum, few)) layouts.1 (omega (arith, next, later)) (omega (arith, next, size, own, sum, high)))
+      | inr later ↦ further (covered room firsts more (counted (f + 1)) (counted (n + x.layout.words)) i (omega (arith, next, size, own, sum, few)) layouts.1 (omega (arith, next, later)) (omega (arith, next, size, own, sum, high)))
     ]
   where
     further : IsCovered (counted (n + x.layout.words)) more i → IsCovered n (x ∷ more) i
@@ -182,7 +202,11 @@ module _ (h : HomedForm) (valid : IsValid h.unit) (e : EmittedForm) (emitted : I
   abbrev firsts : List ℕ
   firsts = emitted.coded.firsts
 
-  has : HasCode (program_of e short) e.owners emitted.coded
+  -- how many words stand before all functions
+  abbrev before_all : ℕ
+  before_all = stub_words (map_of_unit h.unit)
+
+  has : HasCode h.unit.room (program_of e short) e.owners emitted.coded
   has = record { reach = emitted_in_reach h e emitted; words = emitted.words; own = emitted.owners; stops = ap (λ l. map (λ (x : PlacedStop). x.address) l) emitted.stops }
 
   count : length all ≡ length h.unit.graphs
@@ -196,7 +220,7 @@ module _ (h : HomedForm) (valid : IsValid h.unit) (e : EmittedForm) (emitted : I
     pub laid : LaidForm
     pub there_is : slice_get all f ≡ Some laid
     pub told : told_by (slice_index firsts f) (parameters_in h.unit.graphs f) laid ≡ c
-    pub fit : Fits e.map laid (slice_index firsts f)
+    pub fit : Fits h.unit.room e.map laid (slice_index firsts f)
 
   told_at : (f : ℕ) (c : FunctionCode) → slice_get e.functions f ≡ Some c → IsToldAt f c
   told_at f c is =
@@ -226,7 +250,7 @@ module _ (h : HomedForm) (valid : IsValid h.unit) (e : EmittedForm) (emitted : I
       let next : counted (slice_index firsts f + t.laid.layout.words) ≡ slice_index firsts f + t.laid.layout.words = omega (arith, low, words, most) in
       sym (ap (λ (x : FunctionCode). x.end) t.told) ∙ ap word_address next ∙ word_at (slice_index firsts f + t.laid.layout.words) (omega (arith, low, words, most))
 
-  words_of : (f : ℕ) (l : LaidForm) → slice_get all f ≡ Some l → FunctionIn emitted.coded.words firsts f l
+  words_of : (f : ℕ) (l : LaidForm) → slice_get all f ≡ Some l → FunctionIn h.unit.room emitted.coded.words firsts f l
   words_of f l is = found h emitted.statics emitted.coded emitted.code (program_of e short) e.owners has few f l is
 
   -- how a function's pieces begin
@@ -256,7 +280,7 @@ module _ (h : HomedForm) (valid : IsValid h.unit) (e : EmittedForm) (emitted : I
       let one = words_of f l is in
       let words = one.layout.words in
       let size = function_count l.sequence l.layout (slice_index firsts f) firsts one.few in
-      let many = pieces_few (lying l.sequence l.layout (slice_index firsts f) firsts) l.layout.far 0 l.sequence.pieces in
+      let many = pieces_few (lying l.sequence l.layout (slice_index firsts f) firsts) l.layout.reaches 0 l.sequence.pieces in
       let some : 1 ≤ length l.sequence.pieces = (let e = ap (λ (x : List PlacedPiece). length x) begin.is in omega (arith, e)) in
       omega (arith, words, size, many, some)
 
@@ -299,22 +323,22 @@ module _ (h : HomedForm) (valid : IsValid h.unit) (e : EmittedForm) (emitted : I
       let here : i ≡ length one.before = omega (arith, first, begins, begin) in
       let words = function_words t.laid.sequence t.laid.layout (slice_index firsts f) firsts in
       ap (slice_index e.owners) here ∙ ap (λ l. slice_index l (length one.before)) (emitted.owners ∙ ap (map owner_of) one.words) ∙ behind_these one.before (words ++ one.behind)
-      ∙ front_owner (lying t.laid.sequence t.laid.layout (slice_index firsts f) firsts) t.laid.layout.far g.entry t.laid.sequence.pieces one.behind (begun f g t.laid is t.there_is)
+      ∙ front_owner (lying t.laid.sequence t.laid.layout (slice_index firsts f) firsts) t.laid.layout.reaches g.entry t.laid.sequence.pieces one.behind (begun f g t.laid is t.there_is)
 
-  is_covered : (i : ℕ) → slice_index e.owners i ≢ 0 → IsCovered 5 all i
+  is_covered : (i : ℕ) → slice_index e.owners i ≢ 0 → IsCovered before_all all i
   is_covered i some =
-      let front = function_words (stub_of h.unit) (layout_of (stub_of h.unit)) 0 firsts in
+      let front = function_words (stub_of h.unit) (layout_of_stub h.unit) 0 firsts in
       let rest = words_of_all firsts 0 all in
       let owners : e.owners ≡ map owner_of (front ++ rest) = emitted.owners ∙ ap (map owner_of) emitted.code.words in
-      let five = stub_count h.unit firsts in
+      let stub = stub_count h.unit firsts in
       let sum = length-append front rest in
       let words : length emitted.coded.words ≡ length (front ++ rest) = ap (λ (w : List OwnedWord). length w) emitted.code.words in
       let many : length (map owner_of (front ++ rest)) ≡ length (front ++ rest) = length-map (front ++ rest) owner_of in
       let few_words = code_few e.map (length e.code) short in
-      elim (cases_lt i 5) [
+      elim (cases_lt i before_all) [
         | inl low ↦ absurd (some (ap (λ l. slice_index l i) owners ∙ stub_owned h.unit firsts rest i low))
         | inr high ↦ elim (cases_lt i (length (front ++ rest))) [
-          | inl within ↦ covered firsts all 0 5 i (omega (arith, few_words, code_count, words, sum, five)) (layouts_of h emitted.statics 0 h.unit.graphs all emitted.code.laid) high (omega (arith, within, sum, five))
+          | inl within ↦ covered h.unit.room firsts all 0 before_all i (omega (arith, few_words, code_count, words, sum, stub)) (layouts_of h emitted.statics 0 h.unit.graphs all emitted.code.laid) high (omega (arith, within, sum, stub))
           | inr out ↦ absurd (some (ap (λ l. slice_index l i) owners ∙ beyond (map owner_of (front ++ rest)) i (omega (arith, out, many))))
         ]
       ]
@@ -322,14 +346,14 @@ module _ (h : HomedForm) (valid : IsValid h.unit) (e : EmittedForm) (emitted : I
   word_of : (i : ℕ) → slice_index e.owners i ≢ 0 → IsWordOf e i
   word_of i some = by_covered (is_covered i some)
     where
-      by_covered : IsCovered 5 all i → IsWordOf e i
+      by_covered : IsCovered before_all all i → IsWordOf e i
       by_covered c =
           let here : 0 + c.number ≡ c.number = omega arith in
           let code = told_by (slice_index firsts c.number) (parameters_in h.unit.graphs c.number) c.laid in
           let is : slice_get e.functions c.number ≡ Some code =
           ap (λ l. slice_get l c.number) emitted.functions ∙ told_there h.unit.graphs firsts all 0 c.number c.laid (omega (arith, few, count)) c.is ∙ ap (λ j. Some (told_by (slice_index firsts j) (parameters_in h.unit.graphs j) c.laid)) here in
           let t : IsToldAt c.number code = record { laid = c.laid; there_is = c.is; told = refl; fit = fits h emitted.statics emitted.coded emitted.code (program_of e short) e.owners has few c.number c.laid c.is } in
-          let begins : slice_index firsts c.number ≡ slice_index (firsts_from 5 all) c.number = ap (λ l. slice_index l c.number) (emitted.code.firsts ∙ ap (λ n. firsts_from n all) (stub_words h.unit)) in
+          let begins : slice_index firsts c.number ≡ slice_index (firsts_from before_all all) c.number = ap (λ l. slice_index l c.number) (emitted.code.firsts ∙ ap (λ n. firsts_from n all) (stub_begin h.unit)) in
           let first = first_is c.number code t in
           let end = end_is c.number code t in
           let low = c.low in

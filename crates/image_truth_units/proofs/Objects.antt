@@ -27,7 +27,6 @@ use Rattle.image_truth_units.proofs.Values.{size_same, element_shown}
 use Rattle.base_laws.proofs.Numbers.{times_within}
 
 same_most : view.most_elements ≡ most_elements
-unfolding view.most_elements most_elements
 same_most = refl
 
 module _ (p : ProgramTree) (m : Form) (tables : HasVariablesOf p m) (memory : Memory) (here : Standing) (waiting : List Standing) (s : MachineState) (h : HoldsMemory p m memory here waiting s) (n : ℕ) (o : Object) (is : slice_get memory n ≡ Some o) (start : ℕ) (fits : start + length o.values * scalar_size o.element < 4294967296)

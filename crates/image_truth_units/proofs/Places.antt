@@ -9,7 +9,7 @@ use Rattle.c_flow.specs.Rows.{Row, flow_row, row_view}
 use Rattle.graph_homes.specs.Homed.{HomedForm}
 use Rattle.rv_emit_tables.specs.Emitted.{EmittedForm, FunctionCode, address_of_word}
 use Rattle.image_form.specs.Form.{Form, numbered}
-use Rattle.image_form.specs.RulesOfFunctions.{code_start}
+use Rattle.image_form.specs.RulesOfFunctions.{first_code_address}
 use Rattle.image_form.specs.RulesOfPlaces.{IsInFunction, IsOwner, IsPlace, OwnerRules, PlaceRules, word_address}
 use Rattle.image_form.specs.declared.tables.Function.{Function}
 use Rattle.image_form.specs.declared.tables.Place.{Place as ImagePlace}
@@ -119,7 +119,7 @@ module _ (p : ProgramTree) (h : HomedForm) (e : EmittedForm) (rows : List PlaceR
 
   -- A word that belongs to a place is one of its function.
   owner_is : (w n : ℕ) → slice_get m.owners w ≡ Some n → n ≢ 0 → IsOwner m w n
-  unfolding code_start
+  unfolding first_code_address
   owner_is w n is some =
       let owns : slice_index e.owners w ≡ n = there_index e.owners w n (ap (λ l. slice_get l w) (sym given.tables.owners) ∙ is) in
       let placed = word_placed p h e rows m given unit w (λ none. some (sym owns ∙ none)) in
@@ -136,7 +136,7 @@ module _ (p : ProgramTree) (h : HomedForm) (e : EmittedForm) (rows : List PlaceR
 
   -- THE OWNERS OF WORDS KEEP THEIR RULES.
   pub owner_rules : OwnerRules m
-  unfolding code_start
+  unfolding first_code_address
   owner_rules = record {
     one_each = ap (λ (l : List ℕ). length l) given.tables.owners ∙ given.emits.owners ∙ sym (ap (λ (l : List ℕ). length l) given.tables.code);
     owned = owner_is;

@@ -1,10 +1,10 @@
 -- What a stop shows of a program's variables is the text of what they hold.
-use Rattle.std.proofs.Common.{◌≡◌, ℕ, ◌≤◌, Some, ◌∷◌, length, slice_get, refl, sym, ◌∙◌, subst}
+use Rattle.std.proofs.Common.{◌≡◌, ℕ, ◌-◌, ◌≤◌, Some, ◌∷◌, length, slice_get, refl, sym, ◌∙◌, subst}
 use Rattle.std.specs.Prelude.{slice_index}
 use Rattle.c_tree.specs.Programs.{ProgramTree}
 use Rattle.c_meaning_values.specs.declared.value.Value as source-value
 use Rattle.c_meaning_values.specs.Memory as source-memory
-use Rattle.memory_map.specs.Maps.{most_words}
+use Rattle.memory_map.specs.Maps.{most_words, stub_words}
 use Rattle.rv_emit_storage.specs.UnitMaps.{map_of_unit}
 use Rattle.image_form.specs.Form.{Form}
 use Rattle.image_form.specs.declared.verdicts.Verdict.TheVariants.{Home as AtHome}
@@ -36,7 +36,7 @@ home_kind : (slots : ℕ) (home : Home) → IsHome (storage_of slots home)
 home_kind slots (Register r) = tt
 home_kind slots (Slot k) = tt
 
-module _ (p : ProgramTree) (h : HomedForm) (valid : IsValid h.unit) (homed : HaveHomes h) (a : Arrangement) (e : EmittedForm) (m : Form) (count : length h.unit.statics ≡ static_count p) (keeps : KeepsObjectsOf h a m) (owners : m.owners ≡ e.owners) (outermost : slice_index e.owners 2 ≡ 0)
+module _ (p : ProgramTree) (h : HomedForm) (valid : IsValid h.unit) (homed : HaveHomes h) (a : Arrangement) (e : EmittedForm) (m : Form) (count : length h.unit.statics ≡ static_count p) (keeps : KeepsObjectsOf h a m) (owners : m.owners ≡ e.owners) (outermost : slice_index e.owners (stub_words e.map - 3) ≡ 0)
     (c : Configuration) (s : MachineState) (regions : e.map ≡ map_of_unit h.unit) (short : length s.code ≤ most_words s.map) (stands : StandsAt h e a c s) (running : IsRunning (over_homes h) c) (places : KeepsPlacesOf h a m)
     (memory : source-memory.Memory) (same : SameMemory p memory c.memory) (typed : AreTyped memory) (declared : (n : ℕ) (o : source-memory.Object) → slice_get memory n ≡ Some o → IsDeclared p o.owner o) where
   -- the word of a home whose value is a variable's is that of the variable's value

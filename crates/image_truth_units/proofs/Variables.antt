@@ -30,7 +30,7 @@ use Rattle.rv_emit_tables.specs.Emitted.{EmittedForm, FunctionCode}
 use Rattle.rv_emit_runs.specs.Laid.{code_of}
 use Rattle.rv_emit_runs.proofs.Frames.{AreHomed, graph_is, laid_out}
 use Rattle.image_form.specs.Form.{Form}
-use Rattle.image_form.specs.RulesOfVariables.{IsCount, IsDeclaredBefore, IsFrameOffset, IsKept, IsKeptInFunction, IsKeptStatically, IsNamed, IsVariable, VariableRules, group, group_of, static_size, static_start}
+use Rattle.image_form.specs.RulesOfVariables.{IsCount, IsDeclaredBefore, IsFrameOffset, IsKept, IsKeptInFunction, IsKeptStatically, IsNamed, IsVariable, VariableRules, group, group_of, static_size, first_static_address}
 use Rattle.image_form.specs.declared.tables.Function.{Function}
 use Rattle.image_form.specs.declared.variables.Storage.TheVariants as storage
 use Rattle.image_form.specs.declared.variables.Variable.{Variable}
@@ -160,7 +160,7 @@ module _ (p : ProgramTree) (h : HomedForm) (e : EmittedForm) (rows : List PlaceR
       subst (λ a. 1 ≤ a) same (omega (arith, least, begins, some)))
 
   kept_static : (n a : ℕ) → slice_get e.statics n ≡ Some a → IsKeptStatically m (storage.Static a)
-  unfolding static_start static_size
+  unfolding first_static_address static_size
   kept_static n a is =
       let many = given.emits.told.many in
       let low = slice_get_within e.statics n a is in
@@ -169,7 +169,7 @@ module _ (p : ProgramTree) (h : HomedForm) (e : EmittedForm) (rows : List PlaceR
       let within = static_within h.unit n here given.valid.statics in
       let least = within.0 in
       let high = within.1 in
-      let begins : bytes_start m.version.map ≡ statics_start = ap (λ (r : Map). bytes_start r) (memory_is p h e rows m given ∙ given.emits.code.map) ∙ sym (statics_begin h.unit) in
+      let begins : bytes_start m.version.map ≡ (statics_start h.unit) = ap (λ (r : Map). bytes_start r) (memory_is p h e rows m given ∙ given.emits.code.map) ∙ sym (statics_begin h.unit) in
       subst (λ a. (bytes_start m.version.map ≤ a) × (a < bytes_start m.version.map + bytes_size)) same (omega (arith, least, begins), omega (arith, high, begins))
 
   -- What a function of the unit is made of.

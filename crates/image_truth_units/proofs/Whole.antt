@@ -1,5 +1,5 @@
 -- The machine that stands where the unit of a program is at a stop holds the memory of the program's run.
-use Rattle.std.proofs.Common.{◌≡◌, ℕ, zero, suc, ◌+◌, ◌*◌, ◌<◌, ◌≤◌, inl, inr, true, false, Some, ◌∷◌, length, slice_get, refl, sym, ap, ◌∙◌, subst, arith}
+use Rattle.std.proofs.Common.{◌≡◌, ℕ, zero, suc, ◌+◌, ◌-◌, ◌*◌, ◌<◌, ◌≤◌, inl, inr, true, false, Some, ◌∷◌, length, slice_get, refl, sym, ap, ◌∙◌, subst, arith}
 use Rattle.std.specs.Prelude.{◌==◌, slice_index}
 use Rattle.std.specs.Option.{option_map_or}
 use Rattle.std.proofs.lemmas.Bool.{eq-eqb}
@@ -11,7 +11,7 @@ use Rattle.c_meaning_values.specs.Types.{scalar_size}
 use Rattle.c_meaning_values.specs.Memory as source-memory
 use Rattle.image_build_tables.specs.Variables.{element_by_stars}
 use Rattle.memory_map.specs.declared.map.Map.{Map}
-use Rattle.memory_map.specs.Maps.{most_words}
+use Rattle.memory_map.specs.Maps.{most_words, stub_words}
 use Rattle.memory_map.proofs.Facts.{map_facts}
 use Rattle.rv_emit_storage.specs.UnitMaps.{map_of_unit}
 use Rattle.image_form.specs.Form.{Form}
@@ -52,7 +52,7 @@ times_within zero (suc count) size lt = omega arith
 times_within (suc i) zero size lt = absurd (omega (arith, lt))
 times_within (suc i) (suc count) size lt = let rest = times_within i count size (omega (arith, lt)) in omega (arith, rest)
 
-module _ (p : ProgramTree) (h : HomedForm) (valid : IsValid h.unit) (homed : HaveHomes h) (a : Arrangement) (e : EmittedForm) (m : Form) (count : length h.unit.statics ≡ static_count p) (keeps : KeepsObjectsOf h a m) (owners : m.owners ≡ e.owners) (outermost : slice_index e.owners 2 ≡ 0)
+module _ (p : ProgramTree) (h : HomedForm) (valid : IsValid h.unit) (homed : HaveHomes h) (a : Arrangement) (e : EmittedForm) (m : Form) (count : length h.unit.statics ≡ static_count p) (keeps : KeepsObjectsOf h a m) (owners : m.owners ≡ e.owners) (outermost : slice_index e.owners (stub_words e.map - 3) ≡ 0)
     (c : Configuration) (s : MachineState) (regions : e.map ≡ map_of_unit h.unit) (short : length s.code ≤ most_words s.map) (stands : StandsAt h e a c s) (running : IsRunning (over_homes h) c) (places : KeepsPlacesOf h a m)
     (memory : source-memory.Memory) (same : SameMemory p memory c.memory) (typed : AreTyped memory) (declared : (n : ℕ) (o : source-memory.Object) → slice_get memory n ≡ Some o → IsDeclared p o.owner o) where
   -- ---- Where objects are

@@ -11,9 +11,9 @@ script_limit = 1048576
 unfoldable pub input_limit : ℕ
 input_limit = 16777216
 
--- how many bytes an image has at most that is attached: 64 MiB
+-- how many bytes an image has at most that is attached: 128 MiB
 unfoldable pub image_limit : ℕ
-image_limit = 67108864
+image_limit = 134217728
 
 -- What a shelf holds, by name.
 abbrev pub Held : Type 0

@@ -37,7 +37,7 @@ fn most_image() -> u32
     ensures is { result ≡ image_limit }
     ensures small { result < 4294967295 }
 {
-    67108864
+    134217728
 }
 
 fn load_text<S: Shelf>(

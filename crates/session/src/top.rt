@@ -58,7 +58,7 @@ fn serve<S: Shelf, K: Sink>(
 /// `passes` loads the source, and puts a line for each change that the passes make in it. `sweep` compiles a generated
 /// program, steps its run to the end, and puts a summary of five lines. The first fault ends it: `Usage` where the
 /// words are no job, or one that needs a pass that is not handed in, `ReadFault` where a load failed, `TooLong` where
-/// the image has more than 67,108,864 bytes, the script more than 1,048,576 or the input more than 16,777,216,
+/// the image has more than 134,217,728 bytes, the script more than 1,048,576 or the input more than 16,777,216,
 /// `ImageRefused` where the bytes of the image spell none, `SourceRefused` where the source breaks a rule of C,
 /// `ScriptRefused` where the script is none, `WriteFault` where the save or a line failed, and `NoMemory` where memory
 /// was wanting.
