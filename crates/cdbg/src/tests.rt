@@ -8,6 +8,7 @@ mod branches;
 mod failing;
 mod handed_in;
 mod images;
+mod large;
 mod optimised;
 mod orders;
 mod programs;

@@ -1,7 +1,7 @@
 -- The image of the tests that adds keeps every rule.
 use Rattle.std.proofs.Common.{◌≡◌, ◌≢◌, ℕ, ◌+◌, Some, slice_get, refl, arith, rules}
 use Rattle.image_form.specs.Rules.{SizeRules, FitRules, IsImage}
-use Rattle.image_form.specs.RulesOfFunctions.{FunctionRules, code_start}
+use Rattle.image_form.specs.RulesOfFunctions.{FunctionRules, first_code_address}
 use Rattle.image_form.specs.RulesOfNames.{NameRules}
 use Rattle.image_form.specs.RulesOfPlaces.{PlaceRules, OwnerRules, IsOwner, word_address}
 use Rattle.image_form.specs.Spelling.{size}
@@ -41,7 +41,7 @@ fits = record {
 }
 
 functions : FunctionRules addition_form
-unfolding addition_form code_start
+unfolding addition_form first_code_address
 functions = record {
   each = search rules;
   apart = search rules;
@@ -50,7 +50,7 @@ functions = record {
 }
 
 places : PlaceRules addition_form
-unfolding addition_form code_start
+unfolding addition_form first_code_address
 places = record {
   each = search rules;
   positions_ascend = search rules;
@@ -61,11 +61,11 @@ places = record {
 
 -- a number of a code word is told by its address
 owner_at : (w v n : ℕ) → word_address v ≡ word_address w → slice_get addition_form.owners v ≡ Some n → slice_get addition_form.owners w ≡ Some n
-unfolding addition_form code_start
+unfolding addition_form first_code_address
 owner_at w v n same e = let is : v ≡ w = omega (arith, same) in rw (← is) e
 
 owners : OwnerRules addition_form
-unfolding addition_form code_start
+unfolding addition_form first_code_address
 owners = record {
   one_each = refl;
   owned = λ w n. numbered_from_zero (λ w n. n ≢ 0 → IsOwner addition_form w n) addition_form.owners w n (search rules);

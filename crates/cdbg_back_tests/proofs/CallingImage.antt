@@ -1,7 +1,7 @@
 -- The image of the tests that calls keeps every rule.
 use Rattle.std.proofs.Common.{◌≡◌, ◌≢◌, ℕ, ◌+◌, ◌*◌, ◌^◌, ◌<◌, Some, slice_get, refl, arith, rules}
 use Rattle.image_form.specs.Rules.{SizeRules, FitRules, IsImage}
-use Rattle.image_form.specs.RulesOfFunctions.{FunctionRules, code_start}
+use Rattle.image_form.specs.RulesOfFunctions.{FunctionRules, first_code_address}
 use Rattle.image_form.specs.RulesOfNames.{NameRules}
 use Rattle.image_form.specs.RulesOfPlaces.{PlaceRules, OwnerRules, IsOwner, word_address}
 use Rattle.image_form.specs.Spelling.{size}
@@ -44,7 +44,7 @@ fits count call last few low short =
     }
 
 functions : (count : ℕ) → (call : ℕ) → (last : ℕ) → FunctionRules (calling_form count call last)
-unfolding calling_form code_start
+unfolding calling_form first_code_address
 functions count call last = record {
   each = search rules;
   apart = search rules;
@@ -53,7 +53,7 @@ functions count call last = record {
 }
 
 places : (count : ℕ) → (call : ℕ) → (last : ℕ) → PlaceRules (calling_form count call last)
-unfolding calling_form code_start
+unfolding calling_form first_code_address
 places count call last = record {
   each = search rules;
   positions_ascend = search rules;
@@ -64,11 +64,11 @@ places count call last = record {
 
 -- a number of a code word is told by its address
 owner_at : (count : ℕ) → (call : ℕ) → (last : ℕ) → (w v n : ℕ) → word_address v ≡ word_address w → slice_get (calling_form count call last).owners v ≡ Some n → slice_get (calling_form count call last).owners w ≡ Some n
-unfolding calling_form code_start
+unfolding calling_form first_code_address
 owner_at count call last w v n same e = let is : v ≡ w = omega (arith, same) in rw (← is) e
 
 owners : (count : ℕ) → (call : ℕ) → (last : ℕ) → OwnerRules (calling_form count call last)
-unfolding calling_form code_start
+unfolding calling_form first_code_address
 owners count call last = record {
   one_each = refl;
   owned = λ w n. numbered_from_zero (λ w n. n ≢ 0 → IsOwner (calling_form count call last) w n) (calling_form count call last).owners w n (search rules);

@@ -647,6 +647,45 @@ fn every_byte_can_be_read(rt: HostRuntime) -> Result<(), AllocError> {
     Ok(())
 }
 
+/// A machine by the second map, whose code stores a byte at the end of the stack, and loads one from the end of static
+/// memory and one from where the static memory of the first map begins.
+fn machine_by_the_second_map(alloc: Global) -> Result<Machine, AllocError> {
+    // lui sp, 0x3000; addi t0, x0, 5; sb t0, -1(sp); lui tp, 0x1900; lbu t0, -1(tp); lui tp, 0x400; lbu t0, 0(tp)
+    let words = [
+        0x03000137, 0x00500293, 0xfe510fa3, 0x01900237, 0xfff24283, 0x00400237, 0x00024283,
+    ];
+    let code = bytes_of(alloc, &words)?;
+    Machine::load(alloc, Map::Two, &code, &[7, 8, 9], &[])
+}
+
+#[test]
+fn the_second_map_has_its_own_regions(rt: HostRuntime) -> Result<(), AllocError> {
+    let mut machine = machine_by_the_second_map(rt.alloc())?;
+    for wanted in [
+        Event::Went,
+        Event::Went,
+        Event::Went,
+        Event::Went,
+        Event::Went,
+        Event::Went,
+        Event::Fault(0x00010018),
+    ] {
+        assert!(rt; machine.step() == wanted);
+    }
+    for (address, byte) in [
+        (0x01800000, 7),
+        (0x01800002, 9),
+        (0x018fffff, 0),
+        (0x02ffffff, 5),
+    ] {
+        assert!(rt; machine.byte(address) == byte, "at {address}");
+    }
+    assert!(rt;
+        machine.stack_from(0x02ffffff).len() == 1 && machine.stack_from(0x03000000).is_empty()
+    );
+    Ok(())
+}
+
 #[test]
 fn an_ending_comes_again_and_changes_nothing(rt: HostRuntime) -> Result<(), AllocError> {
     // addi a7, x0, 10; addi a0, x0, 3; ecall

@@ -81,7 +81,7 @@ fn functions(
 }
 
 /// Two functions with so many empty statements each that break limits, the limit that is told, and its line.
-static LIMITS: [(&[u8], u32, &[u8], u32, Code, u32); 7] = [
+static LIMITS: [(&[u8], u32, &[u8], u32, Code, u32); 6] = [
     // In one function weight comes first, then objects, then parameters.
     (
         b"\nint main(void){int a[1024];",
@@ -133,15 +133,6 @@ static LIMITS: [(&[u8], u32, &[u8], u32, Code, u32); 7] = [
         Code::FUNCTION_OBJECTS,
         2,
     ),
-    // The program's weight comes before its static objects.
-    (
-        b"char s[1048576];\nint main(void){",
-        2500,
-        b"int f(void){",
-        2500,
-        Code::PROGRAM_WEIGHT,
-        1,
-    ),
 ];
 
 fn limits() -> &'static [(&'static [u8], u32, &'static [u8], u32, Code, u32)] {
@@ -157,28 +148,56 @@ fn limits_are_looked_at_in_their_order(rt: HostRuntime) -> Result<(), Fail> {
     Ok(())
 }
 
-/// A text before a `main` in which 900 variables are visible at 700 places, and a function with so many empty
-/// statements behind it.
-fn with_many_pairs(alloc: Global, before: &[u8], count: u32) -> Result<Vec<u8>, AllocError> {
+/// Appends so many functions with so many empty statements each.
+fn push_functions(
+    alloc: Global,
+    text: &mut Vec<u8>,
+    functions: u32,
+    count: u32,
+) -> Result<(), AllocError> {
+    for number in 0..functions {
+        text.extend_from_slice(b"int f")?;
+        text.extend_from_slice(format!(in alloc; "{number}")?.as_bytes())?;
+        push_statements(text, b"(void){", count, b"}")?;
+    }
+    Ok(())
+}
+
+#[test]
+fn the_weight_of_a_program_comes_before_its_static_objects(rt: HostRuntime) -> Result<(), Fail> {
+    let mut source = Vec::from_slice(rt.alloc(), b"char s[1048576];\nint main(void){}")?;
+    push_functions(rt.alloc(), &mut source, 16, 2500)?;
+    assert!(rt; status_of(rt.alloc(), &source)? == Status::SourceRefused(Code::PROGRAM_WEIGHT, 1));
+    Ok(())
+}
+
+/// A text before a `main` in which 900 variables are visible at 700 places, and so many functions behind it with so many
+/// empty statements each.
+fn with_many_pairs(
+    alloc: Global,
+    before: &[u8],
+    functions: u32,
+    count: u32,
+) -> Result<Vec<u8>, AllocError> {
     let mut text = Vec::from_slice(alloc, before)?;
     text.extend_from_slice(b"int main(void){int n")?;
     for number in 0..899 {
         text.extend_from_slice(format!(in alloc; ",n{number}")?.as_bytes())?;
     }
     push_statements(&mut text, b";", 700, b"}")?;
-    push_statements(&mut text, b"int f(void){", count, b"}")?;
+    push_functions(alloc, &mut text, functions, count)?;
     Ok(text)
 }
 
 #[test]
 fn visible_pairs_are_the_last_limit(rt: HostRuntime) -> Result<(), Fail> {
     let cases: [(&[u8], u32, Code); 3] = [
-        (b"", 0, Code::VISIBLE_PAIRS),
-        (b"char s[1048576];", 0, Code::STATIC_OBJECTS),
-        (b"char s[1048576];", 2600, Code::PROGRAM_WEIGHT),
+        (b"", 1, Code::VISIBLE_PAIRS),
+        (b"char s[1048576];", 1, Code::STATIC_OBJECTS),
+        (b"char s[1048576];", 15, Code::PROGRAM_WEIGHT),
     ];
-    for (before, count, code) in cases {
-        let source = with_many_pairs(rt.alloc(), before, count)?;
+    for (before, functions, code) in cases {
+        let source = with_many_pairs(rt.alloc(), before, functions, 2600)?;
         assert!(rt; status_of(rt.alloc(), &source)? == Status::SourceRefused(code, 1));
     }
     Ok(())

@@ -111,7 +111,8 @@ fn what_is_cut_off_is_refused(rt: HostRuntime) -> Result<(), Fail> {
 
 #[test]
 fn what_is_read_is_written_again(rt: HostRuntime) -> Result<(), Fail> {
-    for bytes in [SMALL.as_slice(), &LARGE] {
+    let larger = altered(rt.alloc(), SMALL.as_slice(), 4, 2)?;
+    for bytes in [SMALL.as_slice(), &LARGE, &larger] {
         let image = read(rt.alloc(), bytes)?;
         let again = write(rt.alloc(), &image)?;
         assert!(rt; again.as_slice() == bytes);
@@ -121,11 +122,10 @@ fn what_is_read_is_written_again(rt: HostRuntime) -> Result<(), Fail> {
     Ok(())
 }
 
-static SMALL_REFUSALS: [Row; 17] = [
+static SMALL_REFUSALS: [Row; 16] = [
     (0, 0x47424444, Code::MAGIC, 0), // the first byte
-    (4, 2, Code::VERSION, 4), // a version of the second map
     (4, 3, Code::LENGTH, 8), // a version with longer rows
-    (4, 4, Code::VERSION, 4), // a version of the second map with longer rows
+    (4, 4, Code::LENGTH, 8), // a version of the second map with longer rows
     (4, 5, Code::VERSION, 4), // a version with rows of calls
     (4, 9, Code::VERSION, 4), // no version
     (8, 378, Code::LENGTH, 8), // one byte more
@@ -145,7 +145,7 @@ fn small_refusals() -> &'static [Row] {
     &SMALL_REFUSALS
 }
 
-static LARGE_REFUSALS: [Row; 65] = [
+static LARGE_REFUSALS: [Row; 66] = [
     (112, 0, Code::FUNCTIONS, 112), // name length
     (116, 65532, Code::FUNCTIONS, 116), // first address
     (136, 65548, Code::FUNCTIONS, 136), // first address
@@ -171,6 +171,7 @@ static LARGE_REFUSALS: [Row; 65] = [
     (304, 1, Code::VARIABLES, 304), // storage of a static one
     (368, 0, Code::VARIABLES, 368), // storage
     (308, 0x003fffff, Code::VARIABLES, 308), // static address
+    (4, 2, Code::VARIABLES, 308), // static address of the first map in a version of the second
     (372, 8, Code::VARIABLES, 372), // register
     (404, 32, Code::VARIABLES, 404), // slot
     (408, 1, Code::VARIABLES, 408), // count of a home
