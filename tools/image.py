@@ -19,7 +19,7 @@ OPERATIONS = ('constant variable home + - * / /u % %u << >>u >> & | ^ < <u'.spli
 REGISTERS = ('zero ra sp gp tp t0 t1 t2 s0 s1 a0 a1 a2 a3 a4 a5 a6 a7 s2 s3 s4 s5 s6 s7 s8 s9 s10 s11 t3 t4 t5 '
              't6').split()
 
-ROWS = {1: 6, 3: 7}             # how many numbers a visible row has, in the versions that are read
+ROWS = {1: 6, 2: 6, 3: 7, 4: 7}  # how many numbers a visible row has, in the versions that are read
 
 # `first` and `end` are addresses, `frame` is a size in bytes, `entry` the number of a place.
 Function = namedtuple('Function', 'name first end frame entry')
@@ -83,7 +83,7 @@ def read(data):
 
     version = numbers(1)[0] if take(4) == b'CDBG' else 0
     if version not in ROWS:
-        raise NotAnImage('no image of version 1 or 3')
+        raise NotAnImage('no image of version 1 to 4')
     (length, mode, words, initial, functions, places, variables, changes, flow, assigned, rows, nodes, names,
      _) = numbers(14)
     words = numbers(words)
