@@ -70,3 +70,6 @@ pub mod Storage
 pub mod GraphProgramFunctions
 pub mod Whole
 pub mod OfForms
+pub mod Copies
+pub mod CopiesOfExpressions
+pub mod CopiesOfFunctions
