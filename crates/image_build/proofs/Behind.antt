@@ -16,18 +16,18 @@ use Rattle.cdbg_passes.proofs.OnTrail.{trails}
 use Rattle.graph_homes.specs.Homed.{homed_view}
 use Rattle.home_assign.specs.Changes.{HaveChanges}
 use Rattle.image_build.specs.declared.program_image.ProgramImage as declared-image
-use Rattle.image_build.specs.Behind.{ComesHomed, ComesOf}
+use Rattle.image_build.specs.Behind.{ComesHomedForms, ComesOfForms}
 
 module _ {P : Type 0} (named : P → PassName) (steps : P → UnitForm → UnitForm → Type 0) (passes : List P) (names : List (List ℕ)) (p : ProgramTree) where
   -- what the names lead to from a unit that is built of the program comes of it
   pub comes_by : {E : Type 0} (u : UnitForm) (made : Result declared-unit.Unit E) → IsBuilt p u → IfOk made (λ v. Lead named (λ pass. IsLawfulStep (named pass) (steps pass)) passes names u (unit_view v)) → IfOk made (λ v. Keeps u (unit_view v))
-      → IfOk made (λ v. ComesOf named steps passes names p (unit_view v))
+      → IfOk made (λ v. ComesOfForms named steps passes names p (unit_view v))
   comes_by u (Ok v) built led keeps = record { first = u; built = built; trail = trails named steps passes names u (unit_view v) led; keeps = keeps }
   comes_by u (Err e) built led keeps = tt
 
   -- an image whose unit with homes is that unit but for its log comes of the program
-  pub homed_by : {E : Type 0} (u : UnitForm) (made : Result declared-image.ProgramImage E) → ComesOf named steps passes names p u → IfOk made (λ b. (homed_view b.homed).unit ≡ record u { log = (homed_view b.homed).unit.log })
-      → IfOk made (λ b. HaveChanges u (homed_view b.homed)) → IfOk made (λ b. ComesHomed named steps passes names p (homed_view b.homed))
+  pub homed_by : {E : Type 0} (u : UnitForm) (made : Result declared-image.ProgramImage E) → ComesOfForms named steps passes names p u → IfOk made (λ b. (homed_view b.homed).unit ≡ record u { log = (homed_view b.homed).unit.log })
+      → IfOk made (λ b. HaveChanges u (homed_view b.homed)) → IfOk made (λ b. ComesHomedForms named steps passes names p (homed_view b.homed))
   homed_by u (Ok b) comes same changes = record { unit = u; comes = comes; same = same; changes = changes }
   homed_by u (Err e) comes same changes = tt
 

@@ -17,7 +17,7 @@ use Rattle.pass_law.specs.Trails.{OfLast}
 use Rattle.pass_law.specs.declared.list.Trail as declared-trail
 use Rattle.pass_law.proofs.Keeping.{keeps_itself, keeps_through}
 use Rattle.cdbg_passes.proofs.OnTrail.{trails}
-use Rattle.image_build.specs.Behind.{ComesOf}
+use Rattle.image_build.specs.Behind.{ComesOfForms}
 use Rattle.image_build.specs.Tables.{HasShapeOf}
 use Rattle.image_build.proofs.Behind.{few_in}
 use Rattle.image_build.proofs.Units.{shaped}
@@ -61,7 +61,7 @@ module _ {E : Type 0} (made : Result declared-trail.Trail E) where
 
       -- the last comes of the program
       pub comes_last : (names : List (List ℕ)) (n : ℕ) → AreWellMarked u → IfOk made (λ t. OfLast (map unit_view t.units.items) n (λ v. Lead named (λ pass. IsLawfulStep (named pass) (steps pass)) passes names u v))
-          → IfOk made (λ t. OfLast (map unit_view t.units.items) n (λ v. ComesOf named steps passes names p v))
+          → IfOk made (λ t. OfLast (map unit_view t.units.items) n (λ v. ComesOfForms named steps passes names p v))
       comes_last names n marked led =
-          last_more (λ v. Lead named (λ pass. IsLawfulStep (named pass) (steps pass)) passes names u v) (λ v. ComesOf named steps passes names p v)
+          last_more (λ v. Lead named (λ pass. IsLawfulStep (named pass) (steps pass)) passes names u v) (λ v. ComesOfForms named steps passes names p v)
           (λ v way. record { first = u; built = built; trail = trails named steps passes names u v way; keeps = led_keeps names u v marked way }) n made led

@@ -24,6 +24,7 @@ pub mod Tables
 pub mod Units
 pub mod Plain
 pub mod Behind
+pub mod ProgramUnits
 pub mod Events
 pub mod Programs
 pub mod Joining
@@ -59,6 +60,7 @@ mod MoreLogged
 mod Premises
 pub mod HidingRows
 pub mod FewShared
+pub mod FromForms
 pub mod ShallowRecipes
 pub mod SharedTold
 pub mod KeptUnits

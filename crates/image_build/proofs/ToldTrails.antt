@@ -22,7 +22,7 @@ use Rattle.image_truth_units.specs.ImageRulesUnits.{HasOwnPlaces, IsPlaceIn}
 use Rattle.image_truth_units.specs.Tables.{variables_in}
 use Rattle.image_truth_units.specs.Units.{HasVariablesIn, IsVariableOf}
 use Rattle.image_truth_units.proofs.Built.{own_places, program_variables}
-use Rattle.image_build.specs.Behind.{ComesOf}
+use Rattle.image_build.specs.Behind.{ComesOfForms}
 use Rattle.image_build.specs.Kept.{IsKeptOf}
 use Rattle.image_build.proofs.Carried.{has_own_places, has_variables}
 use Rattle.image_build.proofs.FewShared.{few_shared}
@@ -107,7 +107,7 @@ module _ {P : Type 0} (named : P → PassName) (steps : P → UnitForm → UnitF
       (subst (AllByRecursion (CanBeTold p)) (sym logs.log) (both_all (CanBeTold p) u.log logs.added told added))
 
   -- AN IMAGE CAN TELL OF EACH CHANGE of a unit that comes of a program behind passes, where their names are names of passes.
-  pub trail_told : (names : List (List ℕ)) (u : UnitForm) → IsWellFormed p → AllByRecursion IsPassName names → ComesOf named steps passes names p u → AllByRecursion (CanBeTold p) u.log
+  pub trail_told : (names : List (List ℕ)) (u : UnitForm) → IsWellFormed p → AllByRecursion IsPassName names → ComesOfForms named steps passes names p u → AllByRecursion (CanBeTold p) u.log
   trail_told names u formed called comes =
       told_along names comes.first u called comes.trail (own_places p formed comes.first comes.built.forms) (program_variables p formed comes.first comes.built.forms)
       (subst (AllByRecursion (CanBeTold p)) (sym comes.built.forms.log) tt)

@@ -9,16 +9,17 @@ use Rattle.pass_law.specs.Keeps.{Keeps}
 use Rattle.pass_law.specs.Leading.{Lead}
 use Rattle.graph_build_laws.specs.Built.{IsBuilt}
 use Rattle.cdbg_passes.specs.Trail.{IsOnTrail}
+use Rattle.image_build.specs.ProgramUnit.{IsProgramUnit}
 
 module _ {P : Type 0} (named : P → PassName) (steps : P → UnitForm → UnitForm → Type 0) (passes : List P)
     (names : List (List ℕ)) (p : ProgramTree) where
-  -- A UNIT COMES OF A PROGRAM after passes: from one that is built of the program the names lead to it on a trail of
+  -- A UNIT COMES OF A PROGRAM after passes: from one that is that of the program the names lead to it on a trail of
   -- units, each by a step of the first pass of that name; and it keeps what that one does. Each unit on the trail is
   -- well marked and keeps what the one before does, each pass logs what a pass may, each change that one of the
   -- program's passes logs is earned, and what code motion makes is computationally optimal.
   pub record ComesOf (u : UnitForm) : Type 0 where
     pub first : UnitForm
-    pub built : IsBuilt p first
+    pub built : IsProgramUnit p first
     pub trail : Lead named (λ pass. IsOnTrail (named pass) (steps pass)) passes names first u
     pub keeps : Keeps first u
 
@@ -27,5 +28,19 @@ module _ {P : Type 0} (named : P → PassName) (steps : P → UnitForm → UnitF
   pub record ComesHomed (h : HomedForm) : Type 0 where
     pub unit : UnitForm
     pub comes : ComesOf unit
+    pub same : h.unit ≡ record unit { log = h.unit.log }
+    pub changes : HaveChanges unit h
+
+  -- The same, and the first unit has the code that the forms give.
+  pub record ComesOfForms (u : UnitForm) : Type 0 where
+    pub first : UnitForm
+    pub built : IsBuilt p first
+    pub trail : Lead named (λ pass. IsOnTrail (named pass) (steps pass)) passes names first u
+    pub keeps : Keeps first u
+
+  -- The same with homes.
+  pub record ComesHomedForms (h : HomedForm) : Type 0 where
+    pub unit : UnitForm
+    pub comes : ComesOfForms unit
     pub same : h.unit ≡ record unit { log = h.unit.log }
     pub changes : HaveChanges unit h

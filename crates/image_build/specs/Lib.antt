@@ -6,6 +6,7 @@ pub mod Tables
 pub mod Made
 pub mod ProgramImageShown
 pub mod Behind
+pub mod ProgramUnit
 pub mod Sources
 pub mod Truthful
 pub mod Meeting

@@ -15,7 +15,7 @@ ghost use Rattle.graph_core.specs.Validity.{IsValid};
 ghost use Rattle.graph_core.specs.WellMarked.{AreWellMarked};
 ghost use Rattle.graph_homes.specs.Homed.{homed_view};
 ghost use Rattle.home_assign.specs.Changes.{HaveChanges};
-ghost use Rattle.image_build.specs.Behind.{ComesHomed};
+ghost use Rattle.image_build.specs.Behind.{ComesHomedForms};
 ghost use Rattle.image_build.specs.Kept.{IsKeptOf};
 ghost use Rattle.image_build.specs.Made.{IsHomed, IsMadeOfCode};
 ghost use Rattle.image_build.specs.ProgramImageShown.{ShowsAll};
@@ -115,7 +115,7 @@ pub fn image_of_program(
     ensures made { IfOk result (λ b. IsMadeOfCode (program_view program) (homed_view b.homed) (form b.image)) }
     ensures homed { IfOk result (λ b. IsHomed mode (homed_view b.homed)) }
     ensures comes { IfOk result (λ b.
-        ComesHomed (λ p. named p) (λ p. (steps p).leads) passes.now (map letters names.now) (program_view program)
+        ComesHomedForms (λ p. named p) (λ p. (steps p).leads) passes.now (map letters names.now) (program_view program)
         (homed_view b.homed)) }
     ensures shows { names.now ≡ [] → mode ≡ Slots → IfOk result (λ b. ShowsAll (form b.image)) }
     ensures program { IfOk result (λ b. program_view b.program ≡ program_view program) }

@@ -15,7 +15,7 @@ ghost use Rattle.currency.specs.Premises.{AreSharesLogged};
 ghost use Rattle.image_form.specs.Form.{form};
 ghost use Rattle.image_form.specs.Rules.{IsImage};
 ghost use Rattle.image_truth_units.specs.Changes.{CanAllBeTold};
-ghost use Rattle.image_build.specs.Behind.{ComesOf};
+ghost use Rattle.image_build.specs.Behind.{ComesOfForms};
 ghost use Rattle.image_build.specs.Kept.{IsKeptOf};
 ghost use Rattle.image_build.specs.Made.{IsMadeOfCode};
 ghost use Rattle.image_build.specs.ProgramImageShown.{IsPlainUnit, ShowsAll};
@@ -54,7 +54,7 @@ pub fn unit_of(
     ensures marked { IfOk result (λ u. AreWellMarked (unit_view u)) }
     ensures shape { IfOk result (λ u. HasShapeOf (program_view program.now) (unit_view u)) }
     ensures comes { IfOk result (λ u.
-        ComesOf (λ p. named p) (λ p. (steps p).leads) passes.now (map letters names.now) (program_view program.now)
+        ComesOfForms (λ p. named p) (λ p. (steps p).leads) passes.now (map letters names.now) (program_view program.now)
         (unit_view u)) }
     ensures few_changes { IfOk result (λ u. length (unit_view u).log ≤ 32000000) }
     ensures built { names.now ≡ [] → IfOk result (λ u. IsBuilt (program_view program.now) (unit_view u)) }

@@ -7,7 +7,7 @@ ghost use Rattle.c_type_laws.specs.Laws.{IsWellFormed};
 ghost use Rattle.debug_records.specs.Change.{letters};
 ghost use Rattle.graph_build_laws.specs.Built.{IsBuilt};
 ghost use Rattle.graph_core.specs.Graphs.{unit_view};
-ghost use Rattle.image_build.specs.Behind.{ComesOf};
+ghost use Rattle.image_build.specs.Behind.{ComesOfForms};
 ghost use Rattle.image_build.specs.Tables.{HasShapeOf};
 ghost use Rattle.pass_law.specs.Trails.{IsReason, IsTrail, OfLast};
 
@@ -37,7 +37,7 @@ pub fn trail_of(
     ensures shape { IfOk result (λ t. OfLast (map unit_view t.units.items) (length names.now) (λ u.
         HasShapeOf (program_view program.now) u)) }
     ensures comes { IfOk result (λ t. OfLast (map unit_view t.units.items) (length names.now) (λ u.
-        ComesOf (λ p. named p) (λ p. (steps p).leads) passes.now (map letters names.now) (program_view program.now)
+        ComesOfForms (λ p. named p) (λ p. (steps p).leads) passes.now (map letters names.now) (program_view program.now)
         u)) }
     ensures few_changes { IfOk result (λ t. OfLast (map unit_view t.units.items) (length names.now) (λ u.
         length u.log ≤ 32000000)) }

@@ -22,7 +22,9 @@ use Rattle.debug_records.specs.declared.change.PassName.{PassName}
 use Rattle.c_tree.specs.Programs.{ProgramTree}
 use Rattle.graph_core.specs.Graphs.{UnitForm}
 use Rattle.graph_core.specs.Validity.{IsValid}
-use Rattle.image_build.specs.Behind.{ComesOf}
+use Rattle.image_build.specs.Behind.{ComesOfForms}
+use Rattle.image_build.proofs.FromForms.{of_forms}
+use Rattle.c_type_laws.specs.Laws.{IsWellFormed}
 use Rattle.image_build.specs.Tables.{HasShapeOf}
 use Rattle.graph_build_laws.specs.Built.{IsBuilt}
 use Rattle.session_lines.specs.ChangeLinesLines.{lines_of}
@@ -53,8 +55,8 @@ module _ {P : Type 0} {named : P → PassName} {steps : P → UnitForm → UnitF
   sweep_accepted held given summary (m, is, summed) = record { before = tt; script = tt }
 
   -- the lines of the changes of a unit of the program
-  pub lines_are : (p : ProgramTree) (names : List PassName) (unit : UnitForm) (lines : List (List ℕ)) → ComesOf named steps handed_in (map letters names) p unit → IsValid unit → HasShapeOf p unit → (names ≡ [] → IsBuilt p unit) → lines ≡ lines_of p 1 unit.log → AreLinesOf named steps handed_in p (map letters names) lines
-  lines_are p names unit lines comes valid shape built e = record { unit = unit; comes = comes; valid = valid; shape = shape; unchanged = λ none. (built (none_named names none)).forms.log; lines_are = e }
+  pub lines_are : (p : ProgramTree) → IsWellFormed p → (names : List PassName) (unit : UnitForm) (lines : List (List ℕ)) → ComesOfForms named steps handed_in (map letters names) p unit → IsValid unit → HasShapeOf p unit → (names ≡ [] → IsBuilt p unit) → lines ≡ lines_of p 1 unit.log → AreLinesOf named steps handed_in p (map letters names) lines
+  lines_are p formed names unit lines comes valid shape built e = record { unit = unit; comes = of_forms named steps handed_in (map letters names) p formed unit comes; valid = valid; shape = shape; unchanged = λ none. (built (none_named names none)).forms.log; lines_are = e }
 
   -- and of a source
   pub lines_for_source : (source : List ℕ) (p : ProgramTree) (names : List Text) (lines : List (List ℕ)) → HasProgram source → program_of_source source ≡ Ok p → AreLinesOf named steps handed_in p names lines → AreLinesFor named steps handed_in source names lines

@@ -12,7 +12,7 @@ ghost use Rattle.debug_records.specs.Change.{IsPassName, letters};
 ghost use Rattle.graph_build_laws.specs.Built.{IsBuilt};
 ghost use Rattle.graph_core.specs.Graphs.{unit_view};
 ghost use Rattle.graph_homes.specs.Homed.{homed_view};
-ghost use Rattle.image_build.specs.Behind.{ComesOf};
+ghost use Rattle.image_build.specs.Behind.{ComesOfForms};
 ghost use Rattle.image_build.specs.Made.{HasHomesOf, IsMadeOf};
 ghost use Rattle.image_build.specs.Tables.{HasShapeOf};
 ghost use Rattle.image_form.specs.Form.{form};
@@ -101,7 +101,8 @@ fn trail_by(
     ensures shape { IfOk result (λ t. OfLast (map unit_view t.units.items) (length list.now) (λ u.
         HasShapeOf (program_view program.now) u)) }
     ensures comes { IfOk result (λ t. OfLast (map unit_view t.units.items) (length list.now) (λ u.
-        ComesOf (λ p. named p) (λ p. (steps p).leads) passes.now (map letters list.now) (program_view program.now) u)) }
+        ComesOfForms (λ p. named p) (λ p. (steps p).leads) passes.now (map letters list.now) (program_view program.now)
+        u)) }
     ensures few_changes { IfOk result (λ t. OfLast (map unit_view t.units.items) (length list.now) (λ u.
         length u.log ≤ 32000000)) }
     ensures built { list.now ≡ [] → IfOk result (λ t. OfLast (map unit_view t.units.items) (length list.now) (λ u.

@@ -6,12 +6,13 @@ use Rattle.debug_records.specs.Change.{letters}
 use Rattle.graph_build_laws.specs.Built.{IsBuilt}
 use Rattle.graph_core.specs.Graphs.{unit_view}
 use Rattle.graph_homes.specs.Homed.{homed_view}
-use Rattle.image_build.specs.Behind.{ComesHomed, ComesOf}
+use Rattle.image_build.specs.Behind.{ComesHomedForms, ComesOfForms}
 use Rattle.image_build.specs.Kept.{IsKeptOf}
 use Rattle.image_build.specs.Made.{HasHomesOf, IsMadeOf}
 use Rattle.image_build.specs.Tables.{HasShapeOf}
 use Rattle.image_build.proofs.CarriedOut.{carried}
 use Rattle.image_build.proofs.Explained.{explains_all}
+use Rattle.image_build.proofs.FromForms.{homed_of_forms}
 use Rattle.image_build.proofs.KeptUnits.{kept_variables}
 use Rattle.image_build.proofs.ToldTrails.{trail_told}
 use Rattle.image_build.proofs.Truth.{runs_true}
@@ -49,7 +50,7 @@ image_of_unit-requires-clause-kept g c =
     let p = program_view c.in_ok-program.program in
     let u = unit_view c.index.result.now in
     let within : length c.args.list.now < length c.in_ok-trail.trail.units.items = let count = c.in_ok-trail.ensures.count in omega (arith, count) in
-    let comes = last_holds (λ v. ComesOf (λ p. (goal.Pass-dyn g (p.vtable, p.value)).named p.value) (λ p. ((goal.Pass-dyn g (p.vtable, p.value)).steps p.value).leads) c.args.passes.now (map letters c.args.list.now) p v) c.in_ok-trail.trail.units.items (length c.args.list.now) c.index.result.now within c.index.ensures c.in_ok-trail.ensures.comes in
+    let comes = last_holds (λ v. ComesOfForms (λ p. (goal.Pass-dyn g (p.vtable, p.value)).named p.value) (λ p. ((goal.Pass-dyn g (p.vtable, p.value)).steps p.value).leads) c.args.passes.now (map letters c.args.list.now) p v) c.in_ok-trail.trail.units.items (length c.args.list.now) c.index.result.now within c.index.ensures c.in_ok-trail.ensures.comes in
     record { first = comes.first; last = u; built = comes.built; keeps = comes.keeps; same = refl }
 
 pub image_of_unit-requires-clause-valid : goal.image_of_unit-requires-clause-valid
@@ -69,7 +70,7 @@ pub image_of_unit-requires-clause-told : goal.image_of_unit-requires-clause-told
 image_of_unit-requires-clause-told g c =
     let p = program_view c.in_ok-program.program in
     let within : length c.args.list.now < length c.in_ok-trail.trail.units.items = let count = c.in_ok-trail.ensures.count in omega (arith, count) in
-    let comes = last_holds (λ v. ComesOf (λ p. (goal.Pass-dyn g (p.vtable, p.value)).named p.value) (λ p. ((goal.Pass-dyn g (p.vtable, p.value)).steps p.value).leads) c.args.passes.now (map letters c.args.list.now) p v) c.in_ok-trail.trail.units.items (length c.args.list.now) c.index.result.now within c.index.ensures c.in_ok-trail.ensures.comes in
+    let comes = last_holds (λ v. ComesOfForms (λ p. (goal.Pass-dyn g (p.vtable, p.value)).named p.value) (λ p. ((goal.Pass-dyn g (p.vtable, p.value)).steps p.value).leads) c.args.passes.now (map letters c.args.list.now) p v) c.in_ok-trail.trail.units.items (length c.args.list.now) c.index.result.now within c.index.ensures c.in_ok-trail.ensures.comes in
     trail_told (λ p. (goal.Pass-dyn g (p.vtable, p.value)).named p.value) (λ p. ((goal.Pass-dyn g (p.vtable, p.value)).steps p.value).leads) c.args.passes.now p (map letters c.args.list.now) (unit_view c.index.result.now) c.in_ok-program.ensures.laws c.requires.spelled comes
 
 pub image_of_unit-requires-clause-few : goal.image_of_unit-requires-clause-few
@@ -108,10 +109,10 @@ returns-clause-image g c =
     let m = form c.in_ok-made.made.image in
     let is = c.in_ok-made.ensures in
     let within : length c.args.list.now < length c.in_ok-trail.trail.units.items = let count = c.in_ok-trail.ensures.count in omega (arith, count) in
-    let last = last_holds (λ v. ComesOf (λ p. (goal.Pass-dyn g (p.vtable, p.value)).named p.value) (λ p. ((goal.Pass-dyn g (p.vtable, p.value)).steps p.value).leads) c.args.passes.now (map letters c.args.list.now) p v) c.in_ok-trail.trail.units.items (length c.args.list.now) c.index.result.now within c.index.ensures c.in_ok-trail.ensures.comes in
-    let homed : ComesHomed (λ p. (goal.Pass-dyn g (p.vtable, p.value)).named p.value) (λ p. ((goal.Pass-dyn g (p.vtable, p.value)).steps p.value).leads) c.args.passes.now (map letters c.args.list.now) p h = record { unit = unit_view c.index.result.now; comes = last; same = is.unit; changes = is.changes } in
+    let last = last_holds (λ v. ComesOfForms (λ p. (goal.Pass-dyn g (p.vtable, p.value)).named p.value) (λ p. ((goal.Pass-dyn g (p.vtable, p.value)).steps p.value).leads) c.args.passes.now (map letters c.args.list.now) p v) c.in_ok-trail.trail.units.items (length c.args.list.now) c.index.result.now within c.index.ensures c.in_ok-trail.ensures.comes in
+    let homed : ComesHomedForms (λ p. (goal.Pass-dyn g (p.vtable, p.value)).named p.value) (λ p. ((goal.Pass-dyn g (p.vtable, p.value)).steps p.value).leads) c.args.passes.now (map letters c.args.list.now) p h = record { unit = unit_view c.index.result.now; comes = last; same = is.unit; changes = is.changes } in
     let kept : IsKeptOf p h.unit = kept_behind (λ p. (goal.Pass-dyn g (p.vtable, p.value)).named p.value) (λ p. ((goal.Pass-dyn g (p.vtable, p.value)).steps p.value).leads) c.args.passes.now (map letters c.args.list.now) p h homed in
-    let comes : ComesOfProgram (λ p. (goal.Pass-dyn g (p.vtable, p.value)).named p.value) (λ p. ((goal.Pass-dyn g (p.vtable, p.value)).steps p.value).leads) c.args.passes.now p (map letters c.args.list.now) c.args.mode m = record { homed = h; homes = is.homed; made = carried p h m is.made; comes = homed; explains = explains_all p h m is.made is.image is.tables (kept_variables p h.unit kept c.in_ok-program.ensures.laws) } in
+    let comes : ComesOfProgram (λ p. (goal.Pass-dyn g (p.vtable, p.value)).named p.value) (λ p. ((goal.Pass-dyn g (p.vtable, p.value)).steps p.value).leads) c.args.passes.now p (map letters c.args.list.now) c.args.mode m = record { homed = h; homes = is.homed; made = carried p h m is.made; comes = homed_of_forms (λ p. (goal.Pass-dyn g (p.vtable, p.value)).named p.value) (λ p. ((goal.Pass-dyn g (p.vtable, p.value)).steps p.value).leads) c.args.passes.now (map letters c.args.list.now) p c.in_ok-program.ensures.laws h homed; explains = explains_all p h m is.made is.image is.tables (kept_variables p h.unit kept c.in_ok-program.ensures.laws) } in
     record {
       understood = record { program = p; program_is = c.in_ok-program.ensures.program };
       image = read_back m is.image;

@@ -6,6 +6,7 @@ use Rattle.graph_homes.specs.Homed.{homed_view}
 use Rattle.image_form.specs.Form.{form}
 use Rattle.image_build.proofs.CarriedOut.{carried}
 use Rattle.image_build.proofs.Explained.{explains_all}
+use Rattle.image_build.proofs.FromForms.{homed_of_forms}
 use Rattle.image_build.proofs.KeptUnits.{kept_variables}
 use Rattle.image_build.proofs.Truth.{runs_true}
 use Rattle.session.proofs.Behind.{kept_behind}
@@ -45,7 +46,7 @@ returns-clause-comes g c =
       homed = h;
       homes = is.homed;
       made = carried p h (form c.in_ok-build.build.image) is.made;
-      comes = is.comes;
+      comes = homed_of_forms (λ p. (goal.Pass-dyn g (p.vtable, p.value)).named p.value) (λ p. ((goal.Pass-dyn g (p.vtable, p.value)).steps p.value).leads) c.args.passes.now (map letters c.args.names.now) p c.requires.laws h is.comes;
       explains = explains_all p h (form c.in_ok-build.build.image) is.made is.image is.tables (kept_variables p h.unit (kept_behind (λ p. (goal.Pass-dyn g (p.vtable, p.value)).named p.value) (λ p. ((goal.Pass-dyn g (p.vtable, p.value)).steps p.value).leads) c.args.passes.now (map letters c.args.names.now) p h is.comes) c.requires.laws);
     }
 

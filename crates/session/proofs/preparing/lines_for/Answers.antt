@@ -23,5 +23,5 @@ pub returns : goal.returns
 returns g c =
     let p = program_view c.args.program.now in
     let is = c.in_ok-unit.ensures in
-    lines_are p c.args.names.now (unit_view c.in_ok-unit.unit) (map (λ line. line.items) c.in_ok-lines.lines.items) is.comes is.valid is.shape is.built
+    lines_are p c.requires.laws c.args.names.now (unit_view c.in_ok-unit.unit) (map (λ line. line.items) c.in_ok-lines.lines.items) is.comes is.valid is.shape is.built
     (c.in_ok-lines.ensures ∙ ap (λ cs. lines_of p 1 (map logged cs)) c.changes.ensures)
